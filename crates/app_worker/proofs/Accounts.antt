@@ -1,13 +1,9 @@
 -- What is said of the loans that an application doesn't have any more.
 use Rattle.std.proofs.Common.{◌≡◌, ℕ, ◌+◌, ◌≤◌, List, [], ◌∷◌, ◌++◌, length, ap, ◌∙◌, arith}
 use Rattle.area_layout.specs.Layout.{Shape}
-use Rattle.board_face.specs.declared.views.parts.Setting.{Setting}
-use Rattle.board_face.specs.declared.views.app.LentPiece.{LentPiece}
-use Rattle.board_face.specs.declared.views.app.AppView.{AppView}
-use Rattle.flow_queues.specs.Core.{total, is_odd, LieApart}
+use Rattle.board_face.specs.declared.views.{parts.Setting.{Setting}, app.{LentPiece.{LentPiece}, AppView.{AppView}}}
+use Rattle.flow_queues.{specs.{Core.{total, is_odd, LieApart}, Totals.{lent_len}}, proofs.Tokens.{total-append, some-bytes}}
 use Rattle.app_worker.specs.State.{odd_loans}
-use Rattle.flow_queues.specs.Totals.{lent_len}
-use Rattle.flow_queues.proofs.Tokens.{total-append, some-bytes}
 
 -- ---- each had a byte
 

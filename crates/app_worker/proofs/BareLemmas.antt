@@ -1,35 +1,21 @@
 -- Turns of an application that has nothing out.
 use Rattle.std.proofs.Common.{◌≡◌, ℕ, ◌<◌, Bool, true, false, List, [], ◌∷◌, ◌++◌, Option, length, take, refl, sym, ap, subst, ◌∙◌, arith, inl, inr}
-use Rattle.zr_kinds.specs.declared.behaviour.Stopped.TheVariants as stop
-use Rattle.zr_kinds.specs.declared.place.Place.{Place}
-use Rattle.zr_kinds.specs.declared.place.Note.{Note}
-use Rattle.board_face.specs.AppCalls.{AppOnlySaw, TookNote, TookLinear, ToldEnd}
-use Rattle.board_face.specs.AppEvents.{released, told_end, app_saw}
-use Rattle.board_face.specs.Lists.{same_place}
-use Rattle.board_face.proofs.ListLemmas.{same_place-refl}
-use Rattle.board_face.specs.declared.views.app.AppLook.TheVariants.{NotQuiet, CardEnded, NoNote as no_note}
-use Rattle.board_face.specs.declared.views.app.Origin.TheVariants.{Note as of_note}
-use Rattle.board_face.specs.declared.views.app.HeldPiece.{HeldPiece}
-use Rattle.board_face.specs.declared.views.app.TakenNote.{TakenNote}
-use Rattle.board_face.specs.declared.views.app.AppView.{AppView}
-use Rattle.app_worker.specs.declared.turn.Turn.{Turn}
-use Rattle.app_worker.specs.declared.turn.Turn.TheVariants.{Did, Idle, Finished, Failed}
-use Rattle.zr_kinds.specs.declared.fault.Fault.TheVariants as fault
-use Rattle.app_worker.specs.declared.turn.Why.TheVariants.{NoNote, NotQuiet as not_quiet}
-use Rattle.flow_queues.specs.Core.{total, Each, many, own_notes, placed_of, held_len}
-use Rattle.zr_kinds.specs.CopyingReceiver.{next_missing}
-use Rattle.app_worker.specs.State.{State, Common, Working, Bare, app_steps, one_if}
-use Rattle.app_worker.specs.Stages.{Leaves, ScrubsOnce}
-use Rattle.board_face.specs.Looks.{AppLooksStay}
 use Rattle.std.specs.Prelude.{MatchBool}
-use Rattle.app_worker.specs.Turns.{Answers, Because, Turns, LooksForOne, ScrubsIfQuiet, turn_after}
-use Rattle.flow_queues.proofs.Looks.{looks-more}
-use Rattle.app_worker.proofs.Moving.{rose-before, rose-after}
+use Rattle.zr_kinds.specs.declared.behaviour.Stopped.TheVariants as stop
+use Rattle.zr_kinds.specs.{declared.place.{Place.{Place}, Note.{Note}}, CopyingReceiver.{next_missing}}
+use Rattle.board_face.specs.{AppCalls.{AppOnlySaw, TookNote, TookLinear, ToldEnd}, AppEvents.{released, told_end, app_saw}, Lists.{same_place}}
+use Rattle.board_face.{proofs.ListLemmas.{same_place-refl}, specs.declared.views.app.AppLook.TheVariants.{NotQuiet, CardEnded, NoNote as no_note}}
+use Rattle.board_face.specs.declared.views.app.{Origin.TheVariants.{Note as of_note}, HeldPiece.{HeldPiece}, TakenNote.{TakenNote}, AppView.{AppView}}
+use Rattle.board_face.specs.Looks.{AppLooksStay}
+use Rattle.app_worker.specs.declared.turn.{Turn.{Turn, TheVariants.{Did, Idle, Finished, Failed}}, Why.TheVariants.{NoNote, NotQuiet as not_quiet}}
+use Rattle.app_worker.specs.{State.{State, Common, Working, Bare, app_steps, one_if}, Stages.{Leaves, ScrubsOnce}}
+use Rattle.app_worker.{specs.Turns.{Answers, Because, Turns, LooksForOne, ScrubsIfQuiet, turn_after}, proofs.Moving.{rose-before, rose-after}}
 use Rattle.app_worker.proofs.Seeing.{goes-none, goes-saw, goes-still, common-saw}
 use Rattle.app_worker.proofs.Noting.{TookView, common-noted, steps-noted, moves-noted, ends-kept, shelves-kept, fronts-kept}
-use Rattle.app_worker.proofs.TurnLemmas.{turns-bare, as-before, idle-for, after-busy, after-none}
-use Rattle.app_worker.proofs.Through.{goes-then}
+use Rattle.app_worker.proofs.{TurnLemmas.{turns-bare, as-before, idle-for, after-busy, after-none}, Through.{goes-then}}
 use Rattle.app_worker.proofs.Closing.{IsOut, bare-saw, turns-finished, scrubbed_state, scrubbed_view, bare-scrubbed, common-scrubbed, goes-scrubbed}
+use Rattle.zr_kinds.specs.declared.fault.Fault.TheVariants as fault
+use Rattle.flow_queues.{specs.Core.{total, Each, many, own_notes, placed_of, held_len}, proofs.Looks.{looks-more}}
 
 module _ (st : State) (old : AppView) (bare : Bare st old) (is_bare : st.bare ≡ true) (common : Common st old) (reaped : st.posted.entries ≡ []) where
   -- ---- a note

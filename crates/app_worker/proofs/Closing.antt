@@ -1,43 +1,19 @@
 -- The end of an application.
 use Rattle.std.proofs.Common.{◌≡◌, ◌≢◌, ℕ, ◌+◌, ◌<◌, ◌≤◌, ◌-◌, min, Bool, true, false, List, [], ◌∷◌, ◌++◌, Option, None, length, drop, refl, sym, ap}
-use Rattle.std.proofs.Common.{subst, ◌∙◌, arith, inl, inr, ⊎_elim}
-use Rattle.std.proofs.Math.Seq.{drop-append_seam}
-use Rattle.std.proofs.lemmas.List.{nil_from_length}
-use Rattle.std.proofs.lemmas.Bool.{cases_lt, ne_eqb}
+use Rattle.std.proofs.{Common.{subst, ◌∙◌, arith, inl, inr, ⊎_elim}, Math.Seq.{drop-append_seam}, lemmas.{List.{nil_from_length}, Bool.{cases_lt, ne_eqb}}}
 use Rattle.std.specs.Prelude.{◌==◌, if◌then◌else◌}
-use Rattle.zr_kinds.specs.CopyingReceiver.{nothing_placed, next_missing, values_from}
+use Rattle.zr_kinds.specs.{CopyingReceiver.{nothing_placed, next_missing, values_from}, declared.ring.Completion.{Completion}}
 use Rattle.tcp_reorder.proofs.Holding.{next_missing-held}
-use Rattle.board_face.specs.AppEvents.{app_saw, reserve_of}
-use Rattle.board_face.specs.declared.views.app.AppLook.{AppLook}
-use Rattle.board_face.specs.declared.views.app.AppLook.TheVariants.{NotQuiet}
-use Rattle.board_face.specs.declared.views.app.LentPiece.{LentPiece}
-use Rattle.board_face.specs.declared.views.app.TakenNote.{TakenNote}
-use Rattle.board_face.specs.declared.views.app.AppView.{AppView}
-use Rattle.flow_queues.specs.declared.queues.FlowQueue.{FlowQueue}
-use Rattle.flow_queues.specs.declared.queues.Lending.{Lending}
-use Rattle.zr_kinds.specs.declared.ring.Completion.{Completion}
-use Rattle.app_worker.specs.declared.turn.Turn.TheVariants.{Did, Finished}
+use Rattle.board_face.specs.{AppEvents.{app_saw, reserve_of}, declared.views.app.{AppLook.{AppLook, TheVariants.{NotQuiet}}, LentPiece.{LentPiece}}}
+use Rattle.board_face.specs.declared.views.app.{TakenNote.{TakenNote}, AppView.{AppView}}
+use Rattle.flow_queues.specs.declared.queues.{FlowQueue.{FlowQueue}, Lending.{Lending}}
 use Rattle.flow_queues.specs.Core.{total, Each, many, own_notes, received_notes, placed_of, marks_of_waiting, lent_piece, over_read, read_out, FlowStands}
-use Rattle.flow_queues.specs.Entries.{lies_in, returned_aside}
-use Rattle.app_worker.specs.State.{State, Working, Common, Bare, app_steps, one_if}
-use Rattle.flow_queues.specs.Totals.{lent_len, loan_entries}
-use Rattle.flow_queues.specs.Flows.{IsAtRest, FlowFacts, facts_of}
-use Rattle.app_worker.specs.Moves.{Goes}
-use Rattle.app_worker.specs.Letting.{LetGo}
-use Rattle.app_worker.specs.Stages.{Through, Leaves}
+use Rattle.flow_queues.specs.{Entries.{lies_in, returned_aside}, Totals.{lent_len, loan_entries}, Flows.{IsAtRest, FlowFacts, facts_of}}
+use Rattle.flow_queues.proofs.{Placing.{values-length}, Standing.{each-map}, Releasing.{each-facts, total-facts}, Looks.{looks-same}, Tokens.{total-append}}
+use Rattle.app_worker.specs.{declared.turn.Turn.TheVariants.{Did, Finished}, State.{State, Working, Common, Bare, app_steps, one_if}, Moves.{Goes}, Letting.{LetGo}}
+use Rattle.app_worker.{specs.{Stages.{Through, Leaves}, Turns.{Rests, Turns}}, proofs.{EachBoth.{each-both}, Moving.{total-one, reserve-same, no-write}}}
+use Rattle.app_worker.proofs.{Seeing.{common-saw, goes-saw, goes-still}, Measure.{one-most}, Through.{goes-then}, TurnLemmas.{turns-bare}}
 use Rattle.zr_kinds.specs.declared.behaviour.Stopped.TheVariants as stop
-use Rattle.app_worker.specs.Turns.{Rests, Turns}
-use Rattle.flow_queues.proofs.Placing.{values-length}
-use Rattle.flow_queues.proofs.Standing.{each-map}
-use Rattle.app_worker.proofs.EachBoth.{each-both}
-use Rattle.flow_queues.proofs.Releasing.{each-facts, total-facts}
-use Rattle.app_worker.proofs.Moving.{total-one, reserve-same, no-write}
-use Rattle.flow_queues.proofs.Looks.{looks-same}
-use Rattle.app_worker.proofs.Seeing.{common-saw, goes-saw, goes-still}
-use Rattle.app_worker.proofs.Measure.{one-most}
-use Rattle.flow_queues.proofs.Tokens.{total-append}
-use Rattle.app_worker.proofs.Through.{goes-then}
-use Rattle.app_worker.proofs.TurnLemmas.{turns-bare}
 
 -- all of the flow was appended
 abbrev pub IsWhole : List TakenNote → FlowQueue → Type 0

@@ -1,17 +1,10 @@
 -- What the counts of an application say at its end.
 use Rattle.std.proofs.Common.{◌≡◌, ◌≤◌, true, List, [], ◌∷◌, length, map, ap, arith}
 use Rattle.zr_kinds.specs.declared.behaviour.Stopped.TheVariants as stop
-use Rattle.board_face.specs.Texts.{unsplit_bytes}
-use Rattle.board_face.specs.declared.views.app.Origin.{Origin}
-use Rattle.board_face.specs.declared.views.app.Origin.TheVariants.{Note as of_note, Copied as of_copy}
-use Rattle.board_face.specs.declared.views.app.LentPiece.{LentPiece}
+use Rattle.board_face.specs.{Texts.{unsplit_bytes}, declared.views.app.{Origin.{Origin, TheVariants.{Note as of_note, Copied as of_copy}}, LentPiece.{LentPiece}}}
 use Rattle.board_face.specs.declared.views.app.AppView.{AppView}
-use Rattle.flow_queues.specs.Core.{total, is_copy, one_copy}
-use Rattle.app_worker.specs.State.{State, Working, Bare, AppStands}
-use Rattle.flow_queues.specs.Totals.{lent_bytes, lent_len}
-use Rattle.flow_queues.proofs.Copying.{unsplit-is}
-use Rattle.app_worker.proofs.StreamLemmas.{by-mode}
-use Rattle.app_worker.proofs.Accounts.{few-loans}
+use Rattle.flow_queues.{specs.{Core.{total, is_copy, one_copy}, Totals.{lent_bytes, lent_len}}, proofs.Copying.{unsplit-is}}
+use Rattle.app_worker.{specs.State.{State, Working, Bare, AppStands}, proofs.{StreamLemmas.{by-mode}, Accounts.{few-loans}}}
 
 -- and of an application that came to its end as many bytes were appended
 pub loans-few : (st : State) (v : AppView) → AppStands st v → st.bare ≡ true → st.stopped ≡ stop.No → st.loans ≤ st.written

@@ -1,42 +1,21 @@
 -- All that an application has out is given up: what is left.
 use Rattle.std.proofs.Common.{zero, suc, get_or, ◌∷◌, ◌≡◌, ℕ, ◌+◌, ◌<◌, ◌≤◌, true, false, List, [], Option, None, IsSome, map, length, take, drop}
-use Rattle.std.proofs.Common.{refl, sym, ap, subst, ◌≢◌, ◌∙◌, arith, ◌++◌, append-nil, append_assoc, ◌-◌}
-use Rattle.std.specs.Prelude.{◌==◌, if◌then◌else◌}
-use Rattle.zr_kinds.specs.declared.ring.Completion.{Completion}
-use Rattle.zr_kinds.specs.CopyingReceiver.{nothing_placed, values_from}
-use Rattle.zr_io.specs.Moved.{Gained}
-use Rattle.zr_io.proofs.Moved.{Gained-weaker}
-use Rattle.board_face.specs.declared.views.app.Reading.{Reading}
-use Rattle.board_face.specs.declared.views.app.TakenNote.{TakenNote}
-use Rattle.board_face.specs.declared.views.app.LentPiece.{LentPiece}
-use Rattle.board_face.specs.declared.views.app.HeldPiece.{HeldPiece}
-use Rattle.board_face.specs.declared.views.app.AppView.{AppView}
-use Rattle.flow_queues.specs.declared.queues.Lending.{Lending}
-use Rattle.flow_queues.specs.declared.queues.FlowQueue.{FlowQueue}
+use Rattle.std.{proofs.Common.{refl, sym, ap, subst, ◌≢◌, ◌∙◌, arith, ◌++◌, append-nil, append_assoc, ◌-◌}, specs.Prelude.{◌==◌, if◌then◌else◌}}
+use Rattle.std.proofs.Math.{Nat.{mul-le-mul_left}, Seq.{drop-append_seam, drop-length}}
+use Rattle.zr_kinds.specs.{declared.{ring.Completion.{Completion}, place.Place.{Place}}, CopyingReceiver.{nothing_placed, values_from}}
+use Rattle.zr_io.{specs.Moved.{Gained}, proofs.Moved.{Gained-weaker}}
+use Rattle.board_face.specs.declared.views.app.{Reading.{Reading}, TakenNote.{TakenNote}, LentPiece.{LentPiece}, HeldPiece.{HeldPiece}, AppView.{AppView}}
+use Rattle.flow_queues.specs.declared.queues.{Lending.{Lending}, FlowQueue.{FlowQueue}}
 use Rattle.flow_queues.specs.Core.{total, many, over_due, over_read, short_bytes, lent_piece, own_notes, BeginAt, received_notes}
-use Rattle.flow_queues.specs.Core.{AreReadAt, most_at_once, is_copy, IsIn, unsplit_len}
-use Rattle.flow_queues.proofs.Indexing.{by-place}
-use Rattle.app_worker.specs.State.{State, Common, due_one, app_steps, one_if, read_of}
+use Rattle.flow_queues.{specs.Core.{AreReadAt, most_at_once, is_copy, IsIn, unsplit_len}, proofs.Indexing.{by-place}}
 use Rattle.flow_queues.specs.Shelves.{FlowEnds, kept_loans, IsShelved, AreShelved, AreOfOneLoan, ReadsFront, IsFrontShelved, AreFronts}
-use Rattle.flow_queues.specs.Totals.{capped, taken_len, lent_len, loan_entries}
-use Rattle.flow_queues.specs.Flows.{IsIndex, place_in, FlowFacts, facts_of}
-use Rattle.std.proofs.Math.Nat.{mul-le-mul_left}
-use Rattle.app_worker.proofs.Accounts.{sound-gone}
-use Rattle.app_worker.proofs.Origins.{origins-more, gone-origins}
-use Rattle.app_worker.proofs.ReadWhole.{given-all, gives-still}
-use Rattle.flow_queues.proofs.GivenBack.{gives-gone, gives-count, front-gone}
-use Rattle.app_worker.proofs.Written.{blocks-moved}
-use Rattle.zr_kinds.specs.declared.place.Place.{Place}
-use Rattle.std.proofs.Math.Seq.{drop-append_seam, drop-length}
-use Rattle.app_worker.specs.Moves.{over_leaked}
-use Rattle.app_worker.specs.Whole.{Torn}
-use Rattle.app_worker.specs.Letting.{Abandons, LetGo}
+use Rattle.flow_queues.specs.{Totals.{capped, taken_len, lent_len, loan_entries}, Flows.{IsIndex, place_in, FlowFacts, facts_of}}
+use Rattle.flow_queues.proofs.{GivenBack.{gives-gone, gives-count, front-gone}, Tokens.{total-append, in-right, in-total, is_that_loan, that-loan, is-lent-there}}
+use Rattle.flow_queues.proofs.{Looks.{looks-same}, Releasing.{total-none, each-facts, total-facts}}
+use Rattle.app_worker.{specs.State.{State, Common, due_one, app_steps, one_if, read_of}, proofs.{Accounts.{sound-gone}, Origins.{origins-more, gone-origins}}}
+use Rattle.app_worker.{proofs.{ReadWhole.{given-all, gives-still}, Written.{blocks-moved}}, specs.{Moves.{over_leaked}, Whole.{Torn}, Letting.{Abandons, LetGo}}}
+use Rattle.app_worker.proofs.{Measure.{read-one, read-parts, due-most}, Moving.{total-one, due-is}}
 use Rattle.circular_buffer.specs.Buffer.{buffer}
-use Rattle.app_worker.proofs.Measure.{read-one, read-parts, due-most}
-use Rattle.flow_queues.proofs.Tokens.{total-append, in-right, in-total, is_that_loan, that-loan, is-lent-there}
-use Rattle.app_worker.proofs.Moving.{total-one, due-is}
-use Rattle.flow_queues.proofs.Looks.{looks-same}
-use Rattle.flow_queues.proofs.Releasing.{total-none, each-facts, total-facts}
 
 -- what is said of a flow is said by its facts
 pub ends-facts : (taken : List TakenNote) (f g : FlowQueue) → facts_of g ≡ facts_of f → FlowEnds taken f → FlowEnds taken g

@@ -1,26 +1,13 @@
 -- How many bytes of a flow were appended.
 use Rattle.std.proofs.Common.{◌≡◌, ◌≢◌, ℕ, zero, suc, ◌<◌, ◌≤◌, List, [], ◌∷◌, length, get_or, refl, arith, eq-eqb, Option, subst, ◌∙◌, ⊎_elim}
-use Rattle.std.proofs.lemmas.Bool.{cases_eq}
-use Rattle.std.specs.Io.KnownBytes.{Keeps}
-use Rattle.zr_io.specs.Moved.{Gained}
-use Rattle.zr_io.proofs.Moved.{Gained-weaker}
+use Rattle.std.{proofs.lemmas.Bool.{cases_eq}, specs.{Io.KnownBytes.{Keeps}, Prelude.{◌==◌, false, true}}}
+use Rattle.zr_io.{specs.Moved.{Gained}, proofs.Moved.{Gained-weaker}}
 use Rattle.zr_kinds.specs.CopyingReceiver.{values_from}
-use Rattle.flow_queues.specs.Shelves.{IsShelved, AreShelved, FlowEnds}
-use Rattle.app_worker.specs.Streams.{HasCounted}
-use Rattle.flow_queues.proofs.Placing.{values-length}
-use Rattle.app_worker.proofs.Noting.{gained-nothing}
-use Rattle.app_worker.proofs.NoteTaken.{all-end}
-use Rattle.std.specs.Prelude.{◌==◌, false, true}
-use Rattle.board_face.proofs.ListLemmas.{not-eqb}
-use Rattle.board_face.specs.declared.views.app.AppView.{AppView}
-use Rattle.flow_queues.specs.declared.queues.FlowQueue.{FlowQueue}
-use Rattle.flow_queues.specs.Core.{many, Each, AreReadAt, placed_of}
-use Rattle.app_worker.specs.State.{State, AppStands, Bare, Working}
-use Rattle.flow_queues.specs.Totals.{bytes_of}
-use Rattle.app_worker.specs.Kept.{flow_bytes}
-use Rattle.flow_queues.proofs.Standing.{number-is, number-not}
-use Rattle.flow_queues.proofs.ReadLemmas.{are-many}
+use Rattle.flow_queues.{specs.{Shelves.{IsShelved, AreShelved, FlowEnds}, declared.queues.FlowQueue.{FlowQueue}}, proofs.Placing.{values-length}}
+use Rattle.flow_queues.{specs.{Core.{many, Each, AreReadAt, placed_of}, Totals.{bytes_of}}, proofs.{Standing.{number-is, number-not}, ReadLemmas.{are-many}}}
+use Rattle.app_worker.{specs.{Streams.{HasCounted}, State.{State, AppStands, Bare, Working}, Kept.{flow_bytes}}, proofs.{Noting.{gained-nothing}, NoteTaken.{all-end}}}
 use Rattle.app_worker.proofs.StreamLemmas.{by-mode}
+use Rattle.board_face.{proofs.ListLemmas.{not-eqb}, specs.declared.views.app.AppView.{AppView}}
 
 -- a flow that is there is counted
 some-number : (number i : ℕ) (flows : List FlowQueue) (d : FlowQueue) → i < length flows → (get_or flows i d).number ≡ number

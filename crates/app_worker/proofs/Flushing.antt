@@ -1,16 +1,9 @@
 -- What is read where a loan in the reserve was posted, over some steps.
-use Rattle.std.proofs.Common.{◌≡◌, ◌≢◌, ℕ, ◌<◌, ◌≤◌, true, false, ◌⊎◌, inl, inr, ⊎_elim, refl, sym, ap, ◌∙◌, arith}
-use Rattle.std.proofs.lemmas.Bool.{cases_Bool, cases_lt}
+use Rattle.std.proofs.{Common.{◌≡◌, ◌≢◌, ℕ, ◌<◌, ◌≤◌, true, false, ◌⊎◌, inl, inr, ⊎_elim, refl, sym, ap, ◌∙◌, arith}, lemmas.Bool.{cases_Bool, cases_lt}}
 use Rattle.std.specs.Prelude.{◌==◌}
-use Rattle.board_face.proofs.ListLemmas.{not-eqb}
-use Rattle.board_face.specs.AppCalls.{AppOnlySaw}
-use Rattle.board_face.specs.declared.views.app.LentPiece.{LentPiece}
-use Rattle.board_face.specs.declared.views.app.AppLook.{AppLook}
-use Rattle.board_face.specs.declared.views.app.AppView.{AppView}
-use Rattle.app_worker.specs.State.{State}
+use Rattle.board_face.{proofs.ListLemmas.{not-eqb}, specs.{AppCalls.{AppOnlySaw}, declared.views.app.{LentPiece.{LentPiece}, AppLook.{AppLook}, AppView.{AppView}}}}
+use Rattle.app_worker.specs.{State.{State}, Moves.{reads_of, reserve_loans}, Flushing.{Flushes, loans_so_far}}
 use Rattle.flow_queues.specs.Entries.{lies_in}
-use Rattle.app_worker.specs.Moves.{reads_of, reserve_loans}
-use Rattle.app_worker.specs.Flushing.{Flushes, loans_so_far}
 
 -- no loan came, and none was read
 pub flushes-same : (was now : State) (old new : AppView) → reads_of now new ≡ reads_of was old → loans_so_far new ≡ loans_so_far old

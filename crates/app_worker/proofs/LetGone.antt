@@ -1,13 +1,9 @@
 -- Loans are abandoned, and pieces given up, one by one.
 use Rattle.std.proofs.Common.{◌++◌, sym, append-nil, append_assoc, ◌≡◌, ℕ, ◌+◌, ◌≤◌, List, [], ◌∷◌, length, refl, ap, ◌∙◌, arith, length-append}
-use Rattle.board_face.specs.AppEvents.{abandoned}
-use Rattle.board_face.specs.declared.views.app.LentPiece.{LentPiece}
-use Rattle.board_face.specs.declared.views.app.TakenNote.{TakenNote}
-use Rattle.board_face.specs.declared.views.app.AppView.{AppView}
-use Rattle.flow_queues.specs.declared.queues.Lending.{Lending}
-use Rattle.flow_queues.specs.Core.{total, IsIn, LieApart, lent_piece}
-use Rattle.app_worker.specs.Letting.{OnlyTokens, Abandons}
+use Rattle.board_face.specs.{AppEvents.{abandoned}, declared.views.app.{LentPiece.{LentPiece}, TakenNote.{TakenNote}, AppView.{AppView}}}
+use Rattle.flow_queues.specs.{declared.queues.Lending.{Lending}, Core.{total, IsIn, LieApart, lent_piece}}
 use Rattle.flow_queues.proofs.Tokens.{total-append, is-given, is_that_loan, that-loan, is-lent-there}
+use Rattle.app_worker.specs.Letting.{OnlyTokens, Abandons}
 
 -- ---- loans
 

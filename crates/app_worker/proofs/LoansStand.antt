@@ -1,31 +1,16 @@
 -- How what is kept stands to what was seen: notes, reads and loans.
 use Rattle.std.proofs.Common.{◌≡◌, ◌≢◌, ℕ, zero, suc, ◌+◌, ◌-◌, ◌<◌, ◌≤◌, Bool, true, false, List, [], ◌∷◌, ◌++◌, Option, Some, None, length, get_or}
-use Rattle.std.proofs.Common.{refl, sym, ap, subst, ◌∙◌, arith, length-append}
-use Rattle.std.specs.Prelude.{◌==◌, IfSome, take}
-use Rattle.std.proofs.lemmas.Bool.{eq-eqb}
-use Rattle.std.proofs.lemmas.Bool.Decides.{nat_tests}
-use Rattle.zr_kinds.specs.declared.ring.Completion.{Completion}
-use Rattle.zr_kinds.specs.CopyingReceiver.{values_from}
-use Rattle.board_face.specs.declared.views.app.AppLook.TheVariants.{RefillInUse}
-use Rattle.board_face.specs.declared.views.app.TakenNote.{TakenNote}
-use Rattle.board_face.specs.declared.views.app.LentPiece.{LentPiece}
-use Rattle.board_face.specs.declared.views.app.AppView.{AppView}
-use Rattle.flow_queues.specs.declared.queues.Lending.{Lending}
-use Rattle.flow_queues.specs.declared.queues.FlowQueue.{FlowQueue}
-use Rattle.app_worker.specs.declared.stack.Stray.{Stray}
-use Rattle.flow_queues.specs.Marks.{Mark, marks_from}
-use Rattle.flow_queues.specs.Core.{total, IsIn, lent_piece, over_read, read_out, over_kept, marks_of_loan, lent_marks, placed_of}
-use Rattle.flow_queues.specs.Core.{FlowStands, many, HasTokens, Stands, OnlyReads, AreReadAt, IsReadOf}
+use Rattle.std.{proofs.{Common.{refl, sym, ap, subst, ◌∙◌, arith, length-append}, lemmas.Bool.{eq-eqb, Decides.{nat_tests}}}, specs.Prelude.{◌==◌, IfSome, take}}
 use Rattle.std.specs.Io.KnownBytes.{Keeps}
-use Rattle.zr_io.specs.Moved.{Gained}
-use Rattle.zr_io.proofs.Moved.{Gained-weaker}
-use Rattle.app_worker.specs.Whole.{Appended}
-use Rattle.app_worker.specs.Steps.{Gave, Given}
-use Rattle.flow_queues.proofs.Tokens.{is_that_loan, that-loan, is-lent-there}
-use Rattle.flow_queues.proofs.Entering.{marks-length}
-use Rattle.flow_queues.proofs.ReadLemmas.{marks-split}
-use Rattle.flow_queues.proofs.Placing.{values-split, values-length}
+use Rattle.zr_kinds.specs.{declared.ring.Completion.{Completion}, CopyingReceiver.{values_from}}
+use Rattle.board_face.specs.declared.views.app.{AppLook.TheVariants.{RefillInUse}, TakenNote.{TakenNote}, LentPiece.{LentPiece}, AppView.{AppView}}
+use Rattle.flow_queues.specs.{declared.queues.{Lending.{Lending}, FlowQueue.{FlowQueue}}, Marks.{Mark, marks_from}}
+use Rattle.flow_queues.specs.Core.{total, IsIn, lent_piece, over_read, read_out, over_kept, marks_of_loan, lent_marks, placed_of}
+use Rattle.flow_queues.{specs.Core.{FlowStands, many, HasTokens, Stands, OnlyReads, AreReadAt, IsReadOf}, proofs.Tokens.{is_that_loan, that-loan, is-lent-there}}
+use Rattle.flow_queues.proofs.{Entering.{marks-length}, ReadLemmas.{marks-split}, Placing.{values-split, values-length}}
 use Rattle.flow_queues.proofs.Standing.{each-map, each-right, parts-alike, total-changed, many-same, each-changed, stands-saw}
+use Rattle.app_worker.specs.{declared.stack.Stray.{Stray}, Whole.{Appended}, Steps.{Gave, Given}}
+use Rattle.zr_io.{specs.Moved.{Gained}, proofs.Moved.{Gained-weaker}}
 
 -- ---- a loan was read
 

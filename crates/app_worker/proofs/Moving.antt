@@ -1,29 +1,14 @@
 -- From one moment to a later one.
 use Rattle.std.proofs.Common.{◌≡◌, ℕ, ◌≤◌, ◌+◌, true, false, ⊎_elim, Option, Some, None, List, [], ◌∷◌, ◌++◌, drop, length, refl, sym}
-use Rattle.std.proofs.Common.{ap, subst, ◌∙◌, arith, append-nil, append_assoc}
-use Rattle.std.specs.Prelude.{◌==◌, if◌then◌else◌}
+use Rattle.std.{proofs.{Common.{ap, subst, ◌∙◌, arith, append-nil, append_assoc}, lemmas.Bool.{cases_Bool}}, specs.Prelude.{◌==◌, if◌then◌else◌}}
 use Rattle.area_layout.specs.Layout.{pool_buffers}
-use Rattle.board_face.specs.AppEvents.{reserve_of}
-use Rattle.board_face.specs.declared.views.parts.Setting.{Setting}
-use Rattle.board_face.specs.declared.views.app.LentPiece.{LentPiece}
-use Rattle.flow_queues.specs.declared.queues.Lending.{Lending}
+use Rattle.board_face.specs.{AppEvents.{reserve_of}, declared.views.{parts.Setting.{Setting}, app.LentPiece.{LentPiece}}, Looks.{AppLooksStay, AppRose}}
+use Rattle.board_face.specs.declared.views.app.{AppLook.{AppLook}, AppView.{AppView}, TakenNote.{TakenNote}}
+use Rattle.flow_queues.specs.{declared.queues.Lending.{Lending}, Core.{total, Each, over_due, read_out}, Totals.{loan_entries}, Entries.{lies_in}}
+use Rattle.flow_queues.proofs.{Tokens.{total-append}, Standing.{each-join}, Looks.{looks-same}}
 use Rattle.zr_kinds.specs.declared.behaviour.Stopped.TheVariants as stop
-use Rattle.zr_kinds.specs.declared.behaviour.Stopped.{Stopped}
-use Rattle.board_face.specs.Looks.{AppLooksStay, AppRose}
-use Rattle.board_face.specs.declared.views.app.AppLook.{AppLook}
-use Rattle.board_face.specs.declared.views.app.AppView.{AppView}
-use Rattle.board_face.specs.declared.views.app.TakenNote.{TakenNote}
-use Rattle.flow_queues.specs.Core.{total, Each, over_due, read_out}
-use Rattle.zr_kinds.specs.declared.place.Place.{Place}
-use Rattle.zr_kinds.specs.declared.ring.Completion.{Completion}
-use Rattle.app_worker.specs.State.{State, TellsOf, due_one}
-use Rattle.flow_queues.specs.Totals.{loan_entries}
-use Rattle.flow_queues.specs.Entries.{lies_in}
-use Rattle.app_worker.specs.Moves.{Moves, Reaps, KeepsLeaked, KeptSince, reads_of, reserve_loans, over_lent, over_gone, over_leaked}
-use Rattle.std.proofs.lemmas.Bool.{cases_Bool}
-use Rattle.flow_queues.proofs.Tokens.{total-append}
-use Rattle.flow_queues.proofs.Standing.{each-join}
-use Rattle.flow_queues.proofs.Looks.{looks-same}
+use Rattle.zr_kinds.specs.declared.{behaviour.Stopped.{Stopped}, place.Place.{Place}, ring.Completion.{Completion}}
+use Rattle.app_worker.specs.{State.{State, TellsOf, due_one}, Moves.{Moves, Reaps, KeepsLeaked, KeptSince, reads_of, reserve_loans, over_lent, over_gone, over_leaked}}
 
 pub total-one : {A : Type 0} (xs : List A) → total (λ _. 1) xs ≡ length xs
 total-one [] = refl

@@ -1,40 +1,21 @@
 -- A note is taken: by each way that it goes.
 use Rattle.std.proofs.Common.{◌≡◌, ℕ, ◌+◌, ◌<◌, ◌≤◌, true, false, List, [], ◌∷◌, ◌++◌, length, set, get_or, refl, sym, ap, subst, ◌∙◌, arith, inl}
 use Rattle.std.proofs.Common.{inr, take, length-append}
-use Rattle.zr_kinds.specs.declared.place.Place.{Place}
-use Rattle.zr_kinds.specs.declared.place.Note.{Note}
+use Rattle.zr_kinds.specs.declared.{place.{Place.{Place}, Note.{Note}}, ring.Completion.{Completion}}
 use Rattle.tcp_reorder.specs.Queue.{Queue}
-use Rattle.board_face.specs.AppCalls.{TookNote, TookLinear}
-use Rattle.board_face.specs.AppEvents.{released}
-use Rattle.board_face.specs.declared.views.app.TakenNote.{TakenNote}
-use Rattle.board_face.specs.declared.views.app.AppView.{AppView}
-use Rattle.flow_queues.specs.declared.queues.Waiting.{Waiting}
-use Rattle.flow_queues.specs.declared.queues.FlowQueue.{FlowQueue}
-use Rattle.flow_queues.specs.Core.{total, Each, LieApart, Stands, FlowStands, many, short_bytes, held_piece, own_notes, held_len, unsplit_len}
-use Rattle.flow_queues.specs.Core.{HasTokens}
-use Rattle.app_worker.specs.State.{State, read_of, loan_len, Working, Common}
-use Rattle.flow_queues.specs.Shelves.{FlowEnds}
-use Rattle.flow_queues.specs.Totals.{lent_bytes, lent_len}
-use Rattle.flow_queues.specs.Flows.{IsAtRest, RestBut, IsIndex, fresh_flow, IsChosen}
+use Rattle.board_face.specs.{AppCalls.{TookNote, TookLinear}, AppEvents.{released}, declared.views.app.{TakenNote.{TakenNote}, AppView.{AppView}}}
 use Rattle.board_face.specs.declared.views.app.HeldPiece.{HeldPiece}
-use Rattle.flow_queues.specs.Pieces.{whole_piece}
-use Rattle.app_worker.specs.Moves.{reads_of, reserve_loans}
-use Rattle.app_worker.specs.Flushing.{loans_so_far}
-use Rattle.app_worker.proofs.Flushing.{flushes-same}
-use Rattle.app_worker.specs.Whole.{TookOne, TookNone, Torn}
-use Rattle.zr_kinds.specs.declared.ring.Completion.{Completion}
-use Rattle.flow_queues.specs.declared.queues.Lending.{Lending}
-use Rattle.flow_queues.proofs.Tokens.{is-released}
-use Rattle.flow_queues.proofs.Standing.{each-map}
-use Rattle.flow_queues.proofs.Took.{Took, is-took, taken_note, kept-tokens, set-last}
-use Rattle.app_worker.proofs.Oldest.{ends-of}
-use Rattle.app_worker.proofs.ReadWhole.{read-noted}
-use Rattle.flow_queues.proofs.Indexing.{index-set}
-use Rattle.flow_queues.proofs.Resting.{rest-all, rest-set, rest-push}
+use Rattle.flow_queues.specs.declared.queues.{Waiting.{Waiting}, FlowQueue.{FlowQueue}}
+use Rattle.flow_queues.specs.Core.{total, Each, LieApart, Stands, FlowStands, many, short_bytes, held_piece, own_notes, held_len, unsplit_len, HasTokens}
+use Rattle.flow_queues.specs.{Shelves.{FlowEnds}, Totals.{lent_bytes, lent_len}, Flows.{IsAtRest, RestBut, IsIndex, fresh_flow, IsChosen}, Pieces.{whole_piece}}
+use Rattle.flow_queues.{specs.declared.queues.Lending.{Lending}, proofs.{Tokens.{is-released}, Standing.{each-map}}}
+use Rattle.flow_queues.proofs.{Took.{Took, is-took, taken_note, kept-tokens, set-last}, Indexing.{index-set}, Resting.{rest-all, rest-set, rest-push}}
 use Rattle.flow_queues.proofs.Choosing.{Chosen, is-chosen, bytes-noted, total-noted, many-noted}
+use Rattle.flow_queues.specs.Taking.{Changes, EntersPiece, EntersPayload, LosesPiece, LosesPayload}
+use Rattle.app_worker.specs.{State.{State, read_of, loan_len, Working, Common}, Moves.{reads_of, reserve_loans}, Flushing.{loans_so_far}}
+use Rattle.app_worker.{proofs.{Flushing.{flushes-same}, Oldest.{ends-of}, ReadWhole.{read-noted}}, specs.Whole.{TookOne, TookNone, Torn}}
 use Rattle.app_worker.proofs.Noting.{TookView, TookBytes, with_note, grow-noted, common-noted, steps-noted, moves-noted, ends-kept, shelves-kept}
 use Rattle.app_worker.proofs.Noting.{ends-noted, shelves-noted}
-use Rattle.flow_queues.specs.Taking.{Changes, EntersPiece, EntersPayload, LosesPiece, LosesPayload}
 
 -- what was appended of each flow has its place
 pub all-end : (st : State) (v : AppView) → Working st v → Each (FlowEnds v.taken) st.flows

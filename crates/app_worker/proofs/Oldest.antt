@@ -1,46 +1,24 @@
 -- The oldest loan is read: all that is kept then.
 use Rattle.std.proofs.Common.{◌≡◌, ◌≢◌, ℕ, ◌+◌, ◌-◌, ◌^◌, ◌<◌, ◌≤◌, min, Bool, true, false, List, [], ◌∷◌, ◌++◌, Option, Some, None, IsSome, length}
 use Rattle.std.proofs.Common.{drop, set, get_or, refl, sym, ap, subst, ◌∙◌, arith, ◌⊎◌, ⊎_elim, append-nil, length-append, inl, inr}
-use Rattle.board_face.specs.declared.views.app.LentPiece.{LentPiece}
-use Rattle.std.specs.Prelude.{slice_get, ◌==◌, if◌then◌else◌}
-use Rattle.std.specs.Io.KnownBytes.{Keeps}
-use Rattle.zr_kinds.specs.declared.ring.Completion.{Completion}
-use Rattle.std.proofs.KnownBytes.{Keeps-trans}
-use Rattle.zr_kinds.specs.CopyingReceiver.{values_from}
-use Rattle.zr_io.specs.Moved.{Gained, Rose}
-use Rattle.zr_io.proofs.Moved.{Gained-weaker, Gained-then}
-use Rattle.flow_queues.specs.Marks.{Mark, marks_from}
-use Rattle.board_face.specs.declared.views.app.TakenNote.{TakenNote}
-use Rattle.board_face.specs.declared.views.app.AppView.{AppView}
-use Rattle.flow_queues.specs.declared.queues.Lending.{Lending}
-use Rattle.flow_queues.specs.declared.queues.FlowQueue.{FlowQueue}
+use Rattle.std.{specs.{Prelude.{slice_get, ◌==◌, if◌then◌else◌}, Io.KnownBytes.{Keeps}}, proofs.{KnownBytes.{Keeps-trans}, lemmas.Bool.{cases_Bool}}}
+use Rattle.board_face.specs.{declared.views.app.{LentPiece.{LentPiece}, TakenNote.{TakenNote}, AppView.{AppView}}, AppEvents.{reserve_of}}
+use Rattle.zr_kinds.specs.{declared.{ring.Completion.{Completion}, behaviour.Stopped.{Stopped}}, CopyingReceiver.{values_from}}
+use Rattle.zr_io.{specs.Moved.{Gained, Rose}, proofs.Moved.{Gained-weaker, Gained-then}}
+use Rattle.flow_queues.specs.{Marks.{Mark, marks_from}, declared.queues.{Lending.{Lending}, FlowQueue.{FlowQueue}}}
 use Rattle.flow_queues.specs.Core.{total, Each, Stands, FlowStands, HasTokens, OnlyReads, IsReadOf, AreReadAt, placed_of, marks_of_loan}
 use Rattle.flow_queues.specs.Core.{many, short_bytes, IsIn, lent_piece, read_out, held_len, unsplit_len}
-use Rattle.zr_kinds.specs.declared.behaviour.Stopped.{Stopped}
-use Rattle.zr_kinds.specs.declared.behaviour.Stopped.TheVariants as stop
-use Rattle.app_worker.specs.State.{State, read_of, TellsOf, LiesOutside, Working, Common, due_one, loan_len, app_steps}
 use Rattle.flow_queues.specs.Totals.{lent_bytes, Quits, capped, taken_len, lent_len, bytes_if, bytes_of, loan_entries}
 use Rattle.flow_queues.specs.Shelves.{FlowEnds, kept_loans, IsShelved, AreShelved, AreOfOneLoan, ReadsFront, IsFrontShelved, AreFronts}
-use Rattle.board_face.specs.AppEvents.{reserve_of}
-use Rattle.app_worker.specs.Moves.{Moves, KeptSince, reads_of, reserve_loans}
-use Rattle.app_worker.specs.Flushing.{Flushes, loans_so_far}
-use Rattle.std.proofs.lemmas.Bool.{cases_Bool}
-use Rattle.app_worker.specs.Whole.{Torn, ReadOne, ReadQuit, ReadFailed, Appended}
 use Rattle.flow_queues.proofs.Standing.{At, split-at, each-right, each-changed, many-same, total-changed, parts-alike, is_number, number-is}
-use Rattle.app_worker.proofs.LoansStand.{IsNextRead, is-next, stands-read, tokens-read, appended, own-stands, oldest-out}
-use Rattle.app_worker.proofs.Shelved.{shelved-reaped, shelved-other}
-use Rattle.flow_queues.proofs.Tokens.{total-append, in-left}
-use Rattle.flow_queues.proofs.Entering.{marks-length}
-use Rattle.flow_queues.proofs.ReadLemmas.{all-grow, read-append, marks-split}
-use Rattle.flow_queues.proofs.Placing.{values-split, values-length}
-use Rattle.app_worker.proofs.EachBoth.{each-both}
-use Rattle.app_worker.proofs.Moving.{total-one, no-write, same-leaked}
-use Rattle.flow_queues.proofs.Looks.{looks-same}
-use Rattle.app_worker.proofs.Through.{moves-stopped}
-use Rattle.flow_queues.proofs.Indexing.{index-set}
-use Rattle.app_worker.specs.ReadWhole.{IsReadWhole, AreReadWhole}
+use Rattle.flow_queues.proofs.{Tokens.{total-append, in-left}, Entering.{marks-length}, ReadLemmas.{all-grow, read-append, marks-split}}
+use Rattle.flow_queues.proofs.{Placing.{values-split, values-length}, Looks.{looks-same}, Indexing.{index-set}, Resting.{rest-same, each-same}}
+use Rattle.zr_kinds.specs.declared.behaviour.Stopped.TheVariants as stop
+use Rattle.app_worker.specs.State.{State, read_of, TellsOf, LiesOutside, Working, Common, due_one, loan_len, app_steps}
+use Rattle.app_worker.specs.{Moves.{Moves, KeptSince, reads_of, reserve_loans}, Flushing.{Flushes, loans_so_far}, Whole.{Torn, ReadOne, ReadQuit, ReadFailed, Appended}}
+use Rattle.app_worker.proofs.{LoansStand.{IsNextRead, is-next, stands-read, tokens-read, appended, own-stands, oldest-out}, Shelved.{shelved-reaped, shelved-other}}
+use Rattle.app_worker.{proofs.{EachBoth.{each-both}, Moving.{total-one, no-write, same-leaked}, Through.{moves-stopped}}, specs.ReadWhole.{IsReadWhole, AreReadWhole}}
 use Rattle.app_worker.proofs.ReadWhole.{gives-more, read-more}
-use Rattle.flow_queues.proofs.Resting.{rest-same, each-same}
 
 pub front-of : {A : Type 0} (xs : List A) (x : A) → slice_get xs 0 ≡ Some x → xs ≡ x ∷ drop 1 xs
 front-of [] x is = absurd (cc)

@@ -2,14 +2,9 @@
 use Rattle.std.proofs.Common.{◌≡◌, ℕ, ◌+◌, ◌<◌, ◌≤◌, List, [], ◌∷◌, ◌++◌, length, refl, sym, subst, ◌∙◌, arith, ⊎_elim, inl, inr, length-append}
 use Rattle.std.proofs.lemmas.Bool.{cases_lt}
 use Rattle.zr_kinds.specs.declared.ring.Completion.{Completion}
-use Rattle.board_face.specs.declared.views.app.LentPiece.{LentPiece}
-use Rattle.board_face.specs.declared.views.app.TakenNote.{TakenNote}
-use Rattle.board_face.specs.declared.views.app.AppView.{AppView}
-use Rattle.flow_queues.specs.declared.queues.Lending.{Lending}
-use Rattle.flow_queues.specs.Core.{total, Each, IsIn, IsOfTaken, lent_piece, over_read}
-use Rattle.flow_queues.proofs.Tokens.{in-total, is_that_loan, that-loan, is-lent-there}
-use Rattle.flow_queues.proofs.Standing.{each-map, each-join}
-use Rattle.flow_queues.proofs.NotesStay.{lent-still}
+use Rattle.board_face.specs.declared.views.app.{LentPiece.{LentPiece}, TakenNote.{TakenNote}, AppView.{AppView}}
+use Rattle.flow_queues.specs.{declared.queues.Lending.{Lending}, Core.{total, Each, IsIn, IsOfTaken, lent_piece, over_read}}
+use Rattle.flow_queues.proofs.{Tokens.{in-total, is_that_loan, that-loan, is-lent-there}, Standing.{each-map, each-join}, NotesStay.{lent-still}}
 
 -- one more note was taken
 pub origins-noted : (v : AppView) (t : TakenNote) → Each (IsOfTaken v.taken) v.returned → Each (IsOfTaken (v.taken ++ t ∷ [])) v.returned

@@ -1,20 +1,11 @@
 -- What was lent is posted.
-use Rattle.std.proofs.Common.{◌≡◌, ℕ, ◌+◌, ◌-◌, ◌^◌, ◌<◌, min, Bool, [], ◌∷◌, ◌++◌, length, refl, sym, ap, ◌∙◌, inr, arith}
-use Rattle.std.specs.Prelude.{◌==◌, ◌||◌}
+use Rattle.std.{proofs.Common.{◌≡◌, ℕ, ◌+◌, ◌-◌, ◌^◌, ◌<◌, min, Bool, [], ◌∷◌, ◌++◌, length, refl, sym, ap, ◌∙◌, inr, arith}, specs.Prelude.{◌==◌, ◌||◌}}
 use Rattle.zr_kinds.specs.declared.ring.Completion.{Completion}
 use Rattle.area_layout.specs.Layout.{Shape}
 use Rattle.completion_ring.specs.Ring.{Ring, ring}
-use Rattle.board_face.specs.AppCalls.{HasPlace}
-use Rattle.board_face.specs.AppEvents.{reserve_of}
-use Rattle.board_face.specs.declared.views.app.AppView.{AppView}
-use Rattle.flow_queues.specs.declared.queues.Waiting.{Waiting}
-use Rattle.flow_queues.specs.declared.queues.Waiting.TheVariants.{InArea, Copied}
-use Rattle.flow_queues.specs.declared.queues.Lending.{Lending}
-use Rattle.flow_queues.specs.declared.queues.FlowQueue.{FlowQueue}
-use Rattle.flow_queues.specs.Core.{lent_piece, is_copy}
-use Rattle.flow_queues.specs.Lent.{LentNext, spares_of}
-use Rattle.flow_queues.proofs.Tokens.{in-contains}
-use Rattle.flow_queues.proofs.Copying.{next-out}
+use Rattle.board_face.specs.{AppCalls.{HasPlace}, AppEvents.{reserve_of}, declared.views.app.AppView.{AppView}}
+use Rattle.flow_queues.specs.{declared.queues.{Waiting.{Waiting, TheVariants.{InArea, Copied}}, Lending.{Lending}, FlowQueue.{FlowQueue}}, Core.{lent_piece, is_copy}}
+use Rattle.flow_queues.{specs.Lent.{LentNext, spares_of}, proofs.{Tokens.{in-contains}, Copying.{next-out}}}
 use Rattle.app_worker.specs.Steps.{Delivers, completion_of, with_copy}
 
 -- the loan is out

@@ -1,15 +1,10 @@
 -- When an application quits.
-use Rattle.std.proofs.Common.{◌≡◌, ◌≢◌, ℕ, ◌+◌, ◌-◌, ◌^◌, ◌<◌, ◌≤◌, min, List, [], Option, Some, None, refl, sym, ap, ◌∙◌, arith}
-use Rattle.std.specs.Prelude.{IfSome}
+use Rattle.std.{proofs.Common.{◌≡◌, ◌≢◌, ℕ, ◌+◌, ◌-◌, ◌^◌, ◌<◌, ◌≤◌, min, List, [], Option, Some, None, refl, sym, ap, ◌∙◌, arith}, specs.Prelude.{IfSome}}
 use Rattle.zr_kinds.specs.declared.behaviour.Stopped.TheVariants as stop
 use Rattle.board_face.specs.declared.views.app.AppView.{AppView}
-use Rattle.app_worker.specs.State.{State, app_steps}
-use Rattle.flow_queues.specs.Totals.{Quits, wanted_of}
-use Rattle.app_worker.specs.Whole.{ReadQuit}
-use Rattle.app_worker.specs.Letting.{LetGo}
-use Rattle.app_worker.specs.Stages.{Through, HasQuit}
-use Rattle.app_worker.proofs.Moving.{moves-then}
+use Rattle.app_worker.{specs.{State.{State, app_steps}, Whole.{ReadQuit}, Letting.{LetGo}, Stages.{Through, HasQuit}}, proofs.Moving.{moves-then}}
 use Rattle.app_worker.proofs.Through.{goes-then, bare-stopped}
+use Rattle.flow_queues.specs.Totals.{Quits, wanted_of}
 
 no-quit : stop.No ≢ stop.Quit
 no-quit e = absurd (cc)

@@ -1,27 +1,12 @@
 -- Of a loan that was read whole there are the bytes at its marks.
-use Rattle.std.proofs.Common.{◌≡◌, ℕ, zero, suc, ◌+◌, ◌-◌, ◌<◌, true, false, List, [], ◌∷◌, Some, length, take, drop, refl, sym, ap}
-use Rattle.std.proofs.Common.{subst, ◌∙◌, arith, ⊎_elim}
-use Rattle.std.proofs.lemmas.Bool.{cases_Bool}
-use Rattle.std.proofs.lemmas.List.{length-take, length-drop}
-use Rattle.std.specs.Prelude.{MatchBool}
+use Rattle.std.proofs.Common.{◌≡◌, ℕ, zero, suc, ◌+◌, ◌-◌, ◌<◌, true, false, List, [], ◌∷◌, Some, length, take, drop, refl, sym, ap, subst, ◌∙◌, arith, ⊎_elim}
+use Rattle.std.{proofs.lemmas.{Bool.{cases_Bool}, List.{length-take, length-drop}}, specs.Prelude.{MatchBool}}
 use Rattle.zr_kinds.specs.CopyingReceiver.{value_at}
-use Rattle.board_face.specs.AppCalls.{ShowsCopy}
-use Rattle.board_face.specs.Texts.{further}
-use Rattle.board_face.specs.declared.views.app.LentPiece.{LentPiece}
-use Rattle.board_face.specs.declared.views.app.Origin.{Origin}
-use Rattle.board_face.specs.declared.views.app.Origin.TheVariants.{Note as of_note, Copied as of_copy}
-use Rattle.board_face.specs.declared.views.app.Reading.{Reading}
-use Rattle.board_face.specs.declared.views.app.TakenNote.{TakenNote}
-use Rattle.board_face.specs.declared.views.app.AppView.{AppView}
-use Rattle.flow_queues.specs.declared.queues.Lending.{Lending}
-use Rattle.flow_queues.specs.Marks.{Mark, marks_from}
-use Rattle.flow_queues.specs.Core.{Each, IsOfTaken, IsReadAt, IsByteAt, AreReadAt, lent_piece}
-use Rattle.flow_queues.specs.Totals.{loan_entries}
-use Rattle.flow_queues.proofs.NotesStay.{note-there}
-use Rattle.flow_queues.proofs.Standing.{each-map}
-use Rattle.app_worker.specs.ReadWhole.{IsByteRead, IsReadWhole, HasBytes, GivesRead}
-use Rattle.app_worker.specs.State.{State, AppStands}
-use Rattle.app_worker.proofs.EachBoth.{each-both}
+use Rattle.board_face.specs.{AppCalls.{ShowsCopy}, Texts.{further}, declared.views.app.{LentPiece.{LentPiece}, Origin.{Origin}}}
+use Rattle.board_face.specs.declared.views.app.{Origin.TheVariants.{Note as of_note, Copied as of_copy}, Reading.{Reading}, TakenNote.{TakenNote}, AppView.{AppView}}
+use Rattle.flow_queues.specs.{declared.queues.Lending.{Lending}, Marks.{Mark, marks_from}, Core.{Each, IsOfTaken, IsReadAt, IsByteAt, AreReadAt, lent_piece}}
+use Rattle.flow_queues.{specs.Totals.{loan_entries}, proofs.{NotesStay.{note-there}, Standing.{each-map}}}
+use Rattle.app_worker.{specs.{ReadWhole.{IsByteRead, IsReadWhole, HasBytes, GivesRead}, State.{State, AppStands}}, proofs.EachBoth.{each-both}}
 
 value-there : (xs : List ℕ) (k : ℕ) → k < length xs → (x : ℕ) × (value_at xs k ≡ Some x)
 value-there [] k below = absurd (omega arith)

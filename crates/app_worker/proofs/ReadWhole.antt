@@ -1,23 +1,10 @@
 -- What was read of a loan, and which loans were read whole, as more is read, taken and given back.
-use Rattle.std.proofs.Common.{◌≡◌, ℕ, zero, suc, ◌+◌, ◌<◌, ◌≤◌, List, [], ◌∷◌, ◌++◌, length, take, refl, sym, ap, subst, ◌∙◌}
-use Rattle.std.proofs.Common.{arith, ⊎_elim, inl, take_all}
+use Rattle.std.proofs.Common.{◌≡◌, ℕ, zero, suc, ◌+◌, ◌<◌, ◌≤◌, List, [], ◌∷◌, ◌++◌, length, take, refl, sym, ap, subst, ◌∙◌, arith, ⊎_elim, inl, take_all}
 use Rattle.std.proofs.lemmas.Bool.{cases_lt}
-use Rattle.board_face.specs.AppCalls.{ShowsCopy}
-use Rattle.board_face.specs.Texts.{further}
-use Rattle.board_face.specs.AppEvents.{has_read, loan_origin}
-use Rattle.board_face.specs.declared.views.app.LentPiece.{LentPiece}
-use Rattle.board_face.specs.declared.views.app.Origin.{Origin}
-use Rattle.board_face.specs.declared.views.app.Reading.{Reading}
-use Rattle.board_face.specs.declared.views.app.TakenNote.{TakenNote}
-use Rattle.board_face.specs.declared.views.app.AppView.{AppView}
-use Rattle.flow_queues.specs.declared.queues.Lending.{Lending}
-use Rattle.flow_queues.specs.Core.{Each, IsIn, LieApart, OnlyReads, lent_piece}
-use Rattle.flow_queues.specs.Entries.{Gives}
-use Rattle.flow_queues.specs.Totals.{loan_entries}
-use Rattle.flow_queues.proofs.Tokens.{in-left, in-right, loan-origin}
-use Rattle.flow_queues.proofs.Standing.{each-map, each-join}
-use Rattle.flow_queues.proofs.NotesStay.{lent-still}
-use Rattle.flow_queues.proofs.GivenBack.{gives-count}
+use Rattle.board_face.specs.{AppCalls.{ShowsCopy}, Texts.{further}, AppEvents.{has_read, loan_origin}, declared.views.app.{LentPiece.{LentPiece}, Origin.{Origin}}}
+use Rattle.board_face.specs.declared.views.app.{Reading.{Reading}, TakenNote.{TakenNote}, AppView.{AppView}}
+use Rattle.flow_queues.specs.{declared.queues.Lending.{Lending}, Core.{Each, IsIn, LieApart, OnlyReads, lent_piece}, Entries.{Gives}, Totals.{loan_entries}}
+use Rattle.flow_queues.proofs.{Tokens.{in-left, in-right, loan-origin}, Standing.{each-map, each-join}, NotesStay.{lent-still}, GivenBack.{gives-count}}
 use Rattle.app_worker.specs.ReadWhole.{IsByteRead, IsReadUpTo, IsReadWhole, AreReadWhole, GivesWhole}
 
 -- ---- more is read

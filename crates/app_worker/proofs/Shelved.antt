@@ -1,24 +1,13 @@
 -- What the shelf has since the first step.
-use Rattle.std.proofs.Common.{◌≤◌, ◌≡◌, ℕ, ◌+◌, ◌<◌, List, ◌∷◌, ◌++◌, Option, Some, None, IsSome, refl, sym, ap, subst, ◌∙◌, arith}
-use Rattle.std.specs.Io.KnownBytes.{Keeps}
+use Rattle.std.{proofs.Common.{◌≤◌, ◌≡◌, ℕ, ◌+◌, ◌<◌, List, ◌∷◌, ◌++◌, Option, Some, None, IsSome, refl, sym, ap, subst, ◌∙◌, arith}, specs.Io.KnownBytes.{Keeps}}
 use Rattle.std.proofs.KnownBytes.{Keeps-trans}
-use Rattle.zr_kinds.specs.declared.ring.Completion.{Completion}
-use Rattle.zr_kinds.specs.CopyingReceiver.{values_from}
-use Rattle.zr_io.specs.Moved.{Gained}
-use Rattle.zr_io.proofs.Moved.{Gained-then, Gained-weaker}
-use Rattle.board_face.specs.declared.views.app.TakenNote.{TakenNote}
-use Rattle.board_face.specs.declared.views.app.AppView.{AppView}
-use Rattle.flow_queues.specs.declared.queues.Lending.{Lending}
-use Rattle.flow_queues.specs.declared.queues.FlowQueue.{FlowQueue}
-use Rattle.flow_queues.specs.Marks.{Mark}
-use Rattle.flow_queues.specs.Core.{AreReadAt, OnlyReads, FlowStands, Stands, Each, many, placed_of}
-use Rattle.app_worker.specs.Whole.{Appended}
-use Rattle.flow_queues.specs.Shelves.{IsShelved, AreShelved}
-use Rattle.flow_queues.proofs.Tokens.{total-append}
-use Rattle.flow_queues.proofs.ReadLemmas.{all-grow, read-append}
-use Rattle.flow_queues.proofs.Placing.{values-split}
-use Rattle.flow_queues.proofs.Standing.{is_number, each-right, each-changed, many-same, number-is}
-use Rattle.app_worker.proofs.LoansStand.{IsNextRead, is-next, own-stands}
+use Rattle.zr_kinds.specs.{declared.ring.Completion.{Completion}, CopyingReceiver.{values_from}}
+use Rattle.zr_io.{specs.Moved.{Gained}, proofs.Moved.{Gained-then, Gained-weaker}}
+use Rattle.board_face.specs.declared.views.app.{TakenNote.{TakenNote}, AppView.{AppView}}
+use Rattle.flow_queues.specs.{declared.queues.{Lending.{Lending}, FlowQueue.{FlowQueue}}, Marks.{Mark}}
+use Rattle.flow_queues.{specs.{Core.{AreReadAt, OnlyReads, FlowStands, Stands, Each, many, placed_of}, Shelves.{IsShelved, AreShelved}}, proofs.Tokens.{total-append}}
+use Rattle.flow_queues.proofs.{ReadLemmas.{all-grow, read-append}, Placing.{values-split}, Standing.{is_number, each-right, each-changed, many-same, number-is}}
+use Rattle.app_worker.{specs.Whole.{Appended}, proofs.LoansStand.{IsNextRead, is-next, own-stands}}
 
 gained-kept : (a b c : Option (List ℕ)) (P : List ℕ → Type 0) → Gained a b P → Keeps b c → Gained a c P
 gained-kept None b c P gained kept = tt

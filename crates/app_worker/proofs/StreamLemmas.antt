@@ -1,22 +1,14 @@
 -- What the shelf has stands at the first of the marks of the frames.
-use Rattle.std.proofs.Common.{◌≡◌, ℕ, ◌≤◌, Bool, true, false, List, [], Option, refl, sym, subst}
-use Rattle.std.specs.Prelude.{MatchBool}
-use Rattle.zr_io.specs.Moved.{Gained}
-use Rattle.zr_io.proofs.Moved.{Gained-weaker}
+use Rattle.std.{proofs.Common.{◌≡◌, ℕ, ◌≤◌, Bool, true, false, List, [], Option, refl, sym, subst}, specs.Prelude.{MatchBool}}
+use Rattle.zr_io.{specs.Moved.{Gained}, proofs.Moved.{Gained-weaker}}
 use Rattle.zr_kinds.specs.CopyingReceiver.{next_missing, values_from}
 use Rattle.zr_kinds.specs.declared.behaviour.Stopped.TheVariants as stop
 use Rattle.board_face.specs.declared.views.app.AppView.{AppView}
-use Rattle.flow_queues.specs.declared.queues.FlowQueue.{FlowQueue}
-use Rattle.flow_queues.specs.Marks.{marks_of, FramesStandTogether}
-use Rattle.flow_queues.specs.Core.{Each, many, own_notes, placed_of, AreReadAt}
-use Rattle.app_worker.specs.State.{State, Working, Bare, AppStands, app_steps, furthest}
-use Rattle.flow_queues.specs.Shelves.{FlowEnds, kept_loans, IsShelved, AreShelved, ReadsFront, IsFrontShelved, AreFronts}
-use Rattle.app_worker.proofs.Measure.{working-within, bare-within}
-use Rattle.flow_queues.specs.Streams.{IsFront, HasFronts, HasAll}
+use Rattle.flow_queues.specs.{declared.queues.FlowQueue.{FlowQueue}, Marks.{marks_of, FramesStandTogether}, Core.{Each, many, own_notes, placed_of, AreReadAt}}
+use Rattle.flow_queues.specs.{Shelves.{FlowEnds, kept_loans, IsShelved, AreShelved, ReadsFront, IsFrontShelved, AreFronts}, Streams.{IsFront, HasFronts, HasAll}}
 use Rattle.flow_queues.proofs.Fronts.{front-of-flow, all-of-flow, pick, no-marks}
-use Rattle.app_worker.proofs.Noting.{gained-nothing}
-use Rattle.app_worker.proofs.EachBoth.{each-both}
-use Rattle.app_worker.proofs.NoteTaken.{all-end}
+use Rattle.app_worker.{specs.State.{State, Working, Bare, AppStands, app_steps, furthest}, proofs.{Measure.{working-within, bare-within}, Noting.{gained-nothing}}}
+use Rattle.app_worker.proofs.{EachBoth.{each-both}, NoteTaken.{all-end}}
 
 pub fronts-of : (first kept : ℕ → Option (List ℕ)) (flows : List FlowQueue) (v : AppView) → Each (FlowEnds v.taken) flows → FramesStandTogether v.taken
     → AreShelved first kept flows v → HasFronts first kept v

@@ -2,24 +2,13 @@
 use Rattle.std.proofs.Common.{◌≡◌, ◌≢◌, ℕ, ◌<◌, ◌≤◌, false, List, [], Option, Some, None, length, refl, sym, ap, subst, ◌∙◌, arith}
 use Rattle.zr_kinds.specs.declared.behaviour.Stopped.{Stopped}
 use Rattle.zr_kinds.specs.declared.behaviour.Stopped.TheVariants as stop
-use Rattle.board_face.specs.AppCalls.{AppOnlySaw}
-use Rattle.board_face.specs.declared.views.app.AppLook.TheVariants.{RefillInUse}
-use Rattle.board_face.specs.declared.views.app.AppView.{AppView}
-use Rattle.app_worker.specs.declared.turning.Read.{Read}
-use Rattle.app_worker.specs.declared.turning.Read.TheVariants.{Did, NoneUnread, Quit, Failed}
-use Rattle.app_worker.specs.State.{State, Working, Common, Bare, app_steps}
-use Rattle.flow_queues.specs.Core.{Each}
-use Rattle.flow_queues.specs.Flows.{IsAtRest}
-use Rattle.flow_queues.specs.Totals.{Quits}
-use Rattle.app_worker.specs.Moves.{Moves, Goes, KeptSince, Reaps}
-use Rattle.zr_io.specs.Moved.{Rose}
-use Rattle.app_worker.specs.Whole.{GaveBack, ReadOne, ReadFailed, Reads}
-use Rattle.app_worker.specs.Letting.{LetGo}
-use Rattle.app_worker.specs.Stages.{Through, WriteStopped}
-use Rattle.app_worker.proofs.Moving.{moves-then, no-write as no-writes}
-use Rattle.app_worker.specs.Flushing.{Flushes}
-use Rattle.app_worker.proofs.Flushing.{flushes-none, flushes-then, flushes-saw}
+use Rattle.board_face.specs.{AppCalls.{AppOnlySaw}, declared.views.app.{AppLook.TheVariants.{RefillInUse}, AppView.{AppView}}}
+use Rattle.app_worker.specs.{declared.turning.Read.{Read, TheVariants.{Did, NoneUnread, Quit, Failed}}, State.{State, Working, Common, Bare, app_steps}}
+use Rattle.app_worker.specs.{Moves.{Moves, Goes, KeptSince, Reaps}, Whole.{GaveBack, ReadOne, ReadFailed, Reads}, Letting.{LetGo}, Stages.{Through, WriteStopped}}
+use Rattle.app_worker.{proofs.{Moving.{moves-then, no-write as no-writes}, Flushing.{flushes-none, flushes-then, flushes-saw}}, specs.Flushing.{Flushes}}
 use Rattle.app_worker.proofs.Seeing.{goes-none}
+use Rattle.flow_queues.specs.{Core.{Each}, Flows.{IsAtRest}, Totals.{Quits}}
+use Rattle.zr_io.specs.Moved.{Rose}
 
 -- what the shelf failed at stays so
 write-stays : (a b : Stopped) → (a ≢ stop.No → b ≡ a) → b ≢ stop.Write → a ≢ stop.Write

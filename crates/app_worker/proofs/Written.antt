@@ -1,20 +1,12 @@
 -- The entries that were written, once more were.
 use Rattle.std.proofs.Common.{◌≡◌, ℕ, zero, suc, ◌+◌, ◌<◌, ◌≤◌, true, false, List, [], ◌∷◌, ◌++◌, drop, length, refl, sym, ap, subst, ◌∙◌, arith}
-use Rattle.std.proofs.Common.{append_assoc, append-nil, length-append}
-use Rattle.std.proofs.lemmas.List.{drop-append-le}
+use Rattle.std.proofs.{Common.{append_assoc, append-nil, length-append}, lemmas.List.{drop-append-le}}
 use Rattle.zr_kinds.specs.declared.ring.Rqe.{Rqe}
 use Rattle.area_layout.specs.Layout.{Shape, judged}
-use Rattle.board_face.specs.declared.views.parts.Setting.{Setting}
-use Rattle.board_face.specs.declared.views.app.LentPiece.{LentPiece}
-use Rattle.board_face.specs.declared.views.app.WrittenEntry.{WrittenEntry}
-use Rattle.board_face.specs.declared.views.app.AppView.{AppView}
-use Rattle.app_worker.specs.declared.stack.Stray.{Stray}
-use Rattle.flow_queues.specs.Entries.{loans_of, lies_in, WasLive, AreBlocks, none, loan, raw, dropped}
-use Rattle.app_worker.specs.Steps.{raw_copies}
-use Rattle.flow_queues.specs.Core.{total}
-use Rattle.flow_queues.specs.Totals.{loan_entries}
-use Rattle.flow_queues.proofs.GivenBack.{loans-append, loans-size, entries_of}
-use Rattle.flow_queues.proofs.Tokens.{total-append}
+use Rattle.board_face.specs.declared.views.{parts.Setting.{Setting}, app.{LentPiece.{LentPiece}, WrittenEntry.{WrittenEntry}, AppView.{AppView}}}
+use Rattle.app_worker.specs.{declared.stack.Stray.{Stray}, Steps.{raw_copies}}
+use Rattle.flow_queues.specs.{Entries.{loans_of, lies_in, WasLive, AreBlocks, none, loan, raw, dropped}, Core.{total}, Totals.{loan_entries}}
+use Rattle.flow_queues.proofs.{GivenBack.{loans-append, loans-size, entries_of}, Tokens.{total-append}}
 
 -- ---- those of loans, once raw ones were written
 

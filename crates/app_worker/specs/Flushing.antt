@@ -1,8 +1,7 @@
 -- What is read where a loan in the reserve was posted.
 use Rattle.std.specs.Prelude.{◌≡◌, ℕ, ◌+◌, ◌<◌, ◌≤◌, ◌⊎◌, true, false, length}
 use Rattle.board_face.specs.declared.views.app.AppView.{AppView}
-use Rattle.app_worker.specs.State.{State}
-use Rattle.app_worker.specs.Moves.{reads_of, reserve_loans}
+use Rattle.app_worker.specs.{State.{State}, Moves.{reads_of, reserve_loans}}
 
 -- how many loans there were so far
 abbrev pub loans_so_far : AppView → ℕ

@@ -1,16 +1,10 @@
 -- All that an application has out is given up.
 use Rattle.std.specs.Prelude.{◌≡◌, ℕ, ◌+◌, ◌<◌, ◌≤◌, true, List, [], ◌++◌, map, length, take, Option, None}
 use Rattle.circular_buffer.specs.Buffer.{buffer}
-use Rattle.board_face.specs.declared.views.app.LentPiece.{LentPiece}
-use Rattle.board_face.specs.declared.views.app.AppView.{AppView}
-use Rattle.flow_queues.specs.Entries.{Gives}
-use Rattle.flow_queues.specs.Core.{total, LieApart, Each, many}
-use Rattle.flow_queues.specs.Flows.{IsIndex, facts_of}
-use Rattle.app_worker.specs.State.{State, Common, app_steps}
-use Rattle.flow_queues.specs.Shelves.{FlowEnds, AreFronts}
+use Rattle.board_face.specs.declared.views.app.{LentPiece.{LentPiece}, AppView.{AppView}}
+use Rattle.flow_queues.specs.{Entries.{Gives}, Core.{total, LieApart, Each, many}, Flows.{IsIndex, facts_of}, Shelves.{FlowEnds, AreFronts}}
 use Rattle.flow_queues.specs.Totals.{lent_bytes, lent_len, loan_entries}
-use Rattle.app_worker.specs.Moves.{Moves}
-use Rattle.app_worker.specs.Whole.{KeepsShelves}
+use Rattle.app_worker.specs.{State.{State, Common, app_steps}, Moves.{Moves}, Whole.{KeepsShelves}}
 
 -- tokens went, and nothing else changed
 pub record OnlyTokens (old new : AppView) : Type 0 where

@@ -1,17 +1,11 @@
 -- From one moment of an application to a later one.
 use Rattle.std.specs.Prelude.{◌≡◌, ◌≢◌, ℕ, ◌+◌, ◌<◌, ◌≤◌, if◌then◌else◌, false, List, ◌++◌, length, drop, Option}
-use Rattle.zr_kinds.specs.declared.place.Place.{Place}
-use Rattle.zr_kinds.specs.declared.ring.Completion.{Completion}
+use Rattle.zr_kinds.specs.declared.{place.Place.{Place}, ring.Completion.{Completion}}
 use Rattle.zr_kinds.specs.declared.behaviour.Stopped.TheVariants as stop
-use Rattle.board_face.specs.Looks.{AppLooksStay}
-use Rattle.board_face.specs.declared.views.app.AppView.{AppView}
-use Rattle.board_face.specs.AppEvents.{reserve_of}
-use Rattle.flow_queues.specs.declared.queues.Lending.{Lending}
-use Rattle.flow_queues.specs.Core.{total, Each}
-use Rattle.flow_queues.specs.Entries.{lies_in}
-use Rattle.app_worker.specs.State.{State, TellsOf, read_of, due_one, app_steps}
-use Rattle.flow_queues.specs.Totals.{loan_entries, bytes_of}
+use Rattle.board_face.specs.{Looks.{AppLooksStay}, declared.views.app.AppView.{AppView}, AppEvents.{reserve_of}}
+use Rattle.flow_queues.specs.{declared.queues.Lending.{Lending}, Core.{total, Each}, Entries.{lies_in}, Totals.{loan_entries, bytes_of}}
 use Rattle.flow_queues.specs.Shelves.{AreShelved, AreFronts}
+use Rattle.app_worker.specs.State.{State, TellsOf, read_of, due_one, app_steps}
 
 -- Until all is given up, what is kept to the end stays.
 abbrev pub KeepsLeaked : State → State → Type 0

@@ -1,13 +1,7 @@
 -- That a loan was read whole.
 use Rattle.std.specs.Prelude.{◌≡◌, ℕ, ◌+◌, ◌<◌, ◌≤◌, List, length, take}
-use Rattle.board_face.specs.AppCalls.{ShowsCopy}
-use Rattle.board_face.specs.Texts.{further}
-use Rattle.board_face.specs.declared.views.app.LentPiece.{LentPiece}
-use Rattle.board_face.specs.declared.views.app.Reading.{Reading}
-use Rattle.board_face.specs.declared.views.app.AppView.{AppView}
-use Rattle.flow_queues.specs.declared.queues.Lending.{Lending}
-use Rattle.flow_queues.specs.Core.{Each, IsIn, AreReadAt, lent_piece, marks_of_loan}
-use Rattle.flow_queues.specs.Totals.{loan_entries}
+use Rattle.board_face.specs.{AppCalls.{ShowsCopy}, Texts.{further}, declared.views.app.{LentPiece.{LentPiece}, Reading.{Reading}, AppView.{AppView}}}
+use Rattle.flow_queues.specs.{declared.queues.Lending.{Lending}, Core.{Each, IsIn, AreReadAt, lent_piece, marks_of_loan}, Totals.{loan_entries}}
 
 -- This byte of the loan was read: some reading is of the loan's bytes from one of them on, and goes beyond this one. Of a copy it
 -- shows what was copied, by which alone copies are told apart.

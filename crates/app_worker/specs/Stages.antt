@@ -2,25 +2,14 @@
 use Rattle.std.specs.Prelude.{◌≡◌, ◌≢◌, ℕ, ◌<◌, ◌≤◌, ◌⊎◌, Bool, true, false, if◌then◌else◌, List, [], length, Option, None}
 use Rattle.zr_kinds.specs.declared.behaviour.Stopped.TheVariants as stop
 use Rattle.zr_io.specs.Moved.{Rose}
-use Rattle.board_face.specs.AppCalls.{AppOnlySaw}
-use Rattle.board_face.specs.Looks.{AppRose}
-use Rattle.board_face.specs.AppEvents.{reserve_of}
-use Rattle.board_face.specs.declared.views.app.AppLook.TheVariants.{RawOnItsWay, NoSpare, RefillInUse, NotQuiet}
-use Rattle.board_face.specs.declared.views.app.AppView.{AppView}
-use Rattle.app_worker.specs.declared.stack.Delivery.{Delivery}
-use Rattle.app_worker.specs.declared.stack.Delivery.TheVariants.{Did as lent_it}
-use Rattle.app_worker.specs.declared.stages.Drained.{Drained}
+use Rattle.board_face.specs.{AppCalls.{AppOnlySaw}, Looks.{AppRose}, AppEvents.{reserve_of}}
+use Rattle.board_face.specs.declared.views.app.{AppLook.TheVariants.{RawOnItsWay, NoSpare, RefillInUse, NotQuiet}, AppView.{AppView}}
+use Rattle.app_worker.specs.declared.{stack.Delivery.{Delivery, TheVariants.{Did as lent_it}}, stages.Drained.{Drained}}
 use Rattle.app_worker.specs.declared.stages.Drained.TheVariants.{Nothing as read_nothing, Did as read_some, InUse, Quit as read_quit, Failed as read_failed}
-use Rattle.app_worker.specs.declared.stages.Lent.{Lent}
-use Rattle.app_worker.specs.declared.stages.Lent.TheVariants.{Nothing as none_in_order, Did as lent_some, Stuck, NoSpare as NoSpareHad}
+use Rattle.app_worker.specs.declared.stages.Lent.{Lent, TheVariants.{Nothing as none_in_order, Did as lent_some, Stuck, NoSpare as NoSpareHad}}
 use Rattle.app_worker.specs.declared.stages.Lent.TheVariants.{Quit as lending_quit, Failed as lending_failed}
-use Rattle.flow_queues.specs.Core.{Each}
-use Rattle.app_worker.specs.State.{State, LiesOutside, Working, Common, Bare, app_steps}
-use Rattle.flow_queues.specs.Flows.{IsAtRest}
-use Rattle.flow_queues.specs.Lent.{SawNoSpare}
-use Rattle.app_worker.specs.Moves.{Goes}
-use Rattle.app_worker.specs.Flushing.{Flushes}
-use Rattle.app_worker.specs.Whole.{Lends, HasNext, HasCopyNext, IsDue}
+use Rattle.app_worker.specs.{State.{State, LiesOutside, Working, Common, Bare, app_steps}, Moves.{Goes}, Flushing.{Flushes}, Whole.{Lends, HasNext, HasCopyNext, IsDue}}
+use Rattle.flow_queues.specs.{Core.{Each}, Flows.{IsAtRest}, Lent.{SawNoSpare}}
 
 -- it goes on, nothing is posted, and no note was taken
 pub record Through (was now : State) (old new : AppView) (kept kept_now : ℕ → Option (List ℕ)) : Type 0 where

@@ -3,27 +3,17 @@ use mir.Syntax.{w32}
 use Rattle.std.specs.Int.{cast_signed}
 use Rattle.std.specs.Prelude.{◌≡◌, ◌≢◌, ℕ, ◌+◌, ◌-◌, ◌*◌, ◌<◌, ◌≤◌, min, Bool, true, false, if◌then◌else◌, List, [], ◌++◌, length, take, drop, Option}
 use Rattle.std.specs.Prelude.{Some, None, MatchBool}
-use Rattle.zr_kinds.specs.declared.behaviour.Behaviour.{Behaviour}
-use Rattle.zr_kinds.specs.declared.behaviour.Stopped.{Stopped}
-use Rattle.zr_kinds.specs.declared.behaviour.Stopped.TheVariants.{No}
-use Rattle.zr_kinds.specs.declared.ring.Completion.{Completion}
+use Rattle.zr_kinds.specs.declared.{behaviour.{Behaviour.{Behaviour}, Stopped.{Stopped, TheVariants.{No}}}, ring.Completion.{Completion}}
 use Rattle.zr_kinds.specs.CopyingReceiver.{next_missing}
 use Rattle.area_layout.specs.Layout.{Shape, off_of, judged}
 use Rattle.circular_buffer.specs.Buffer.{Buffer}
 use Rattle.completion_ring.specs.Ring.{Ring}
-use Rattle.board_face.specs.AppEvents.{reserve_of}
-use Rattle.board_face.specs.declared.views.app.LentPiece.{LentPiece}
-use Rattle.board_face.specs.declared.views.app.AppView.{AppView}
-use Rattle.flow_queues.specs.declared.queues.Lending.{Lending}
-use Rattle.app_worker.specs.declared.stack.Stray.{Stray}
-use Rattle.flow_queues.specs.declared.queues.FlowQueue.{FlowQueue}
-use Rattle.flow_queues.specs.Entries.{Gives, lies_in, returned_aside, WasLive, AreBlocks}
-use Rattle.flow_queues.specs.Core.{total, is_odd, is_copy, IsOfTaken, Each, many, read_out, own_notes, placed_of, short_bytes, Stands, unsplit_len}
-use Rattle.flow_queues.specs.Core.{held_len}
-use Rattle.flow_queues.specs.Flows.{IsAtRest, RestBut, IsIndex}
-use Rattle.flow_queues.specs.Shelves.{FlowEnds}
+use Rattle.board_face.specs.{AppEvents.{reserve_of}, declared.views.app.{LentPiece.{LentPiece}, AppView.{AppView}}}
+use Rattle.flow_queues.specs.{declared.queues.{Lending.{Lending}, FlowQueue.{FlowQueue}}, Entries.{Gives, lies_in, returned_aside, WasLive, AreBlocks}}
+use Rattle.flow_queues.specs.Core.{total, is_odd, is_copy, IsOfTaken, Each, many, read_out, own_notes, placed_of, short_bytes, Stands, unsplit_len, held_len}
+use Rattle.flow_queues.specs.{Flows.{IsAtRest, RestBut, IsIndex}, Shelves.{FlowEnds}}
 use Rattle.flow_queues.specs.Totals.{Quits, capped, lent_len, lent_bytes, loan_entries, raw_entries, taken_len}
-use Rattle.app_worker.specs.ReadWhole.{AreReadWhole, GivesWhole}
+use Rattle.app_worker.specs.{declared.stack.Stray.{Stray}, ReadWhole.{AreReadWhole, GivesWhole}}
 
 pub record State : Type 0 where
   pub app : ℕ

@@ -1,33 +1,18 @@
 -- What each step of the core does.
-use Rattle.std.specs.Prelude.{List, zero, suc, ◌≡◌, ◌≢◌, ℕ, ◌+◌, ◌-◌, ◌^◌, ◌<◌, ◌≤◌, min, Bool, true, false, ◌||◌, ◌==◌, [], ◌∷◌, ◌++◌, Option, Some}
-use Rattle.std.specs.Prelude.{None, length}
-use Rattle.board_face.specs.declared.views.app.LentPiece.{LentPiece}
-use Rattle.board_face.specs.declared.views.app.AppView.{AppView}
-use Rattle.flow_queues.specs.declared.queues.Lending.{Lending}
-use Rattle.flow_queues.specs.declared.queues.Waiting.{Waiting}
-use Rattle.flow_queues.specs.declared.queues.Waiting.TheVariants.{InArea, Copied}
-use Rattle.zr_kinds.specs.declared.ring.Completion.{Completion}
+use Rattle.std.specs.Prelude.{List, zero, suc, ◌≡◌, ◌≢◌, ℕ, ◌+◌, ◌-◌, ◌^◌, ◌<◌, ◌≤◌, min, Bool, true, false, ◌||◌, ◌==◌, [], ◌∷◌, ◌++◌, Option, Some, None, length}
+use Rattle.std.specs.Int.{cast_signed}
+use Rattle.board_face.specs.{declared.views.app.{LentPiece.{LentPiece}, AppView.{AppView}, WrittenEntry.{WrittenEntry}}, AppCalls.{IsLive, AppOnlySaw}}
+use Rattle.board_face.specs.{AppEvents.{gave, entry_of, reserve_of}, Looks.{AppRose, AppLooksStay}, declared.views.app.AppLook.TheVariants.{RawOnItsWay, RefillInUse}}
+use Rattle.flow_queues.specs.declared.queues.{Lending.{Lending}, Waiting.{Waiting, TheVariants.{InArea, Copied}}, FlowQueue.{FlowQueue}}
+use Rattle.flow_queues.specs.{Core.{total, LieApart, lent_piece}, Lent.{IsNext, SawNoSpare, LentNext}}
+use Rattle.zr_kinds.specs.declared.ring.{Completion.{Completion}, Rqe.{Rqe}}
 use Rattle.tcp_reorder.specs.Queue.{next_of}
 use mir.Syntax.{w32}
-use Rattle.std.specs.Int.{cast_signed}
 use Rattle.area_layout.specs.Layout.{Shape, off_of, judged}
 use Rattle.circular_buffer.specs.Buffer.{Buffer, buffer}
 use Rattle.completion_ring.specs.Ring.{Ring, ring, IsFull}
-use Rattle.board_face.specs.AppCalls.{IsLive, AppOnlySaw}
-use Rattle.zr_kinds.specs.declared.ring.Rqe.{Rqe}
-use Rattle.board_face.specs.declared.views.app.WrittenEntry.{WrittenEntry}
-use Rattle.board_face.specs.AppEvents.{gave, entry_of, reserve_of}
-use Rattle.board_face.specs.Looks.{AppRose, AppLooksStay}
-use Rattle.board_face.specs.declared.views.app.AppLook.TheVariants.{RawOnItsWay, RefillInUse}
-use Rattle.flow_queues.specs.declared.queues.FlowQueue.{FlowQueue}
-use Rattle.app_worker.specs.declared.stack.Stray.{Stray}
-use Rattle.app_worker.specs.declared.reading.Pushed.{Pushed}
-use Rattle.app_worker.specs.declared.reading.Pushed.TheVariants.{Nothing, All, Part, InUse}
-use Rattle.app_worker.specs.declared.stack.Delivery.{Delivery}
-use Rattle.app_worker.specs.declared.stack.Delivery.TheVariants.{Did, NoneInOrder, Full, Unsettled, ReserveHeld}
-use Rattle.flow_queues.specs.Core.{total, LieApart, lent_piece}
-use Rattle.app_worker.specs.State.{TellsOf}
-use Rattle.flow_queues.specs.Lent.{IsNext, SawNoSpare, LentNext}
+use Rattle.app_worker.specs.declared.{stack.{Stray.{Stray}, Delivery.{Delivery}}, reading.Pushed.{Pushed, TheVariants.{Nothing, All, Part, InUse}}}
+use Rattle.app_worker.specs.{declared.stack.Delivery.TheVariants.{Did, NoneInOrder, Full, Unsettled, ReserveHeld}, State.{TellsOf}}
 
 -- ---- lending
 

@@ -1,25 +1,16 @@
 -- What a turn of an application does, and why it does nothing.
-use Rattle.std.specs.Prelude.{◌≡◌, ◌≢◌, ℕ, ◌<◌, ◌≤◌, ◌⊎◌, Bool, true, false, if◌then◌else◌, List, [], ◌∷◌, ◌++◌}
-use Rattle.std.specs.Prelude.{length, Option, None}
+use Rattle.std.specs.Prelude.{◌≡◌, ◌≢◌, ℕ, ◌<◌, ◌≤◌, ◌⊎◌, Bool, true, false, if◌then◌else◌, List, [], ◌∷◌, ◌++◌, length, Option, None}
 use Rattle.zr_kinds.specs.declared.fault.Fault.TheVariants.{Memory as memory_fault, Write as write_fault}
 use Rattle.zr_kinds.specs.declared.behaviour.Stopped.TheVariants as stop
 use Rattle.zr_io.specs.Moved.{Rose}
-use Rattle.board_face.specs.Looks.{AppRose}
-use Rattle.board_face.specs.declared.views.app.AppLook.{AppLook}
+use Rattle.board_face.specs.{Looks.{AppRose}, declared.views.app.AppLook.{AppLook}}
 use Rattle.board_face.specs.declared.views.app.AppLook.TheVariants.{NoNote as no_note, CardEnded, RefillInUse, RawOnItsWay, NoSpare, NotQuiet as not_quiet}
-use Rattle.board_face.specs.declared.views.app.TakenNote.{TakenNote}
-use Rattle.board_face.specs.declared.views.app.AppView.{AppView}
-use Rattle.app_worker.specs.declared.turn.Turn.{Turn}
-use Rattle.app_worker.specs.declared.turn.Turn.TheVariants.{Did, Idle, Finished, Failed}
-use Rattle.app_worker.specs.declared.turn.Why.{Why}
+use Rattle.board_face.specs.declared.views.app.{TakenNote.{TakenNote}, AppView.{AppView}}
+use Rattle.app_worker.specs.declared.turn.{Turn.{Turn, TheVariants.{Did, Idle, Finished, Failed}}, Why.{Why}}
 use Rattle.app_worker.specs.declared.turn.Why.TheVariants.{NoNote, RefillFull, Unsettled, ReserveHeld, NotQuiet}
-use Rattle.flow_queues.specs.Core.{Each}
-use Rattle.app_worker.specs.State.{State, Working, Common, Bare, AppStands, app_steps}
-use Rattle.flow_queues.specs.Flows.{IsAtRest}
-use Rattle.app_worker.specs.Moves.{Moves, Goes}
-use Rattle.app_worker.specs.Flushing.{Flushes}
-use Rattle.app_worker.specs.Whole.{HasNext, HasCopyNext, IsDue}
+use Rattle.app_worker.specs.{State.{State, Working, Common, Bare, AppStands, app_steps}, Moves.{Moves, Goes}, Flushing.{Flushes}, Whole.{HasNext, HasCopyNext, IsDue}}
 use Rattle.app_worker.specs.Stages.{NoneInReserve, LeavesInUse, DoesAll}
+use Rattle.flow_queues.specs.{Core.{Each}, Flows.{IsAtRest}}
 
 -- ---- a turn that did nothing
 

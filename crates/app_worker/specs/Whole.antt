@@ -1,37 +1,20 @@
 -- What the steps of a turn do to all that an application keeps.
-use Rattle.std.specs.Prelude.{◌≡◌, ◌≢◌, ℕ, ◌+◌, ◌<◌, ◌≤◌, Bool, true, false, List, [], ◌∷◌, ◌++◌, length}
-use Rattle.std.specs.Prelude.{◌⊎◌, slice_get, Option, None, Some}
-use Rattle.std.specs.Io.KnownBytes.{Keeps}
+use Rattle.std.specs.{Prelude.{◌≡◌, ◌≢◌, ℕ, ◌+◌, ◌<◌, ◌≤◌, Bool, true, false, List, [], ◌∷◌, ◌++◌, length, ◌⊎◌, slice_get, Option, None, Some}, Io.KnownBytes.{Keeps}}
 use Rattle.zr_kinds.specs.declared.behaviour.Stopped.TheVariants as stop
 use Rattle.zr_kinds.specs.CopyingReceiver.{values_from}
 use Rattle.zr_io.specs.Moved.{Gained, Rose}
 use Rattle.completion_ring.specs.Ring.{IsFull}
 use Rattle.tcp_reorder.specs.Queue.{next_of}
-use Rattle.board_face.specs.Looks.{AppRose}
-use Rattle.board_face.specs.AppCalls.{AppOnlySaw, ToldEnd}
-use Rattle.board_face.specs.declared.views.app.AppLook.TheVariants.{NoNote as no_note, RawOnItsWay, RefillInUse}
-use Rattle.board_face.specs.declared.views.app.TakenNote.{TakenNote}
-use Rattle.board_face.specs.declared.views.app.AppView.{AppView}
-use Rattle.flow_queues.specs.declared.queues.FlowQueue.{FlowQueue}
-use Rattle.app_worker.specs.declared.stack.Delivery.{Delivery}
-use Rattle.app_worker.specs.declared.stack.Delivery.TheVariants.{Did as lent_it, NoneInOrder, Full, Unsettled, ReserveHeld}
-use Rattle.app_worker.specs.declared.turning.Read.{Read}
-use Rattle.app_worker.specs.declared.turning.Read.TheVariants.{Did as read_it, NoneUnread, Quit, Failed}
-use Rattle.app_worker.specs.declared.reading.Pushed.{Pushed}
+use Rattle.board_face.specs.{Looks.{AppRose}, AppCalls.{AppOnlySaw, ToldEnd}, declared.views.app.AppLook.TheVariants.{NoNote as no_note, RawOnItsWay, RefillInUse}}
+use Rattle.board_face.specs.declared.views.app.{TakenNote.{TakenNote}, AppView.{AppView}}
+use Rattle.flow_queues.specs.{declared.queues.FlowQueue.{FlowQueue}, Entries.{Gives as GivesAll}, Core.{total, HasTokens, Each, many, AreReadAt, placed_of}}
+use Rattle.flow_queues.specs.{Flows.{IsIndex, IsAtRest}, Shelves.{FlowEnds, AreShelved, AreFronts}, Totals.{lent_bytes, lent_len}, Lent.{IsNext, SawNoSpare}}
+use Rattle.app_worker.specs.declared.{stack.Delivery.{Delivery, TheVariants.{Did as lent_it, NoneInOrder, Full, Unsettled, ReserveHeld}}, turning.Read.{Read}}
+use Rattle.app_worker.specs.declared.{turning.Read.TheVariants.{Did as read_it, NoneUnread, Quit, Failed}, reading.Pushed.{Pushed}}
 use Rattle.app_worker.specs.declared.reading.Pushed.TheVariants.{Nothing as pushed_nothing, All as pushed_all, Part as pushed_part, InUse as pushed_none}
-use Rattle.app_worker.specs.declared.straying.GivenBack.{GivenBack}
-use Rattle.app_worker.specs.declared.straying.GivenBack.TheVariants.{Nothing as nothing_given, Did as given, Part as given_in_part, InUse as given_none}
-use Rattle.app_worker.specs.declared.turning.Taken.{Taken}
-use Rattle.app_worker.specs.declared.turning.Taken.TheVariants.{Did as took, NoNote, Ended, Memory}
-use Rattle.flow_queues.specs.Entries.{Gives as GivesAll}
-use Rattle.flow_queues.specs.Core.{total, HasTokens, Each, many, AreReadAt, placed_of}
-use Rattle.flow_queues.specs.Flows.{IsIndex, IsAtRest}
-use Rattle.app_worker.specs.State.{State, read_of, Working, Common, app_steps}
-use Rattle.flow_queues.specs.Shelves.{FlowEnds, AreShelved, AreFronts}
-use Rattle.flow_queues.specs.Totals.{lent_bytes, lent_len}
-use Rattle.flow_queues.specs.Lent.{IsNext, SawNoSpare}
-use Rattle.app_worker.specs.Moves.{Moves, Goes}
-use Rattle.app_worker.specs.Flushing.{Flushes}
+use Rattle.app_worker.specs.declared.straying.GivenBack.{GivenBack, TheVariants.{Nothing as nothing_given, Did as given, Part as given_in_part, InUse as given_none}}
+use Rattle.app_worker.specs.{declared.turning.Taken.{Taken, TheVariants.{Did as took, NoNote, Ended, Memory}}, State.{State, read_of, Working, Common, app_steps}}
+use Rattle.app_worker.specs.{Moves.{Moves, Goes}, Flushing.{Flushes}}
 
 -- what was kept of a flow went on by the bytes that were read at its next marks
 pub record Appended (flow : FlowQueue) (taken : List TakenNote) (new : AppView) (len : ℕ) (kept kept_now : ℕ → Option (List ℕ)) : Type 0 where

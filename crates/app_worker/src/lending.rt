@@ -1,18 +1,11 @@
 //! What is next in a stream is lent, and posted.
-ghost use Rattle.std.specs.Prelude.{◌≡◌, ◌≢◌, false, ℕ, ◌+◌, ◌<◌};
-ghost use Rattle.std.specs.Prelude.{◌≤◌, [], ◌∷◌, ◌++◌, length, ◌||◌, ◌==◌};
+ghost use Rattle.std.specs.Prelude.{◌≡◌, ◌≢◌, false, ℕ, ◌+◌, ◌<◌, ◌≤◌, [], ◌∷◌, ◌++◌, length, ◌||◌, ◌==◌, ◌-◌};
 ghost use Rattle.completion_ring.specs.Ring.{ring};
 ghost use Rattle.tcp_reorder.specs.Values.{AreSized};
-ghost use Rattle.board_face.specs.AppCalls.{IsHere, HasPlace};
-ghost use Rattle.board_face.specs.AppEvents.{app_gist, reserve_of};
-ghost use Rattle.board_face.specs.declared.views.app.AppLook.TheVariants.{NoSpare};
-ghost use Rattle.board_face.specs.declared.views.app.HeldPiece.{HeldPiece};
-ghost use Rattle.flow_queues.specs.Core.{LieApart, total, over_kept, marks_of_waiting, short_bytes, IsOfNote, Each};
-ghost use Rattle.flow_queues.specs.Core.{unsplit_len};
+ghost use Rattle.board_face.specs.{AppCalls.{IsHere, HasPlace}, AppEvents.{app_gist, reserve_of}, declared.views.app.{AppLook.TheVariants.{NoSpare, RawOnItsWay}, HeldPiece.{HeldPiece}}};
+ghost use Rattle.flow_queues.specs.Core.{LieApart, total, over_kept, marks_of_waiting, short_bytes, IsOfNote, Each, unsplit_len};
 ghost use Rattle.app_worker.specs.Steps.{Delivered, completion_of};
-ghost use Rattle.std.specs.Prelude.{◌-◌};
 ghost use Rattle.zr_kinds.specs.Limits.{longest_payload};
-ghost use Rattle.board_face.specs.declared.views.app.AppLook.TheVariants.{RawOnItsWay};
 
 use crate::stack::Delivery;
 use board_face::AppFace;

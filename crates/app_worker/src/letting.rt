@@ -1,13 +1,9 @@
 //! All that an application has out is given up.
 ghost use Rattle.std.specs.Prelude.{◌≡◌, false, true, ℕ, ◌<◌, ◌≤◌, [], None};
 ghost use Rattle.circular_buffer.specs.Buffer.{buffer};
-ghost use Rattle.board_face.specs.declared.views.app.LentPiece.{LentPiece};
-ghost use Rattle.board_face.specs.AppCalls.{IsHere};
+ghost use Rattle.board_face.specs.{declared.views.app.LentPiece.{LentPiece}, AppCalls.{IsHere}};
 ghost use Rattle.flow_queues.specs.Core.{LieApart, total, lent_piece, over_due, over_read};
-ghost use Rattle.app_worker.specs.State.{Common};
-ghost use Rattle.app_worker.specs.StateOf.{state_of};
-ghost use Rattle.app_worker.specs.Whole.{Torn};
-ghost use Rattle.app_worker.specs.Letting.{Abandons, LetGo};
+ghost use Rattle.app_worker.specs.{State.{Common}, StateOf.{state_of}, Whole.{Torn}, Letting.{Abandons, LetGo}};
 
 use crate::stack::Stack;
 use board_face::AppFace;

@@ -1,15 +1,10 @@
 //! A loan is read, and what was read is appended; and a loan is given back.
-ghost use Rattle.std.specs.Prelude.{◌≡◌, false, ◌≢◌, ℕ, ◌+◌, ◌-◌, ◌^◌, ◌<◌};
-ghost use Rattle.std.specs.Prelude.{◌≤◌, List, length, IfSome, OnOk, OnErr, MatchBool, Some, ◌⊎◌};
+ghost use Rattle.std.specs.{Prelude.{◌≡◌, false, ◌≢◌, ℕ, ◌+◌, ◌-◌, ◌^◌, ◌<◌, ◌≤◌, List, length, IfSome, OnOk, OnErr, MatchBool, Some, ◌⊎◌}, Io.KnownBytes.{Keeps}};
 ghost use Rattle.area_layout.specs.Layout.{judged};
-ghost use Rattle.std.specs.Io.KnownBytes.{Keeps};
 ghost use Rattle.zr_io.specs.Moved.{Gained, Rose};
-ghost use Rattle.board_face.specs.AppCalls.{IsHere, IsLive, AppOnlySaw};
+ghost use Rattle.board_face.specs.{AppCalls.{IsHere, IsLive, AppOnlySaw}, AppEvents.{app_gist, pushed_raw}, declared.views.app.AppLook.TheVariants.{RefillInUse}};
 ghost use Rattle.flow_queues.specs.Core.{LieApart, IsIn, lent_piece, OnlyReads, IsReadOf};
-ghost use Rattle.board_face.specs.AppEvents.{app_gist, pushed_raw};
-ghost use Rattle.board_face.specs.declared.views.app.AppLook.TheVariants.{RefillInUse};
-ghost use Rattle.app_worker.specs.ReadWhole.{IsReadUpTo};
-ghost use Rattle.app_worker.specs.Steps.{Given, KeptDue, NotKept, Pushes};
+ghost use Rattle.app_worker.specs.{ReadWhole.{IsReadUpTo}, Steps.{Given, KeptDue, NotKept, Pushes}};
 
 use crate::stack::Stray;
 use board_face::AppFace;

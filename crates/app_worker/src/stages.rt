@@ -1,12 +1,8 @@
 //! The stages of a turn: lending what is in order, and reading what is more than it keeps unread.
 ghost use Rattle.std.specs.Prelude.{◌≡◌, ◌≢◌, false, true, ◌+◌, ◌≤◌, [], ◌++◌, None, length};
 ghost use Rattle.completion_ring.specs.Ring.{ring};
-ghost use Rattle.board_face.specs.AppCalls.{IsHere};
-ghost use Rattle.board_face.specs.AppEvents.{app_gist};
-ghost use Rattle.board_face.specs.declared.views.app.AppLook.TheVariants.{RawOnItsWay, NoSpare, NotQuiet};
-ghost use Rattle.app_worker.specs.State.{Working, Common};
-ghost use Rattle.app_worker.specs.StateOf.{state_of};
-ghost use Rattle.app_worker.specs.Stages.{kept_of, ReadsTo, LentSome, LendsAll, ScrubsOnce, Leaves};
+ghost use Rattle.board_face.specs.{AppCalls.{IsHere}, AppEvents.{app_gist}, declared.views.app.AppLook.TheVariants.{RawOnItsWay, NoSpare, NotQuiet}};
+ghost use Rattle.app_worker.specs.{State.{Working, Common}, StateOf.{state_of}, Stages.{kept_of, ReadsTo, LentSome, LendsAll, ScrubsOnce, Leaves}};
 
 use crate::letting::let_go;
 use crate::stack::{Delivery, Stack};

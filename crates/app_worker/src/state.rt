@@ -1,23 +1,9 @@
 //! What an application keeps between its turns, and its turn.
 ghost use Rattle.std.specs.Prelude.{◌≡◌, ◌≢◌, false, true, ℕ, ◌+◌, ◌<◌, ◌≤◌, List, length, map, Option, IfOk};
-ghost use Rattle.board_face.specs.AppCalls.{IsHere};
-ghost use Rattle.board_face.specs.AppEvents.{app_gist};
-ghost use Rattle.board_face.specs.Texts.{unsplit_bytes};
-ghost use Rattle.board_face.specs.declared.views.app.AppView.{AppView};
-ghost use Rattle.app_worker.specs.declared.turn.Why.{Why};
-ghost use Rattle.app_worker.specs.declared.turn.Turn.TheVariants.{Idle, Failed, Finished};
-ghost use Rattle.zr_kinds.specs.declared.fault.Fault.TheVariants.{Write};
-ghost use Rattle.zr_kinds.specs.declared.behaviour.Stopped.TheVariants.{No};
-ghost use Rattle.flow_queues.specs.Marks.{FramesStandTogether};
-ghost use Rattle.flow_queues.specs.Shelves.{AreShelved, AreFronts};
-ghost use Rattle.flow_queues.specs.Streams.{HasFronts, HasAll};
-ghost use Rattle.app_worker.specs.Streams.{HasCounted};
-ghost use Rattle.app_worker.specs.State.{AppStands, app_steps, furthest};
-ghost use Rattle.flow_queues.specs.Totals.{bytes_of, lent_bytes};
-ghost use Rattle.app_worker.specs.Kept.{new_state, IsFresh, flow_bytes};
-ghost use Rattle.app_worker.specs.Moves.{reads_of, reserve_loans};
-ghost use Rattle.app_worker.specs.ReadWhole.{GivesRead};
-ghost use Rattle.app_worker.specs.Turns.{ScrubsIfQuiet, Turns, look_of};
+ghost use Rattle.board_face.specs.{AppCalls.{IsHere}, AppEvents.{app_gist}, Texts.{unsplit_bytes}, declared.views.app.AppView.{AppView}};
+ghost use Rattle.app_worker.specs.{declared.turn.{Why.{Why}, Turn.TheVariants.{Idle, Failed, Finished}}, Streams.{HasCounted}, State.{AppStands, app_steps, furthest}, Kept.{new_state, IsFresh, flow_bytes}, Moves.{reads_of, reserve_loans}, ReadWhole.{GivesRead}, Turns.{ScrubsIfQuiet, Turns, look_of}};
+ghost use Rattle.zr_kinds.specs.declared.{fault.Fault.TheVariants.{Write}, behaviour.Stopped.TheVariants.{No}};
+ghost use Rattle.flow_queues.specs.{Marks.{FramesStandTogether}, Shelves.{AreShelved, AreFronts}, Streams.{HasFronts, HasAll}, Totals.{bytes_of, lent_bytes}};
 
 use crate::reading::CHUNK;
 use crate::stack::{Stack, Stray};
@@ -40,9 +26,7 @@ pub struct AppState {
 }
 
 impl Model for AppState {
-    ghost use Rattle.app_worker.specs.State.{State};
-    ghost use Rattle.app_worker.specs.StateOf.{state_of};
-    ghost use Rattle.app_worker.specs.Kept.{AreFound};
+    ghost use Rattle.app_worker.specs.{State.{State}, StateOf.{state_of}, Kept.{AreFound}};
 
     ghost Value = { State };
 

@@ -1,12 +1,7 @@
 //! Loans that are due are given back, each followed by its stray entries.
 ghost use Rattle.std.specs.Prelude.{◌≡◌, ℕ, List, Option};
-ghost use Rattle.board_face.specs.AppCalls.{IsHere};
-ghost use Rattle.board_face.specs.AppEvents.{app_gist};
-ghost use Rattle.board_face.specs.declared.views.app.AppLook.TheVariants.{RefillInUse};
-ghost use Rattle.app_worker.specs.State.{Working, Common};
-ghost use Rattle.app_worker.specs.StateOf.{state_of};
-ghost use Rattle.app_worker.specs.Moves.{Goes};
-ghost use Rattle.app_worker.specs.Whole.{GivesBack, PushesLeft};
+ghost use Rattle.board_face.specs.{AppCalls.{IsHere}, AppEvents.{app_gist}, declared.views.app.AppLook.TheVariants.{RefillInUse}};
+ghost use Rattle.app_worker.specs.{State.{Working, Common}, StateOf.{state_of}, Moves.{Goes}, Whole.{GivesBack, PushesLeft}};
 
 use crate::reading::{Pushed, push_strays};
 use crate::stack::Stack;

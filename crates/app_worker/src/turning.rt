@@ -1,18 +1,8 @@
 //! The steps of a turn, over all that an application keeps.
-ghost use Rattle.std.specs.Prelude.{◌≡◌, ◌≢◌, false, true, ℕ, ◌-◌, ◌<◌, ◌≤◌, [], List, Option, None, length};
-ghost use Rattle.std.specs.Prelude.{◌^◌, IfSome, ◌⊎◌};
-ghost use Rattle.board_face.specs.AppCalls.{IsHere, TookLinear};
-ghost use Rattle.board_face.specs.Texts.{IsLinearNote};
-ghost use Rattle.board_face.specs.declared.views.app.AppView.{AppView};
-ghost use Rattle.board_face.specs.AppEvents.{app_gist};
-ghost use Rattle.board_face.specs.declared.views.app.AppLook.TheVariants.{RawOnItsWay, NoNote as no_note, NoSpare, RefillInUse};
-ghost use Rattle.flow_queues.specs.Core.{Each};
-ghost use Rattle.app_worker.specs.State.{Working, Common};
-ghost use Rattle.flow_queues.specs.Totals.{wanted_of};
-ghost use Rattle.flow_queues.specs.Flows.{IsAtRest, IsIndex};
-ghost use Rattle.app_worker.specs.StateOf.{state_of};
-ghost use Rattle.app_worker.specs.Moves.{Goes};
-ghost use Rattle.app_worker.specs.Whole.{Lends, Gives, Takes, Reads};
+ghost use Rattle.std.specs.Prelude.{◌≡◌, ◌≢◌, false, true, ℕ, ◌-◌, ◌<◌, ◌≤◌, [], List, Option, None, length, ◌^◌, IfSome, ◌⊎◌};
+ghost use Rattle.board_face.specs.{AppCalls.{IsHere, TookLinear}, Texts.{IsLinearNote}, declared.views.app.{AppView.{AppView}, AppLook.TheVariants.{RawOnItsWay, NoNote as no_note, NoSpare, RefillInUse}}, AppEvents.{app_gist}};
+ghost use Rattle.flow_queues.specs.{Core.{Each}, Totals.{wanted_of}, Flows.{IsAtRest, IsIndex}};
+ghost use Rattle.app_worker.specs.{State.{Working, Common}, StateOf.{state_of}, Moves.{Goes}, Whole.{Lends, Gives, Takes, Reads}};
 
 use crate::lending::deliver;
 use crate::reading::{give_due, keep_due, read_loan};

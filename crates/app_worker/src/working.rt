@@ -1,16 +1,9 @@
 //! One turn of an application.
 ghost use Rattle.std.specs.Prelude.{◌≡◌, ◌≢◌, false, true, ℕ, ◌≤◌, [], List, Option, Some, None, MatchOption, length, if◌then◌else◌};
-ghost use Rattle.board_face.specs.AppCalls.{IsHere, ToldEnd};
-ghost use Rattle.board_face.specs.AppEvents.{app_gist};
-ghost use Rattle.app_worker.specs.declared.turn.Why.{Why};
-ghost use Rattle.app_worker.specs.declared.turn.Turn.{Turn};
-ghost use Rattle.app_worker.specs.declared.turn.Turn.TheVariants.{Did, Idle, Failed, Finished};
+ghost use Rattle.board_face.specs.{AppCalls.{IsHere, ToldEnd}, AppEvents.{app_gist}};
+ghost use Rattle.app_worker.specs.{declared.turn.{Why.{Why}, Turn.{Turn, TheVariants.{Did, Idle, Failed, Finished}}}, State.{Working, Common, Bare, AppStands}, StateOf.{state_of}, Turns.{Passes, ScrubsIfQuiet, Turns, look_of, turn_after}};
 ghost use Rattle.zr_kinds.specs.declared.fault.Fault.TheVariants.{Write};
-ghost use Rattle.flow_queues.specs.Core.{Each};
-ghost use Rattle.app_worker.specs.State.{Working, Common, Bare, AppStands};
-ghost use Rattle.flow_queues.specs.Flows.{IsAtRest};
-ghost use Rattle.app_worker.specs.StateOf.{state_of};
-ghost use Rattle.app_worker.specs.Turns.{Passes, ScrubsIfQuiet, Turns, look_of, turn_after};
+ghost use Rattle.flow_queues.specs.{Core.{Each}, Flows.{IsAtRest}};
 
 use crate::letting::let_go;
 use crate::stack::Stack;

@@ -1,13 +1,8 @@
 -- Lists of areas: which one a buffer lies in, how many bytes lie before it, and the least size.
 use Rattle.std.proofs.Common.{◌≡◌, ℕ, zero, suc, ◌+◌, ◌-◌, ◌*◌, ◌<◌, ◌≤◌, ◌==◌, nat_lt, min, Bool, if◌then◌else◌}
-use Rattle.std.proofs.Common.{List, [], ◌∷◌, length, take, drop, get_or, refl, sym, ap, subst, ◌∙◌, inl, inr, arith}
-use Rattle.std.proofs.Math.Nat.{min-eq_left, min-eq_right}
-use Rattle.std.proofs.Math.Seq.{drop-cons}
-use Rattle.std.proofs.lemmas.Bool.{cases_lt, cases_eq, lt-ltb, le-ltb, eq-eqb, ne_eqb}
-use Rattle.std.proofs.lemmas.List.{drop_all}
-use Rattle.std.proofs.lemmas.List.Sums.{sum_by-cons}
-use Rattle.area_layout.specs.declared.layout.Area.{Area}
-use Rattle.area_layout.specs.Layout.{IsBufferSize, no_area, buffers_in, bytes_in, areas_before, least_among}
+use Rattle.std.proofs.{Common.{List, [], ◌∷◌, length, take, drop, get_or, refl, sym, ap, subst, ◌∙◌, inl, inr, arith}, Math.Nat.{min-eq_left, min-eq_right}}
+use Rattle.std.proofs.{Math.Seq.{drop-cons}, lemmas.{Bool.{cases_lt, cases_eq, lt-ltb, le-ltb, eq-eqb, ne_eqb}, List.{drop_all, Sums.{sum_by-cons}}}}
+use Rattle.area_layout.specs.{declared.layout.Area.{Area}, Layout.{IsBufferSize, no_area, buffers_in, bytes_in, areas_before, least_among}}
 
 -- ---- in which area a buffer lies
 

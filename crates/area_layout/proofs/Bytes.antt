@@ -1,16 +1,12 @@
 -- Numbers as bytes and back, and the entries made of them.
 use Rattle.std.proofs.Common.{◌≡◌, ℕ, zero, suc, ◌+◌, ◌*◌, ◌/◌, ◌%◌, ◌^◌, ◌<◌, ◌≤◌, List, [], ◌∷◌, ◌++◌, length}
 use Rattle.std.proofs.Common.{take, drop, slice_index, replicate, ℤ, Bool, if◌then◌else◌, ◌≢◌, Some, None, refl, sym, ap, ◌∙◌, arith}
-use Rattle.std.proofs.Math.Nat.{div-div-eq-div-mul, pow-succ'}
-use Rattle.std.proofs.lemmas.List.{take-append-drop, drop-drop, length-drop, get_or-drop, drop_all, take_all}
-use Rattle.std.proofs.lemmas.Bool.{eq-eqb, ne_eqb}
-use Rattle.std.proofs.lemmas.Int.{of_z-to_z}
+use Rattle.std.proofs.{Math.Nat.{div-div-eq-div-mul, pow-succ'}, lemmas.List.{take-append-drop, drop-drop, length-drop, get_or-drop, drop_all, take_all}}
+use Rattle.std.{proofs.lemmas.{Bool.{eq-eqb, ne_eqb}, Int.{of_z-to_z}}, specs.Int.{byte_at, bytes_low_first, cast_signed}}
 use mir.Syntax.{w32}
-use Rattle.std.specs.Int.{byte_at, bytes_low_first, cast_signed}
-use Rattle.byteorder.specs.Endian.{little_from, little_number, little_bytes}
+use Rattle.byteorder.specs.{Endian.{little_from, little_number, little_bytes}, Numbers.{little_from-cons, little_from-lt}}
 use Rattle.area_layout.specs.Entries.{refill_bytes, refill_of, completion_bytes, completion_of, completion_read}
 use Rattle.zr_kinds.specs.declared.ring.Completion.{Completion}
-use Rattle.byteorder.specs.Numbers.{little_from-cons, little_from-lt}
 
 -- the byte at the next place is that of the number's 256th part
 byte_at-suc : (j n : ℕ) → byte_at (suc j) n ≡ byte_at j (n / 256)

@@ -1,6 +1,5 @@
 -- Areas that make a layout, and the layout of their shape.
-use Rattle.std.proofs.Common.{◌≡◌, ℕ, zero, suc, ◌+◌, ◌*◌, ◌≤◌, List, [], ◌∷◌, length, sum_by, refl, ap, inl, inr, add-one, arith}
-use Rattle.std.proofs.lemmas.Bool.{cases_lt}
+use Rattle.std.proofs.{Common.{◌≡◌, ℕ, zero, suc, ◌+◌, ◌*◌, ◌≤◌, List, [], ◌∷◌, length, sum_by, refl, ap, inl, inr, add-one, arith}, lemmas.Bool.{cases_lt}}
 use Rattle.std.proofs.lemmas.List.{get_or_past}
 use Rattle.area_layout.specs.declared.layout.Area.{Area}
 use Rattle.area_layout.specs.Layout.{IsLayout, MakeLayout, IsBufferSize, no_area, listed_area, shape_of_areas, shape_of, area_at, buffers_in, bytes_in}

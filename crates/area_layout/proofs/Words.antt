@@ -1,17 +1,12 @@
 -- Where buffers and their words lie, and what entries name.
 use Rattle.std.proofs.Common.{◌≡◌, ℕ, zero, suc, ◌+◌, ◌-◌, ◌*◌, ◌/◌, ◌%◌, ◌^◌, ◌<◌, ◌≤◌, ◌==◌, Bool, if◌then◌else◌, Some}
-use Rattle.std.proofs.Common.{length, refl, sym, ap, subst, ◌∙◌, inl, inr, add-one, arith}
-use Rattle.std.proofs.Math.Nat.{mul_comm, mul-le-mul}
-use Rattle.std.proofs.lemmas.Nat.{div-mul-add, mod-mul-add, mul-add-lt, row_fits}
-use Rattle.std.proofs.lemmas.Bool.{cases_lt, lt-ltb, le-ltb, cond_both}
-use Rattle.std.proofs.lemmas.List.{get_or_past}
+use Rattle.std.proofs.{Common.{length, refl, sym, ap, subst, ◌∙◌, inl, inr, add-one, arith}, Math.Nat.{mul_comm, mul-le-mul}}
+use Rattle.std.proofs.lemmas.{Nat.{div-mul-add, mod-mul-add, mul-add-lt, row_fits}, Bool.{cases_lt, lt-ltb, le-ltb, cond_both}, List.{get_or_past}}
 use Rattle.std.proofs.lemmas.List.Sums.{sum_by_more, sum_by-take-le}
 use Rattle.zr_kinds.specs.declared.place.Place.{Place}
-use Rattle.area_layout.specs.declared.layout.Area.{Area}
-use Rattle.area_layout.specs.Layout.{Shape, IsLayout, IsBufferSize, LiesIn, no_area, area_at, pool_buffers, total}
+use Rattle.area_layout.specs.{declared.layout.Area.{Area}, Layout.{Shape, IsLayout, IsBufferSize, LiesIn, no_area, area_at, pool_buffers, total}}
 use Rattle.area_layout.specs.Layout.{areas_before, area_of_buffer, size_of, buffers_before, number_in_area, begin_of}
-use Rattle.area_layout.specs.Layout.{begin_in_area, off_of, area_of, place_in, end_of_area, buffer_in, judged}
-use Rattle.area_layout.specs.Laws.{HasBuffersInOrder, HasWordsApart}
+use Rattle.area_layout.specs.{Layout.{begin_in_area, off_of, area_of, place_in, end_of_area, buffer_in, judged}, Laws.{HasBuffersInOrder, HasWordsApart}}
 use Rattle.area_layout.proofs.Powers.{eights}
 use Rattle.area_layout.proofs.Areas.{IsFound, found, size_among, bytes_upto, among-found, among-behind, upto-none, upto-next, upto-all, least-le, least-fits}
 

@@ -1,9 +1,7 @@
 -- The entries of the rings as bytes: one field after another, each a number of so many bytes, the lowest byte first.
-use Rattle.std.specs.Prelude.{ℕ, List, [], ◌∷◌, ◌++◌, drop, ◌==◌, if◌then◌else◌, Option, Some, None}
-use Rattle.std.specs.Int.{w32, cast_signed, cast_unsigned}
+use Rattle.std.specs.{Prelude.{ℕ, List, [], ◌∷◌, ◌++◌, drop, ◌==◌, if◌then◌else◌, Option, Some, None}, Int.{w32, cast_signed, cast_unsigned}}
 use Rattle.byteorder.specs.Endian.{little_bytes, little_number}
-use Rattle.zr_kinds.specs.declared.ring.Rqe.{Rqe}
-use Rattle.zr_kinds.specs.declared.ring.Completion.{Completion}
+use Rattle.zr_kinds.specs.declared.ring.{Rqe.{Rqe}, Completion.{Completion}}
 
 pub record Field : Type 0 where
   pub width : ℕ

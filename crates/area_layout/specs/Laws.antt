@@ -1,8 +1,7 @@
 -- What holds of every layout.
 use Rattle.std.specs.Prelude.{◌≡◌, ℕ, ◌+◌, ◌*◌, ◌/◌, ◌%◌, ◌<◌, ◌≤◌, Some}
 use Rattle.zr_kinds.specs.declared.place.Place.{Place}
-use Rattle.area_layout.specs.Layout.{Shape, IsLayout, IsBufferSize, LiesIn, total, least_size, size_of, begin_of, first_word, area_words}
-use Rattle.area_layout.specs.Layout.{off_of, judged}
+use Rattle.area_layout.specs.Layout.{Shape, IsLayout, IsBufferSize, LiesIn, total, least_size, size_of, begin_of, first_word, area_words, off_of, judged}
 
 -- Buffers lie one after another from byte 0 on, each as long as its size and no shorter than the least. The area ends where
 -- a buffer behind the last would begin; numbers from there on have a size as well.

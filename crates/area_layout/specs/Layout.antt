@@ -2,10 +2,8 @@
 -- of one size. Buffers are numbered from 0: first those of the pool, through all areas in order, then one reserve for each
 -- application. The reserves lie in area 0 behind its pool buffers and have their size.
 use Rattle.std.specs.Prelude.{◌≡◌, ℕ, zero, suc, ◌+◌, ◌-◌, ◌*◌, ◌/◌, ◌%◌, ◌^◌, ◌<◌, ◌≤◌, ◌≢◌, ◌⊎◌, ◌==◌, ◌&&◌, nat_lt, min}
-use Rattle.std.specs.Prelude.{if◌then◌else◌, Option, Some, None, List, [], ◌∷◌, length, take, get_or, sum_by, All}
-use Rattle.std.specs.Int.{IsPowerOfTwo}
-use Rattle.zr_kinds.specs.declared.place.Place.{Place}
-use Rattle.zr_kinds.specs.declared.ring.Rqe.{Rqe}
+use Rattle.std.specs.{Prelude.{if◌then◌else◌, Option, Some, None, List, [], ◌∷◌, length, take, get_or, sum_by, All}, Int.{IsPowerOfTwo}}
+use Rattle.zr_kinds.specs.declared.{place.Place.{Place}, ring.Rqe.{Rqe}}
 use Rattle.area_layout.specs.declared.layout.Area.{Area}
 
 -- a layout as its callers see it: four areas, of which those that aren't there have 0 buffers of 0 bytes and stand last

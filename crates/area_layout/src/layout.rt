@@ -1,7 +1,5 @@
 ghost use Rattle.std.specs.Prelude.{◌≡◌, ℕ, ◌+◌, ◌*◌, ◌^◌, ◌<◌, ◌≤◌, ◌↔◌, Some, IsTrue, IsSome, IsNone, IfSome, All, length, sum_by};
-ghost use Rattle.area_layout.specs.Layout.{IsLayout, MakeLayout, IsArea, IsBufferSize, LiesIn, IsVoid, shape_of, shape_of_areas, listed_area};
-ghost use Rattle.area_layout.specs.Layout.{pool_buffers, total, least_size, size_of, begin_of, first_word, area_words, area_of_buffer};
-ghost use Rattle.area_layout.specs.Layout.{buffers_before, number_in_area, end_of_area, off_of, judged};
+ghost use Rattle.area_layout.specs.Layout.{IsLayout, MakeLayout, IsArea, IsBufferSize, LiesIn, IsVoid, shape_of, shape_of_areas, listed_area, pool_buffers, total, least_size, size_of, begin_of, first_word, area_words, area_of_buffer, buffers_before, number_in_area, end_of_area, off_of, judged};
 
 use std::marker::Model;
 use zr_kinds::{Place, Rqe};

@@ -1,14 +1,8 @@
 -- Where each byte of a buffer lies in one place at most, two of its places share none.
-use Rattle.std.proofs.Common.{◌≡◌, ℕ, ◌+◌, ◌<◌, ◌≤◌, List, [], ◌∷◌, refl, ap, ◌∙◌, arith, inl, inr, ⊎_elim}
-use Rattle.std.specs.Prelude.{◌⊎◌, ◌&&◌, All}
-use Rattle.std.proofs.lemmas.Bool.{le-leb, lt-ltb, eq-eqb, cases_lt}
-use Rattle.std.proofs.lemmas.Bool.Decides.{eqb_tells}
-use Rattle.std.proofs.lemmas.List.Elements.{All-nil, All-cons, All-head, All-tail}
+use Rattle.std.{proofs.Common.{◌≡◌, ℕ, ◌+◌, ◌<◌, ◌≤◌, List, [], ◌∷◌, refl, ap, ◌∙◌, arith, inl, inr, ⊎_elim}, specs.Prelude.{◌⊎◌, ◌&&◌, All}}
+use Rattle.std.proofs.lemmas.{Bool.{le-leb, lt-ltb, eq-eqb, cases_lt, Decides.{eqb_tells}}, List.Elements.{All-nil, All-cons, All-head, All-tail}}
 use Rattle.zr_kinds.specs.declared.place.Place.{Place}
-use Rattle.board_face.specs.Tokens.{AreApart}
-use Rattle.board_face.specs.Places.{has_byte}
-use Rattle.board_face.proofs.Tallies.{weight, tally}
-use Rattle.board_face.proofs.PlaceTallies.{in_buffer}
+use Rattle.board_face.{specs.{Tokens.{AreApart}, Places.{has_byte}}, proofs.{Tallies.{weight, tally}, PlaceTallies.{in_buffer}}}
 
 pub has-weight : (x : ℕ) (p : Place) → p.offset ≤ x → x < p.offset + p.len → weight (has_byte x p) ≡ 1
 has-weight x p from_begin before_end = rw (le-leb p.offset x from_begin, lt-ltb x (p.offset + p.len) before_end) refl

@@ -1,35 +1,18 @@
 -- What each event of an application does to the counts of every buffer.
-use Rattle.std.proofs.Common.{◌≡◌, ℕ, ◌+◌, ◌-◌, ◌≤◌, min, Bool, true, false, cond, List, [], ◌∷◌, ◌++◌, length, drop}
-use Rattle.std.proofs.Common.{set, refl, ap, ◌∙◌, arith, length-append, add-one}
+use Rattle.std.proofs.Common.{◌≡◌, ℕ, ◌+◌, ◌-◌, ◌≤◌, min, Bool, true, false, cond, List, [], ◌∷◌, ◌++◌, length, drop, set, refl, ap, ◌∙◌, arith, length-append, add-one}
 use Rattle.std.specs.Prelude.{if◌then◌else◌, filter, ◌==◌, ◌&&◌, slice_index}
-use Rattle.zr_kinds.specs.declared.place.Place.{Place}
-use Rattle.zr_kinds.specs.declared.place.Note.{Note}
-use Rattle.board_face.specs.Lists.{same_place}
-use Rattle.board_face.specs.Tokens.{filled_by, same_filling}
-use Rattle.board_face.specs.Texts.{further, front_place, rest_place}
-use Rattle.board_face.specs.NicEvents.{fresh}
+use Rattle.zr_kinds.{specs.declared.place.{Place.{Place}, Note.{Note}}, proofs.Lists.{drop-after}}
+use Rattle.board_face.specs.{Lists.{same_place}, Tokens.{filled_by, same_filling}, Texts.{further, front_place, rest_place}, NicEvents.{fresh}}
 use Rattle.board_face.specs.AppEvents.{took_note, took_linear, held_origin, helds_without, cut, released, lent, loan_origin, loans_without, abandoned, gave}
-use Rattle.board_face.specs.AppEvents.{got_spare, owns_without, filled, own_bytes, begin_place, lent_own, scrubbed}
-use Rattle.board_face.specs.AppCalls.{HasHeld, HasLoan, HasSpare}
-use Rattle.board_face.specs.Sides.{app_at, IsApp}
-use Rattle.board_face.specs.Holders.{sent_to, on_way, ended_in, returning_count}
-use Rattle.board_face.specs.Counts.{pool_count, user_count, EndedWereReturned}
-use Rattle.board_face.specs.declared.views.parts.Filling.{Filling}
-use Rattle.board_face.specs.declared.views.nic.SentNote.{SentNote}
-use Rattle.board_face.specs.declared.views.nic.NicSide.{NicSide}
-use Rattle.board_face.specs.declared.views.app.HeldPiece.{HeldPiece}
-use Rattle.board_face.specs.declared.views.app.LentPiece.{LentPiece}
-use Rattle.board_face.specs.declared.views.app.SpareOwn.{SpareOwn}
-use Rattle.board_face.specs.declared.views.app.TakenNote.{TakenNote}
-use Rattle.board_face.specs.declared.views.app.AppView.{AppView}
-use Rattle.board_face.specs.declared.views.app.AppSide.{AppSide}
+use Rattle.board_face.specs.{AppEvents.{got_spare, owns_without, filled, own_bytes, begin_place, lent_own, scrubbed}, AppCalls.{HasHeld, HasLoan, HasSpare}}
+use Rattle.board_face.specs.{Sides.{app_at, IsApp}, Holders.{sent_to, on_way, ended_in, returning_count}, Counts.{pool_count, user_count, EndedWereReturned}}
+use Rattle.board_face.specs.declared.views.{parts.Filling.{Filling}, nic.{SentNote.{SentNote}, NicSide.{NicSide}}, app.{HeldPiece.{HeldPiece}, LentPiece.{LentPiece}}}
+use Rattle.board_face.specs.declared.views.app.{SpareOwn.{SpareOwn}, TakenNote.{TakenNote}, AppView.{AppView}, AppSide.{AppSide}}
 use Rattle.board_face.specs.declared.views.app.Origin.TheVariants.{Note as of_note, Copied as of_copy}
 use Rattle.board_face.proofs.ListLemmas.{same_place-refl, same_filling-refl, same_place-is, same_filling-is}
 use Rattle.board_face.proofs.Tallies.{weight, tally, tally-append, tally-push, tally-without, total-set}
 use Rattle.board_face.proofs.Parts.{app_count, user_part, notes_in, loans_in, came_back_in, owed_count, returned_in-count, pool_count-parts, user_count-parts}
-use Rattle.zr_kinds.proofs.Lists.{drop-after}
-use Rattle.board_face.proofs.Counting.{weight-and}
-use Rattle.board_face.specs.Laws.{IsNextNote}
+use Rattle.board_face.{proofs.Counting.{weight-and}, specs.Laws.{IsNextNote}}
 
 -- ---- one application's part
 

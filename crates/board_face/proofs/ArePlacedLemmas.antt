@@ -3,50 +3,29 @@
 use Rattle.std.proofs.Common.{◌≡◌, ℕ, ◌+◌, ◌-◌, ◌<◌, ◌≤◌, Bool, true, false, cond, List, [], ◌∷◌, ◌++◌, length, get_or, set}
 use Rattle.std.proofs.Common.{drop, refl, ap, subst, ⊎_elim, arith, length-drop, length-take}
 use Rattle.std.specs.Prelude.{filter, ◌==◌, ◌&&◌, nat_lt, nat_le, count_by, All, slice_index, Contains, Some, None}
-use Rattle.std.proofs.lemmas.Bool.{eq-eqb, cases_lt, lt-ltb, le-ltb, lt-leb, le-leb}
-use Rattle.std.proofs.lemmas.Bool.Decides.{eqb_tells}
+use Rattle.std.proofs.lemmas.Bool.{eq-eqb, cases_lt, lt-ltb, le-ltb, lt-leb, le-leb, Decides.{eqb_tells}}
 use Rattle.std.proofs.lemmas.List.Elements.{All-nil, All-cons, All-push, All-weaker, All-contains}
-use Rattle.zr_kinds.specs.declared.place.Place.{Place}
-use Rattle.zr_kinds.specs.declared.place.Note.{Note}
-use Rattle.zr_kinds.specs.declared.ring.Rqe.{Rqe}
+use Rattle.zr_kinds.specs.declared.{place.{Place.{Place}, Note.{Note}}, ring.Rqe.{Rqe}}
 use Rattle.area_layout.specs.Layout.{IsLayout, size_of}
-use Rattle.board_face.specs.Lists.{without}
-use Rattle.board_face.specs.Tokens.{next_start, next_place, filled_by, same_filling}
-use Rattle.board_face.specs.Texts.{front_place, rest_place}
+use Rattle.board_face.specs.{Lists.{without}, Tokens.{next_start, next_place, filled_by, same_filling}, Texts.{front_place, rest_place}}
 use Rattle.board_face.specs.NicEvents.{begun, text_done, fresh, took, swept, placed, sent, sent_linear, shut, passed_over, honoured}
 use Rattle.board_face.specs.AppEvents.{took_note, took_linear, cut, released, lent, abandoned, gave, spare_begun, got_spare, owns_without, filled, own_bytes}
-use Rattle.board_face.specs.AppEvents.{begin_place, lent_own}
-use Rattle.board_face.specs.NicCalls.{HasOwn, HasPiece}
-use Rattle.board_face.specs.AppCalls.{HasHeld, HasLoan, HasSpare, IsFilled}
+use Rattle.board_face.specs.{AppEvents.{begin_place, lent_own}, NicCalls.{HasOwn, HasPiece}, AppCalls.{HasHeld, HasLoan, HasSpare, IsFilled}}
 use Rattle.board_face.specs.Sides.{nic_at, app_at, IsApp, AreNumbered}
 use Rattle.board_face.specs.Holders.{sent_to, on_way, returned_in, ended_in, returning_count, owed_in, returning_in, making_places}
-use Rattle.board_face.specs.Counts.{pool_count, EndedWereReturned}
-use Rattle.board_face.specs.Fillings.{IsFilledByOne, FillingsFit}
-use Rattle.board_face.specs.Places.{places_of, has_byte, is_empty, ends_behind, ArePlaced}
-use Rattle.board_face.specs.declared.views.parts.Filling.{Filling}
-use Rattle.board_face.specs.declared.views.parts.Making.{Making}
-use Rattle.board_face.specs.declared.views.nic.PlacedText.{PlacedText}
-use Rattle.board_face.specs.declared.views.nic.SentNote.{SentNote}
-use Rattle.board_face.specs.declared.views.nic.NicView.{NicView}
-use Rattle.board_face.specs.declared.views.nic.NicSide.{NicSide}
-use Rattle.board_face.specs.declared.views.app.HeldPiece.{HeldPiece}
-use Rattle.board_face.specs.declared.views.app.LentPiece.{LentPiece}
-use Rattle.board_face.specs.declared.views.app.SpareOwn.{SpareOwn}
-use Rattle.board_face.specs.declared.views.app.AppView.{AppView}
-use Rattle.board_face.specs.declared.views.app.AppSide.{AppSide}
-use Rattle.board_face.proofs.ListLemmas.{All-without, not-eqb}
-use Rattle.board_face.proofs.Tallies.{total-le, weight, tally, tally-le, tally-push, weight-le, total-set}
-use Rattle.board_face.proofs.Parts.{owns_in, spares_in, app_count, returned_in-count, pool_count-parts, count-tally}
-use Rattle.board_face.proofs.NicLemmas.{making_at, owns-without}
+use Rattle.board_face.specs.{Counts.{pool_count, EndedWereReturned}, Fillings.{IsFilledByOne, FillingsFit}}
+use Rattle.board_face.specs.{Places.{places_of, has_byte, is_empty, ends_behind, ArePlaced}, declared.views.parts.{Filling.{Filling}, Making.{Making}}}
+use Rattle.board_face.specs.declared.views.{nic.{PlacedText.{PlacedText}, SentNote.{SentNote}, NicView.{NicView}, NicSide.{NicSide}}, app.HeldPiece.{HeldPiece}}
+use Rattle.board_face.specs.declared.views.app.{LentPiece.{LentPiece}, SpareOwn.{SpareOwn}, AppView.{AppView}, AppSide.{AppSide}}
+use Rattle.board_face.proofs.{ListLemmas.{All-without, not-eqb}, Tallies.{total-le, weight, tally, tally-le, tally-push, weight-le, total-set}}
+use Rattle.board_face.proofs.{Parts.{owns_in, spares_in, app_count, returned_in-count, pool_count-parts, count-tally}, NicLemmas.{making_at, owns-without}}
 use Rattle.board_face.proofs.AppLemmas.{SameHoldings, scrubbed_side, pool_count-app, owns-without as spares-without}
 use Rattle.board_face.proofs.PlaceTallies.{in_buffer, piece_places, app_places, places-parts}
 use Rattle.board_face.proofs.PlacesByEvent.{places-stretch, places-nic, places-placed, places-begun, places-text_done, places-making, places-sent}
 use Rattle.board_face.proofs.PlacesByEvent.{places-sent_linear, places-honoured, places-passed_over, places-app, app_places-same, app_places-took_note}
 use Rattle.board_face.proofs.PlacesByEvent.{app_places-took_linear, app_places-cut, app_places-released, app_places-lent, app_places-abandoned}
-use Rattle.board_face.proofs.PlacesByEvent.{app_places-got_spare, app_places-lent_own, app_places-scrubbed}
-use Rattle.board_face.proofs.IsFilledByOneLemmas.{fillings-one, fillings-alone}
-use Rattle.board_face.proofs.FillingsFitLemmas.{FillingsFit-own, FillingsFit-spare, few-within}
-use Rattle.board_face.specs.Laws.{IsNextNote}
+use Rattle.board_face.proofs.{PlacesByEvent.{app_places-got_spare, app_places-lent_own, app_places-scrubbed}, IsFilledByOneLemmas.{fillings-one, fillings-alone}}
+use Rattle.board_face.{proofs.FillingsFitLemmas.{FillingsFit-own, FillingsFit-spare, few-within}, specs.Laws.{IsNextNote}}
 
 -- ---- a buffer has no more places than holders
 

@@ -1,51 +1,28 @@
 -- All texts stay shown, and all places as they are to be, under each event.
-use Rattle.std.proofs.Common.{◌≡◌, ℕ, ◌+◌, ◌<◌, ◌≤◌, Bool, true, false, List, [], ◌∷◌, ◌++◌, length, get_or, set, refl, sym}
-use Rattle.std.proofs.Common.{◌∙◌, subst, ⊎_elim, arith}
-use Rattle.std.specs.Prelude.{◌==◌, ◌&&◌, count_by, All, slice_index, Contains, Some, None}
-use Rattle.std.proofs.lemmas.Bool.{false≢true}
-use Rattle.std.proofs.lemmas.Bool.Decides.{eqb_tells}
-use Rattle.std.proofs.lemmas.List.{get_or-set_same, set-set, length-set}
-use Rattle.std.proofs.lemmas.List.Elements.{All-get_or, All-set, All-push, Contains-get_or, All-contains}
-use Rattle.zr_kinds.specs.declared.place.Place.{Place}
-use Rattle.zr_kinds.specs.declared.place.Note.{Note}
-use Rattle.zr_kinds.specs.declared.ring.Rqe.{Rqe}
+use Rattle.std.proofs.Common.{◌≡◌, ℕ, ◌+◌, ◌<◌, ◌≤◌, Bool, true, false, List, [], ◌∷◌, ◌++◌, length, get_or, set, refl, sym, ◌∙◌, subst, ⊎_elim, arith}
+use Rattle.std.{specs.Prelude.{◌==◌, ◌&&◌, count_by, All, slice_index, Contains, Some, None}, proofs.lemmas.Bool.{false≢true, Decides.{eqb_tells}}}
+use Rattle.std.proofs.lemmas.List.{get_or-set_same, set-set, length-set, Elements.{All-get_or, All-set, All-push, Contains-get_or, All-contains}}
+use Rattle.zr_kinds.specs.declared.{place.{Place.{Place}, Note.{Note}}, ring.Rqe.{Rqe}}
 use Rattle.area_layout.specs.Layout.{IsLayout}
 use Rattle.board_face.specs.Tokens.{next_place, filled_by, same_filling}
 use Rattle.board_face.specs.NicEvents.{text_done, took, swept, placed, sent, sent_linear, gave_up, shut, passed_over, honoured, text_at}
 use Rattle.board_face.specs.AppEvents.{took_note, took_linear, cut, released, lent, abandoned, gave, spare_begun, got_spare, owns_without, filled, begin_place}
-use Rattle.board_face.specs.AppEvents.{lent_own}
-use Rattle.board_face.specs.NicCalls.{HasOwn, HasPiece}
-use Rattle.board_face.specs.AppCalls.{HasHeld, HasLoan, HasSpare, IsFilled}
-use Rattle.board_face.specs.Sides.{nic_at, app_at, IsApp, AreNumbered}
-use Rattle.board_face.specs.Holders.{sent_to, ended_in, returning_count}
-use Rattle.board_face.specs.Counts.{pool_count, EndedWereReturned}
-use Rattle.board_face.specs.Fillings.{IsFilledByOne, FillingsFit}
-use Rattle.board_face.specs.Places.{places_of, ends_behind, ArePlaced}
-use Rattle.board_face.specs.Shown.{IsShown, CardIsShown, AppIsShown, AreShown}
-use Rattle.board_face.specs.declared.views.parts.Filling.{Filling}
-use Rattle.board_face.specs.declared.views.parts.Making.{Making}
-use Rattle.board_face.specs.declared.views.nic.SentNote.{SentNote}
-use Rattle.board_face.specs.declared.views.nic.NicView.{NicView}
-use Rattle.board_face.specs.declared.views.nic.NicSide.{NicSide}
-use Rattle.board_face.specs.declared.views.app.SpareOwn.{SpareOwn}
-use Rattle.board_face.specs.declared.views.app.AppView.{AppView}
-use Rattle.board_face.specs.declared.views.app.AppSide.{AppSide}
-use Rattle.board_face.proofs.ListLemmas.{All-without}
-use Rattle.board_face.proofs.Tallies.{weight}
-use Rattle.board_face.proofs.NicLemmas.{making_at, ended_in-honoured, ended_in-passed_over}
-use Rattle.board_face.proofs.AppLemmas.{SameHoldings, scrubbed_side}
+use Rattle.board_face.specs.{AppEvents.{lent_own}, NicCalls.{HasOwn, HasPiece}, AppCalls.{HasHeld, HasLoan, HasSpare, IsFilled}}
+use Rattle.board_face.specs.{Sides.{nic_at, app_at, IsApp, AreNumbered}, Holders.{sent_to, ended_in, returning_count}, Counts.{pool_count, EndedWereReturned}}
+use Rattle.board_face.specs.{Fillings.{IsFilledByOne, FillingsFit}, Places.{places_of, ends_behind, ArePlaced}, Shown.{IsShown, CardIsShown, AppIsShown, AreShown}}
+use Rattle.board_face.specs.declared.views.{parts.{Filling.{Filling}, Making.{Making}}, nic.{SentNote.{SentNote}, NicView.{NicView}, NicSide.{NicSide}}}
+use Rattle.board_face.{specs.declared.views.app.{SpareOwn.{SpareOwn}, AppView.{AppView}, AppSide.{AppSide}}, proofs.{ListLemmas.{All-without}, Tallies.{weight}}}
+use Rattle.board_face.proofs.{NicLemmas.{making_at, ended_in-honoured, ended_in-passed_over}, AppLemmas.{SameHoldings, scrubbed_side}}
 use Rattle.board_face.proofs.TextsByEvent.{CardIsShown-placed, CardIsShown-sent, CardIsShown-same, IsShown-text_at, AppIsShown-nic, AppIsShown-sent_other}
 use Rattle.board_face.proofs.TextsByEvent.{AppIsShown-sent, AppIsShown-dealt, AppIsShown-took_note, AppIsShown-took_linear, AppIsShown-cut, AppIsShown-released}
 use Rattle.board_face.proofs.TextsByEvent.{AppIsShown-lent, AppIsShown-abandoned, AppIsShown-got_spare, AppIsShown-lent_own, AppIsShown-scrubbed}
-use Rattle.board_face.proofs.TextsByEvent.{AppIsShown-same, CardIsShown-text_done}
-use Rattle.board_face.proofs.TextsByEvent.{AppIsShown-text_done}
+use Rattle.board_face.proofs.TextsByEvent.{AppIsShown-same, CardIsShown-text_done, AppIsShown-text_done}
 use Rattle.board_face.proofs.ArePlacedLemmas.{less_spare, spare-free, places-none, ArePlaced-nic, ArePlaced-took, ArePlaced-shut, ArePlaced-sent}
 use Rattle.board_face.proofs.ArePlacedLemmas.{ArePlaced-sent_linear, ArePlaced-honoured, ArePlaced-passed_over, ArePlaced-placed}
 use Rattle.board_face.proofs.ArePlacedLemmas.{ArePlaced-text_done, ArePlaced-same, ArePlaced-took_note, ArePlaced-took_linear, ArePlaced-cut}
 use Rattle.board_face.proofs.ArePlacedLemmas.{ArePlaced-released, ArePlaced-lent, ArePlaced-abandoned, ArePlaced-gave, ArePlaced-got_spare}
 use Rattle.board_face.proofs.ArePlacedLemmas.{ArePlaced-filled, ArePlaced-lent_own, ArePlaced-scrubbed}
-use Rattle.board_face.proofs.StoresAtLemmas.{StoresAt, HasNoText, HasNoText-behind, CardIsShown-stored_at, AppsAreShown-stored_at}
-use Rattle.board_face.specs.Laws.{IsNextNote}
+use Rattle.board_face.{proofs.StoresAtLemmas.{StoresAt, HasNoText, HasNoText-behind, CardIsShown-stored_at, AppsAreShown-stored_at}, specs.Laws.{IsNextNote}}
 
 All-in : {A : Type 0} (P Q : A → Type 0) (xs : List A) → ((x : A) → Contains xs x → P x → Q x) → All P xs → All Q xs
 All-in P Q xs each all k d small = each (get_or xs k d) (Contains-get_or xs k d small) (all k d small)

@@ -1,23 +1,14 @@
 -- The laws on counts and free places, from the lemmas on each event.
 use Rattle.std.proofs.Common.{◌≡◌, ℕ, ◌+◌, Bool, true, false, List, set, refl, ap, sym, ◌∙◌, arith, ⊎_elim}
-use Rattle.std.specs.Prelude.{◌≢◌, if◌then◌else◌, ◌==◌, ◌&&◌, nat_eq, slice_index}
-use Rattle.std.specs.List.{flat_map}
-use Rattle.std.proofs.lemmas.Bool.{cases_eq, eq-eqb}
+use Rattle.std.{specs.{Prelude.{◌≢◌, if◌then◌else◌, ◌==◌, ◌&&◌, nat_eq, slice_index}, List.{flat_map}}, proofs.lemmas.Bool.{cases_eq, eq-eqb}}
 use Rattle.board_face.specs.Laws.{AllSides, FitTogether, by_card, by_app, one_at, KeepsAll, GainsHolder, LosesHolder, GainsUser, TakeLaw, SweepLaw, PlaceLaw}
 use Rattle.board_face.specs.Laws.{SendLaw, ShutLaw, HonourLaw, StrayLaw, CardKeeps, PollLaw, CutLaw, LendLaw, ReleaseLaw, GiveLaw, SpareLaw, FillLaw}
 use Rattle.board_face.specs.Laws.{LendOwnLaw, AppKeepsAll, ScrubLaw}
 use Rattle.board_face.specs.NicEvents.{took, swept, placed, sent, sent_linear, gave_up, shut, passed_over, honoured, nic_saw, saw_leave, nic_ended}
 use Rattle.board_face.specs.AppEvents.{app_saw, took_note, took_linear, told_end, cut, released, lent, has_read, abandoned, gave, pushed_raw, came_to_rest}
-use Rattle.board_face.specs.AppEvents.{got_spare, filled, lent_own, fell_quiet, left_board}
-use Rattle.board_face.specs.Sides.{nic_at, app_at, IsApp}
-use Rattle.board_face.specs.Counts.{user_count}
-use Rattle.board_face.specs.FreeOnce.{free_places}
-use Rattle.board_face.specs.declared.views.nic.NicView.{NicView}
-use Rattle.board_face.specs.declared.views.nic.NicSide.{NicSide}
-use Rattle.board_face.specs.declared.views.app.AppView.{AppView}
-use Rattle.board_face.specs.declared.views.app.AppSide.{AppSide}
-use Rattle.board_face.proofs.ListLemmas.{not-eqb}
-use Rattle.board_face.proofs.Tallies.{weight, tally, tally-flat, total-set}
+use Rattle.board_face.specs.{AppEvents.{got_spare, filled, lent_own, fell_quiet, left_board}, Sides.{nic_at, app_at, IsApp}, Counts.{user_count}}
+use Rattle.board_face.specs.{FreeOnce.{free_places}, declared.views.{nic.{NicView.{NicView}, NicSide.{NicSide}}, app.{AppView.{AppView}, AppSide.{AppSide}}}}
+use Rattle.board_face.proofs.{ListLemmas.{not-eqb}, Tallies.{weight, tally, tally-flat, total-set}}
 use Rattle.board_face.proofs.Parts.{nic_count, app_count, user_part, owed_count, owed-count, user_count-parts, total-only, count-tally}
 use Rattle.board_face.proofs.NicLemmas.{Owes, pool_count-nic, user_count-nic, pool_count-took, pool_count-placed, pool_count-swept, pool_count-gave_up}
 use Rattle.board_face.proofs.NicLemmas.{pool_count-shut, pool_count-sent, pool_count-sent_linear, pool_count-honoured, user_count-honoured}

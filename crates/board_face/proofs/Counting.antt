@@ -1,12 +1,8 @@
 -- How often a number stands in a list, and sums and counts of which nothing is left.
 use Rattle.std.proofs.Common.{◌≡◌, ℕ, ◌+◌, ◌≤◌, Bool, true, false, List, [], ◌∷◌, ◌++◌, map, refl, ap, sym, subst, ◌∙◌, arith, ⊎_elim}
-use Rattle.std.specs.Prelude.{◌≢◌, ◌⊎◌, ◌==◌, ◌&&◌, if◌then◌else◌, nat_eq, count_by, sum_by, All}
-use Rattle.std.specs.List.{flat_map}
-use Rattle.std.proofs.lemmas.Bool.Decides.{eqb_tells}
-use Rattle.std.proofs.lemmas.List.Elements.{All-nil, All-cons, All-head, All-tail}
-use Rattle.std.proofs.lemmas.List.Sums.{sum_by-cons, sum_by-append}
-use Rattle.board_face.proofs.ListLemmas.{eqb_same, not-eqb}
-use Rattle.board_face.proofs.Tallies.{weight, tally, total, total-append}
+use Rattle.std.{specs.{Prelude.{◌≢◌, ◌⊎◌, ◌==◌, ◌&&◌, if◌then◌else◌, nat_eq, count_by, sum_by, All}, List.{flat_map}}, proofs.lemmas.Bool.Decides.{eqb_tells}}
+use Rattle.std.proofs.lemmas.List.{Elements.{All-nil, All-cons, All-head, All-tail}, Sums.{sum_by-cons, sum_by-append}}
+use Rattle.board_face.proofs.{ListLemmas.{eqb_same, not-eqb}, Tallies.{weight, tally, total, total-append}}
 
 -- ---- what a test weighs
 

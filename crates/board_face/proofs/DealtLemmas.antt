@@ -1,15 +1,7 @@
 -- Entries that the card has dealt with: one more is the next of those written.
-use Rattle.std.proofs.Common.{◌≡◌, ℕ, Bool, true, false, eqb, List, [], ◌∷◌, ◌++◌, length, map, drop}
-use Rattle.std.proofs.Common.{refl, ap, ◌∙◌, arith}
-use Rattle.std.specs.Prelude.{◌≢◌, filter, ◌==◌}
-use Rattle.std.specs.List.{zip}
-use Rattle.std.proofs.lemmas.List.{append-nil}
-use Rattle.std.proofs.lemmas.List.Elements.{filter-append}
-use Rattle.std.proofs.lemmas.Bool.{eq-eqb}
-use Rattle.board_face.specs.declared.views.nic.Dealt.{Dealt}
-use Rattle.board_face.specs.declared.views.nic.NicView.{NicView}
-use Rattle.board_face.specs.declared.views.nic.NicSide.{NicSide}
-use Rattle.board_face.proofs.ListLemmas.{not-eqb}
+use Rattle.std.{proofs.Common.{◌≡◌, ℕ, Bool, true, false, eqb, List, [], ◌∷◌, ◌++◌, length, map, drop, refl, ap, ◌∙◌, arith}, specs.Prelude.{◌≢◌, filter, ◌==◌}}
+use Rattle.std.{specs.List.{zip}, proofs.lemmas.{List.{append-nil, Elements.{filter-append}}, Bool.{eq-eqb}}}
+use Rattle.board_face.{specs.declared.views.nic.{Dealt.{Dealt}, NicView.{NicView}, NicSide.{NicSide}}, proofs.ListLemmas.{not-eqb}}
 
 pub length-mapped : {A B : Type 0} (f : A → B) (xs : List A) → length (map f xs) ≡ length xs
 length-mapped f [] = refl

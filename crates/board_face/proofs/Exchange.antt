@@ -1,27 +1,12 @@
 -- One exchange, computed by the definitions: a buffer of 1,024 bytes, one application, and the payload `hello`.
-use Rattle.std.proofs.Common.{◌≡◌, ℕ, true, false, List, [], ◌∷◌, refl}
-use Rattle.std.specs.Prelude.{Some, nat_eq}
-use Rattle.std.proofs.lemmas.List.Elements.{All-nil, All-cons}
+use Rattle.std.{proofs.{Common.{◌≡◌, ℕ, true, false, List, [], ◌∷◌, refl}, lemmas.List.Elements.{All-nil, All-cons}}, specs.Prelude.{Some, nat_eq}}
 use Rattle.area_layout.specs.Layout.{shape_of, judged}
-use Rattle.zr_kinds.specs.declared.place.Place.{Place}
-use Rattle.zr_kinds.specs.declared.place.Note.{Note}
-use Rattle.zr_kinds.specs.declared.ring.Rqe.{Rqe}
-use Rattle.board_face.specs.Tokens.{filling}
-use Rattle.board_face.specs.NicEvents.{fresh, swept, took, placed, sent, honoured, shut}
+use Rattle.zr_kinds.specs.declared.{place.{Place.{Place}, Note.{Note}}, ring.Rqe.{Rqe}}
+use Rattle.board_face.specs.{Tokens.{filling}, NicEvents.{fresh, swept, took, placed, sent, honoured, shut}}
 use Rattle.board_face.specs.AppEvents.{took_note, lent, has_read, gave, entry_of, got_spare, filled, begin_place, lent_own, abandoned, scrubbed}
-use Rattle.board_face.specs.Sides.{nic_at, app_at}
-use Rattle.board_face.specs.Opened.{new_nic, new_app}
-use Rattle.board_face.specs.Holders.{own, piece, sent as is_sent, held, spare, loan, owed, holders_of, sent_to}
-use Rattle.board_face.specs.Counts.{pool_count, user_count}
-use Rattle.board_face.specs.FreeOnce.{free_places}
-use Rattle.board_face.specs.Judged.{fate_of}
-use Rattle.board_face.specs.Relay.{Relayed, IsAsSent}
-use Rattle.board_face.specs.Shown.{text_of}
-use Rattle.board_face.specs.Places.{places_of}
-use Rattle.board_face.specs.declared.views.parts.Setting.{Setting}
-use Rattle.board_face.specs.declared.views.nic.Fate.TheVariants.{Honoured, Stray}
-use Rattle.board_face.specs.declared.views.nic.NicSide.{NicSide}
-use Rattle.board_face.specs.declared.views.app.AppSide.{AppSide}
+use Rattle.board_face.specs.{Sides.{nic_at, app_at}, Opened.{new_nic, new_app}, Holders.{own, piece, sent as is_sent, held, spare, loan, owed, holders_of, sent_to}}
+use Rattle.board_face.specs.{Counts.{pool_count, user_count}, FreeOnce.{free_places}, Judged.{fate_of}, Relay.{Relayed, IsAsSent}, Shown.{text_of}, Places.{places_of}}
+use Rattle.board_face.specs.declared.views.{parts.Setting.{Setting}, nic.{Fate.TheVariants.{Honoured, Stray}, NicSide.{NicSide}}, app.AppSide.{AppSide}}
 use Rattle.board_face.specs.declared.views.app.Origin.TheVariants.{Note as of_note}
 
 abbrev setting : Setting

@@ -1,18 +1,12 @@
 -- How many holders a buffer has at most: its places have a byte each, and share none.
-use Rattle.std.proofs.Common.{◌≡◌, ℕ, zero, suc, ◌+◌, ◌<◌, ◌≤◌, List, [], ◌∷◌, length, refl, ap, ⊎_elim, arith, length-append}
-use Rattle.std.proofs.lemmas.Bool.{eq-eqb, cases_lt, lt-ltb}
+use Rattle.std.proofs.{Common.{◌≡◌, ℕ, zero, suc, ◌+◌, ◌<◌, ◌≤◌, List, [], ◌∷◌, length, refl, ap, ⊎_elim, arith, length-append}, lemmas.Bool.{eq-eqb, cases_lt, lt-ltb}}
+use Rattle.std.specs.List.{flat_map}
 use Rattle.zr_kinds.specs.declared.place.Place.{Place}
 use Rattle.area_layout.specs.Layout.{size_of}
 use Rattle.board_face.specs.Places.{kind_place, filled_places, places_of, has_byte, is_empty, ends_behind, ArePlaced}
-use Rattle.std.specs.List.{flat_map}
-use Rattle.board_face.specs.Holders.{Kind, own, piece, sent, held, spare, loan, owed, returning, holders_of}
-use Rattle.board_face.specs.Counts.{pool_count}
-use Rattle.board_face.specs.Fillings.{is_filling, IsFilledByOne}
-use Rattle.board_face.specs.declared.views.nic.NicSide.{NicSide}
-use Rattle.board_face.specs.declared.views.app.AppSide.{AppSide}
-use Rattle.board_face.proofs.Tallies.{weight, tally}
-use Rattle.board_face.proofs.Parts.{count-tally}
-use Rattle.board_face.proofs.ApartLemmas.{has-weight}
+use Rattle.board_face.specs.{Holders.{Kind, own, piece, sent, held, spare, loan, owed, returning, holders_of}, Counts.{pool_count}}
+use Rattle.board_face.{specs.{Fillings.{is_filling, IsFilledByOne}, declared.views.{nic.NicSide.{NicSide}, app.AppSide.{AppSide}}}, proofs.Tallies.{weight, tally}}
+use Rattle.board_face.proofs.{Parts.{count-tally}, ApartLemmas.{has-weight}}
 
 -- a sum over the numbers below n
 abbrev sum_below : (ℕ → ℕ) → ℕ → ℕ

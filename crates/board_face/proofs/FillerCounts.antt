@@ -1,25 +1,13 @@
 -- How many fill a buffer, as a sum, and what each event does to it.
-use Rattle.std.proofs.Common.{◌≡◌, ℕ, ◌+◌, Bool, true, false, List, [], ◌∷◌, ◌++◌, length, map, refl, ap, ◌∙◌, arith}
-use Rattle.std.specs.Prelude.{filter, ◌==◌, count_by}
+use Rattle.std.{proofs.Common.{◌≡◌, ℕ, ◌+◌, Bool, true, false, List, [], ◌∷◌, ◌++◌, length, map, refl, ap, ◌∙◌, arith}, specs.Prelude.{filter, ◌==◌, count_by}}
 use Rattle.std.specs.List.{flat_map}
-use Rattle.board_face.specs.Lists.{without}
-use Rattle.board_face.specs.Tokens.{filled_by, same_filling}
-use Rattle.board_face.specs.NicEvents.{fresh, took, placed, shut}
-use Rattle.board_face.specs.AppEvents.{owns_without, got_spare, filled, lent_own}
-use Rattle.board_face.specs.NicCalls.{HasOwn}
-use Rattle.board_face.specs.AppCalls.{HasSpare}
-use Rattle.board_face.specs.Sides.{nic_at, app_at}
+use Rattle.board_face.specs.{Lists.{without}, Tokens.{filled_by, same_filling}, NicEvents.{fresh, took, placed, shut}}
+use Rattle.board_face.specs.{AppEvents.{owns_without, got_spare, filled, lent_own}, NicCalls.{HasOwn}, AppCalls.{HasSpare}, Sides.{nic_at, app_at}}
 use Rattle.board_face.specs.Holders.{Kind, own, piece, sent, held, spare, loan, owed, returning, places_in, sent_places, owed_in, returning_in, making_places}
-use Rattle.board_face.specs.Holders.{nic_holders, app_holders, holders_of}
-use Rattle.board_face.specs.Fillings.{is_filling}
-use Rattle.board_face.specs.declared.views.parts.Filling.{Filling}
-use Rattle.board_face.specs.declared.views.nic.NicSide.{NicSide}
-use Rattle.board_face.specs.declared.views.app.SpareOwn.{SpareOwn}
-use Rattle.board_face.specs.declared.views.app.AppSide.{AppSide}
+use Rattle.board_face.specs.{Holders.{nic_holders, app_holders, holders_of}, Fillings.{is_filling}, declared.views.{parts.Filling.{Filling}, nic.NicSide.{NicSide}}}
+use Rattle.board_face.specs.declared.views.app.{SpareOwn.{SpareOwn}, AppSide.{AppSide}}
 use Rattle.board_face.proofs.Tallies.{weight, tally, total, tally-append, tally-push, tally-map, tally-flat, total-agree, length-tally}
-use Rattle.board_face.proofs.Parts.{owns_in, spares_in, count-tally}
-use Rattle.board_face.proofs.NicLemmas.{owns-without as card_owns-without}
-use Rattle.board_face.proofs.AppLemmas.{owns-without as spares-without}
+use Rattle.board_face.proofs.{Parts.{owns_in, spares_in, count-tally}, NicLemmas.{owns-without as card_owns-without}, AppLemmas.{owns-without as spares-without}}
 
 tally-all : {A : Type 0} (test : A → Bool) → ((x : A) → test x ≡ true) → (xs : List A) → tally test xs ≡ length xs
 tally-all test each [] = refl

@@ -1,26 +1,12 @@
 -- What is being filled is what its token shows: what each event leaves of that.
-use Rattle.std.proofs.Common.{◌≡◌, ℕ, ◌+◌, ◌<◌, ◌≤◌, Bool, List, [], length, map, set, refl, subst, arith}
-use Rattle.std.specs.Prelude.{All, Option}
+use Rattle.std.{proofs.Common.{◌≡◌, ℕ, ◌+◌, ◌<◌, ◌≤◌, Bool, List, [], length, map, set, refl, subst, arith}, specs.Prelude.{All, Option}}
 use Rattle.std.proofs.lemmas.List.Elements.{All-get_or, All-set, All-push, All-map, All-contains}
-use Rattle.area_layout.specs.Layout.{IsLayout, pool_buffers, size_of}
-use Rattle.area_layout.proofs.Words.{words_apart}
-use Rattle.board_face.specs.Lists.{without}
-use Rattle.board_face.specs.Tokens.{FitsBuffer, filled_by, same_filling}
-use Rattle.board_face.specs.NicEvents.{begun, fresh, took, placed, shut}
-use Rattle.board_face.specs.AppEvents.{got_spare, owns_without, filled, lent_own}
-use Rattle.board_face.specs.NicCalls.{HasOwn}
-use Rattle.board_face.specs.AppCalls.{HasSpare}
-use Rattle.board_face.specs.Sides.{nic_at, app_at, IsApp}
-use Rattle.board_face.specs.Fillings.{FillingsFit}
-use Rattle.board_face.specs.declared.views.parts.Filling.{Filling}
-use Rattle.board_face.specs.declared.views.parts.Making.{Making}
-use Rattle.board_face.specs.declared.views.nic.NicView.{NicView}
-use Rattle.board_face.specs.declared.views.nic.NicSide.{NicSide}
-use Rattle.board_face.specs.declared.views.app.SpareOwn.{SpareOwn}
-use Rattle.board_face.specs.declared.views.app.AppSide.{AppSide}
-use Rattle.board_face.proofs.ListLemmas.{All-without}
-use Rattle.board_face.proofs.TokenLemmas.{FitsBuffer-filled_by, FitsBuffer-fresh}
-use Rattle.board_face.proofs.NicLemmas.{making_at}
+use Rattle.area_layout.{specs.Layout.{IsLayout, pool_buffers, size_of}, proofs.Words.{words_apart}}
+use Rattle.board_face.specs.{Lists.{without}, Tokens.{FitsBuffer, filled_by, same_filling}, NicEvents.{begun, fresh, took, placed, shut}}
+use Rattle.board_face.specs.{AppEvents.{got_spare, owns_without, filled, lent_own}, NicCalls.{HasOwn}, AppCalls.{HasSpare}, Sides.{nic_at, app_at, IsApp}}
+use Rattle.board_face.specs.{Fillings.{FillingsFit}, declared.views.{parts.{Filling.{Filling}, Making.{Making}}, nic.{NicView.{NicView}, NicSide.{NicSide}}}}
+use Rattle.board_face.{specs.declared.views.app.{SpareOwn.{SpareOwn}, AppSide.{AppSide}}, proofs.ListLemmas.{All-without}}
+use Rattle.board_face.proofs.{TokenLemmas.{FitsBuffer-filled_by, FitsBuffer-fresh}, NicLemmas.{making_at}}
 
 -- the filling is what a token of it shows
 abbrev pub IsFit : NicSide → Filling → Type 0

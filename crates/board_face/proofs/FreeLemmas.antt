@@ -1,23 +1,11 @@
 -- What each event does to the free places of every buffer, and that a buffer without holder has no user.
-use Rattle.std.proofs.Common.{◌≡◌, ℕ, ◌+◌, ◌<◌, ◌≤◌, Bool, true, false, cond, List, [], ◌∷◌, ◌++◌, length, set, refl, ap}
-use Rattle.std.proofs.Common.{⊎_elim, arith}
-use Rattle.std.specs.Prelude.{if◌then◌else◌, ◌==◌, nat_lt, nat_eq, count_by, ◌&&◌}
-use Rattle.std.specs.List.{flat_map}
-use Rattle.std.proofs.lemmas.Bool.{eq-eqb}
-use Rattle.std.proofs.lemmas.Bool.Decides.{eqb_tells}
+use Rattle.std.proofs.Common.{◌≡◌, ℕ, ◌+◌, ◌<◌, ◌≤◌, Bool, true, false, cond, List, [], ◌∷◌, ◌++◌, length, set, refl, ap, ⊎_elim, arith}
+use Rattle.std.{specs.{Prelude.{if◌then◌else◌, ◌==◌, nat_lt, nat_eq, count_by, ◌&&◌}, List.{flat_map}}, proofs.lemmas.Bool.{eq-eqb, Decides.{eqb_tells}}}
 use Rattle.area_layout.specs.Layout.{pool_buffers}
-use Rattle.board_face.specs.NicEvents.{cached, cache_room, took, swept, gave_up}
-use Rattle.board_face.specs.Sides.{nic_at, app_at, IsApp}
-use Rattle.board_face.specs.Holders.{holders_of}
-use Rattle.board_face.specs.Counts.{pool_count, user_count, is_user}
-use Rattle.board_face.specs.FreeOnce.{free_places, IsFreeOnce}
-use Rattle.board_face.specs.declared.views.nic.NicView.{NicView}
-use Rattle.board_face.specs.declared.views.nic.NicSide.{NicSide}
-use Rattle.board_face.specs.declared.views.app.AppView.{AppView}
-use Rattle.board_face.specs.declared.views.app.AppSide.{AppSide}
-use Rattle.board_face.proofs.Tallies.{weight, tally, tally-le, tally-flat, total-set}
-use Rattle.board_face.proofs.Parts.{count-tally}
-use Rattle.board_face.proofs.Counting.{count-push, count-append}
+use Rattle.board_face.specs.{NicEvents.{cached, cache_room, took, swept, gave_up}, Sides.{nic_at, app_at, IsApp}, Holders.{holders_of}}
+use Rattle.board_face.specs.{Counts.{pool_count, user_count, is_user}, FreeOnce.{free_places, IsFreeOnce}, declared.views.nic.{NicView.{NicView}, NicSide.{NicSide}}}
+use Rattle.board_face.{specs.declared.views.app.{AppView.{AppView}, AppSide.{AppSide}}, proofs.Tallies.{weight, tally, tally-le, tally-flat, total-set}}
+use Rattle.board_face.proofs.{Parts.{count-tally}, Counting.{count-push, count-append}}
 
 -- a user of a buffer is one of its holders
 pub user_count-le : (a b : ℕ) (nic : NicSide) (apps : List AppSide) → user_count a b nic apps ≤ pool_count b nic apps

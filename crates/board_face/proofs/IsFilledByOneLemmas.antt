@@ -1,31 +1,15 @@
 -- A buffer is filled by one at most, and a spare's buffer has no other holder: what each event leaves of that.
-use Rattle.std.proofs.Common.{◌≡◌, ℕ, ◌+◌, ◌<◌, ◌≤◌, Bool, true, false, List, [], ◌∷◌, length, set, refl, ap, subst, ⊎_elim}
-use Rattle.std.proofs.Common.{arith}
-use Rattle.std.specs.Prelude.{◌==◌, All, slice_index, Some, None}
-use Rattle.std.proofs.lemmas.Bool.{eq-eqb, cases_lt}
-use Rattle.std.proofs.lemmas.Bool.Decides.{eqb_tells}
+use Rattle.std.proofs.Common.{◌≡◌, ℕ, ◌+◌, ◌<◌, ◌≤◌, Bool, true, false, List, [], ◌∷◌, length, set, refl, ap, subst, ⊎_elim, arith}
+use Rattle.std.{specs.Prelude.{◌==◌, All, slice_index, Some, None}, proofs.lemmas.Bool.{eq-eqb, cases_lt, Decides.{eqb_tells}}}
 use Rattle.std.proofs.lemmas.List.Elements.{All-nil, All-cons, All-head, All-tail}
-use Rattle.zr_kinds.specs.declared.place.Place.{Place}
-use Rattle.zr_kinds.specs.declared.place.Note.{Note}
-use Rattle.zr_kinds.specs.declared.ring.Rqe.{Rqe}
+use Rattle.zr_kinds.specs.declared.{place.{Place.{Place}, Note.{Note}}, ring.Rqe.{Rqe}}
 use Rattle.area_layout.specs.Layout.{total as all_buffers}
-use Rattle.board_face.specs.Lists.{without}
-use Rattle.board_face.specs.Tokens.{next_place, filled_by, same_filling}
+use Rattle.board_face.specs.{Lists.{without}, Tokens.{next_place, filled_by, same_filling}}
 use Rattle.board_face.specs.NicEvents.{begun, text_done, took, swept, placed, sent, sent_linear, gave_up, shut, passed_over, honoured}
-use Rattle.board_face.specs.AppEvents.{took_note, took_linear, cut, released, lent, abandoned, gave, got_spare, filled, lent_own}
-use Rattle.board_face.specs.NicCalls.{HasOwn, HasPiece}
-use Rattle.board_face.specs.AppCalls.{HasHeld, HasLoan, HasSpare}
-use Rattle.board_face.specs.Sides.{nic_at, app_at, IsApp, AreNumbered}
-use Rattle.board_face.specs.Holders.{sent_to, holders_of}
-use Rattle.board_face.specs.Counts.{pool_count, EndedWereReturned}
-use Rattle.board_face.specs.Fillings.{is_filling, IsFilledByOne}
-use Rattle.board_face.specs.declared.views.parts.Filling.{Filling}
-use Rattle.board_face.specs.declared.views.parts.Making.{Making}
-use Rattle.board_face.specs.declared.views.nic.NicView.{NicView}
-use Rattle.board_face.specs.declared.views.nic.NicSide.{NicSide}
-use Rattle.board_face.specs.declared.views.app.SpareOwn.{SpareOwn}
-use Rattle.board_face.specs.declared.views.app.AppView.{AppView}
-use Rattle.board_face.specs.declared.views.app.AppSide.{AppSide}
+use Rattle.board_face.specs.{AppEvents.{took_note, took_linear, cut, released, lent, abandoned, gave, got_spare, filled, lent_own}, NicCalls.{HasOwn, HasPiece}}
+use Rattle.board_face.specs.{AppCalls.{HasHeld, HasLoan, HasSpare}, Sides.{nic_at, app_at, IsApp, AreNumbered}, Holders.{sent_to, holders_of}}
+use Rattle.board_face.specs.{Counts.{pool_count, EndedWereReturned}, Fillings.{is_filling, IsFilledByOne}, declared.views.parts.{Filling.{Filling}, Making.{Making}}}
+use Rattle.board_face.specs.declared.views.{nic.{NicView.{NicView}, NicSide.{NicSide}}, app.{SpareOwn.{SpareOwn}, AppView.{AppView}, AppSide.{AppSide}}}
 use Rattle.board_face.proofs.Tallies.{weight, tally, total, tally-le, tally-push, total-set}
 use Rattle.board_face.proofs.Parts.{owns_in, pieces_in, spares_in, app_count, owed_count, count-tally}
 use Rattle.board_face.proofs.NicLemmas.{Owes, making_at, owns-without, pool_count-nic, pool_count-took, pool_count-placed, pool_count-shut, pool_count-sent}
@@ -33,8 +17,7 @@ use Rattle.board_face.proofs.NicLemmas.{pool_count-sent_linear, pool_count-honou
 use Rattle.board_face.proofs.AppLemmas.{SameHoldings, scrubbed_side, pool_count-app, app_count-same, app_count-took_note, app_count-took_linear}
 use Rattle.board_face.proofs.AppLemmas.{app_count-cut, app_count-released, app_count-lent, app_count-abandoned, app_count-gave, app_count-got_spare}
 use Rattle.board_face.proofs.AppLemmas.{app_count-filled, app_count-lent_own, app_count-scrubbed}
-use Rattle.board_face.proofs.FillerCounts.{fillings-parts, owns_in-took, owns_in-shut, owns_in-placed, spares_in-got_spare, spares_in-filled}
-use Rattle.board_face.proofs.FillerCounts.{spares_in-lent_own}
+use Rattle.board_face.proofs.FillerCounts.{fillings-parts, owns_in-took, owns_in-shut, owns_in-placed, spares_in-got_spare, spares_in-filled, spares_in-lent_own}
 use Rattle.board_face.specs.Laws.{IsNextNote}
 
 -- ---- the same by numbers

@@ -1,23 +1,12 @@
 -- Where held pieces and loans lie: in a buffer of the area, with a byte at least.
-use Rattle.std.proofs.Common.{◌≡◌, ⊎_elim, ℕ, zero, suc, ◌+◌, ◌<◌, ◌≤◌, Bool, List, []}
-use Rattle.std.proofs.Common.{◌∷◌, length, map, get_or, ap, arith}
-use Rattle.std.specs.Prelude.{◌==◌, ◌&&◌, count_by, Contains}
-use Rattle.std.proofs.lemmas.Bool.{cases_lt, lt-ltb, eq-eqb}
+use Rattle.std.proofs.Common.{◌≡◌, ⊎_elim, ℕ, zero, suc, ◌+◌, ◌<◌, ◌≤◌, Bool, List, [], ◌∷◌, length, map, get_or, ap, arith}
+use Rattle.std.{specs.Prelude.{◌==◌, ◌&&◌, count_by, Contains}, proofs.lemmas.Bool.{cases_lt, lt-ltb, eq-eqb}}
 use Rattle.zr_kinds.specs.declared.place.Place.{Place}
 use Rattle.area_layout.specs.Layout.{total as all_buffers, size_of, LiesIn}
-use Rattle.board_face.specs.Lists.{same_place}
-use Rattle.board_face.specs.Sides.{IsApp}
-use Rattle.board_face.specs.AppCalls.{HasLoan}
-use Rattle.board_face.specs.Counts.{pool_count}
-use Rattle.board_face.specs.Places.{ArePlaced, places_of, is_empty, ends_behind}
-use Rattle.board_face.specs.declared.views.nic.NicSide.{NicSide}
-use Rattle.board_face.specs.declared.views.app.HeldPiece.{HeldPiece}
-use Rattle.board_face.specs.declared.views.app.LentPiece.{LentPiece}
-use Rattle.board_face.specs.declared.views.app.AppSide.{AppSide}
-use Rattle.board_face.proofs.ListLemmas.{eqb_same, same_place-is, same_place-refl}
-use Rattle.board_face.proofs.Tallies.{weight, tally, tally-without, total}
-use Rattle.board_face.proofs.Parts.{app_count, count-tally, pool_count-parts}
-use Rattle.board_face.proofs.PlaceTallies.{in_buffer, app_places, places-parts}
+use Rattle.board_face.specs.{Lists.{same_place}, Sides.{IsApp}, AppCalls.{HasLoan}, Counts.{pool_count}, Places.{ArePlaced, places_of, is_empty, ends_behind}}
+use Rattle.board_face.specs.declared.views.{nic.NicSide.{NicSide}, app.{HeldPiece.{HeldPiece}, LentPiece.{LentPiece}, AppSide.{AppSide}}}
+use Rattle.board_face.proofs.{ListLemmas.{eqb_same, same_place-is, same_place-refl}, Tallies.{weight, tally, tally-without, total}}
+use Rattle.board_face.proofs.{Parts.{app_count, count-tally, pool_count-parts}, PlaceTallies.{in_buffer, app_places, places-parts}}
 
 -- ---- one among many
 

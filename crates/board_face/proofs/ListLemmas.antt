@@ -1,13 +1,8 @@
 -- Lists from which the first element that meets a test is taken out.
-use Rattle.std.proofs.Common.{◌≡◌, ℕ, Bool, true, false, cond, eqb, List, [], ◌∷◌, map, refl, sym, arith, ⊎_elim}
-use Rattle.std.specs.Prelude.{◌&&◌, ◌≢◌, All}
-use Rattle.std.proofs.lemmas.Bool.{false≢true, eqb-true}
-use Rattle.std.proofs.lemmas.Bool.Decides.{eqb_tells}
-use Rattle.std.proofs.lemmas.List.Elements.{All-cons, All-head, All-tail}
+use Rattle.std.{proofs.Common.{◌≡◌, ℕ, Bool, true, false, cond, eqb, List, [], ◌∷◌, map, refl, sym, arith, ⊎_elim}, specs.Prelude.{◌&&◌, ◌≢◌, All}}
+use Rattle.std.proofs.lemmas.{Bool.{false≢true, eqb-true, Decides.{eqb_tells}}, List.Elements.{All-cons, All-head, All-tail}}
 use Rattle.zr_kinds.specs.declared.place.Place.{Place}
-use Rattle.board_face.specs.Lists.{without, at_first, same_place}
-use Rattle.board_face.specs.Tokens.{same_filling, filling}
-use Rattle.board_face.specs.declared.views.parts.Filling.{Filling}
+use Rattle.board_face.specs.{Lists.{without, at_first, same_place}, Tokens.{same_filling, filling}, declared.views.parts.Filling.{Filling}}
 
 pub eqb_same : (n : ℕ) → eqb n n ≡ true
 eqb_same n = grind arith

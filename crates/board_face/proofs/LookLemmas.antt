@@ -1,18 +1,11 @@
 -- A look raises its count by one, and lowers none.
-use Rattle.std.proofs.Common.{◌≡◌, ◌≤◌, Bool, true, false, List, ◌∷◌, refl, ap, sym, subst, arith, ⊎_elim}
-use Rattle.std.specs.Prelude.{◌==◌}
+use Rattle.std.{proofs.Common.{◌≡◌, ◌≤◌, Bool, true, false, List, ◌∷◌, refl, ap, sym, subst, arith, ⊎_elim}, specs.Prelude.{◌==◌}}
 use Rattle.std.proofs.lemmas.Bool.{cases_Bool, eqb-true, and_parts}
-use Rattle.board_face.specs.declared.views.nic.NicLook.{NicLook}
-use Rattle.board_face.specs.declared.views.nic.NicLook.TheVariants.{RingEmpty, NoteInUse, Swept, NotLeft, HasLeft, NotOwed, Owed, LastHolder, StillHeld}
-use Rattle.board_face.specs.declared.views.app.AppLook.{AppLook}
-use Rattle.board_face.specs.declared.views.app.AppLook.TheVariants.{NoNote, CardEnded, RefillInUse, RawOnItsWay, NoneListed, NoSpare, NotQuiet}
-use Rattle.board_face.specs.declared.views.nic.NicView.{NicView}
-use Rattle.board_face.specs.declared.views.app.AppView.{AppView}
-use Rattle.board_face.specs.Looks.{same_nic_look, same_app_look, times, NicRose, AppRose, NicLooksStay, NicTold, AppTold}
-use Rattle.board_face.specs.NicEvents.{nic_saw}
-use Rattle.board_face.specs.AppEvents.{app_saw}
-use Rattle.board_face.proofs.ListLemmas.{eqb_same}
-use Rattle.board_face.proofs.Tallies.{weight}
+use Rattle.board_face.specs.declared.views.nic.NicLook.{NicLook, TheVariants.{RingEmpty, NoteInUse, Swept, NotLeft, HasLeft, NotOwed, Owed, LastHolder, StillHeld}}
+use Rattle.board_face.specs.declared.views.app.AppLook.{AppLook, TheVariants.{NoNote, CardEnded, RefillInUse, RawOnItsWay, NoneListed, NoSpare, NotQuiet}}
+use Rattle.board_face.specs.declared.views.{nic.NicView.{NicView}, app.AppView.{AppView}}
+use Rattle.board_face.specs.{Looks.{same_nic_look, same_app_look, times, NicRose, AppRose, NicLooksStay, NicTold, AppTold}, NicEvents.{nic_saw}, AppEvents.{app_saw}}
+use Rattle.board_face.proofs.{ListLemmas.{eqb_same}, Tallies.{weight}}
 
 pub same_nic_look-refl : (look : NicLook) → same_nic_look look look ≡ true
 same_nic_look-refl (RingEmpty a) = eqb_same a

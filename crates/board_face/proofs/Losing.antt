@@ -1,30 +1,13 @@
 -- Buffers of swept words that are neither cached nor were taken were picked as spares, of which each is for a byte of an unsplit note.
-use Rattle.std.proofs.Common.{◌≡◌, ⊎_elim, ℕ, suc, ◌+◌, ◌/◌, ◌<◌, ◌≤◌, Bool, true, false, cond, List, [], ◌∷◌, length, map, take}
-use Rattle.std.proofs.Common.{get_or, refl, ap, arith}
-use Rattle.std.specs.Prelude.{not, ◌&&◌, ◌==◌, nat_eq, if◌then◌else◌, filter, sum_by, All}
-use Rattle.std.specs.List.{list_any}
-use Rattle.std.proofs.lemmas.List.Sums.{sum_by-cons, sum_by-take-le}
-use Rattle.std.proofs.lemmas.List.Elements.{All-contains}
-use Rattle.std.proofs.lemmas.Bool.{cases_Bool}
-use Rattle.std.proofs.lemmas.Bool.Decides.{eqb_tells}
+use Rattle.std.proofs.Common.{◌≡◌, ⊎_elim, ℕ, suc, ◌+◌, ◌/◌, ◌<◌, ◌≤◌, Bool, true, false, cond, List, [], ◌∷◌, length, map, take, get_or, refl, ap, arith}
+use Rattle.std.{specs.{Prelude.{not, ◌&&◌, ◌==◌, nat_eq, if◌then◌else◌, filter, sum_by, All}, List.{list_any}}, proofs.lemmas.List.Sums.{sum_by-cons, sum_by-take-le}}
+use Rattle.std.proofs.lemmas.{List.Elements.{All-contains}, Bool.{cases_Bool, Decides.{eqb_tells}}}
 use Rattle.area_layout.specs.Layout.{pool_buffers}
-use Rattle.zr_kinds.specs.declared.place.Note.{Note}
-use Rattle.board_face.specs.NicCalls.{is_lost, lost_of, sent_unsplit_bytes}
-use Rattle.board_face.specs.NicEvents.{word_bits}
-use Rattle.board_face.specs.Texts.{unsplit_bytes}
-use Rattle.board_face.specs.Sides.{AreNumbered, IsApp}
-use Rattle.board_face.specs.Holders.{sent_to}
-use Rattle.board_face.specs.Relay.{as_taken}
-use Rattle.board_face.specs.Used.{AreKept, HasFewPicks, picked_buffers}
-use Rattle.board_face.specs.declared.views.nic.SentNote.{SentNote}
-use Rattle.board_face.specs.declared.views.nic.NicSide.{NicSide}
-use Rattle.board_face.specs.declared.views.app.TakenNote.{TakenNote}
-use Rattle.board_face.specs.declared.views.app.AppSide.{AppSide}
-use Rattle.board_face.proofs.ListLemmas.{not-eqb}
-use Rattle.board_face.proofs.SideLemmas.{IsApp-at}
-use Rattle.board_face.proofs.LostLemmas.{lost-few, none-counted, some-counted}
-use Rattle.board_face.proofs.Tallies.{total, total-le, total-agree, length-flat}
-use Rattle.zr_kinds.proofs.Booleans.{if-le}
+use Rattle.zr_kinds.{specs.declared.place.Note.{Note}, proofs.Booleans.{if-le}}
+use Rattle.board_face.specs.{NicCalls.{is_lost, lost_of, sent_unsplit_bytes}, NicEvents.{word_bits}, Texts.{unsplit_bytes}, Sides.{AreNumbered, IsApp}}
+use Rattle.board_face.specs.{Holders.{sent_to}, Relay.{as_taken}, Used.{AreKept, HasFewPicks, picked_buffers}, declared.views.nic.SentNote.{SentNote}}
+use Rattle.board_face.{specs.declared.views.{nic.NicSide.{NicSide}, app.{TakenNote.{TakenNote}, AppSide.{AppSide}}}, proofs.ListLemmas.{not-eqb}}
+use Rattle.board_face.proofs.{SideLemmas.{IsApp-at}, LostLemmas.{lost-few, none-counted, some-counted}, Tallies.{total, total-le, total-agree, length-flat}}
 use Rattle.board_face.proofs.Counting.{sum-map, count-append}
 
 -- ---- what is lost was picked

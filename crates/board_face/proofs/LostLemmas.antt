@@ -1,18 +1,9 @@
 -- Once every free word was swept, each pool buffer is cached, was taken by the card, or is lost to a spare.
 use Rattle.std.proofs.Common.{◌≡◌, ℕ, zero, suc, ◌+◌, ◌<◌, ◌≤◌, Bool, true, false, List, [], ◌∷◌, length, refl, ap, arith, ⊎_elim}
-use Rattle.std.specs.Prelude.{not, ◌&&◌, ◌||◌, ◌/◌, nat_eq, count_by}
-use Rattle.std.specs.List.{list_any}
+use Rattle.std.{specs.{Prelude.{not, ◌&&◌, ◌||◌, ◌/◌, nat_eq, count_by}, List.{list_any}}, proofs.lemmas.Bool.{cases_Bool, not-true, or_parts, Decides.{eqb_tells}}}
 use Rattle.area_layout.specs.Layout.{pool_buffers}
-use Rattle.board_face.specs.Lists.{count_below}
-use Rattle.board_face.specs.NicEvents.{word_bits}
-use Rattle.board_face.specs.NicCalls.{HasSweptAll, is_lost, lost_of}
-use Rattle.board_face.specs.Used.{used_buffers, UnusedAreCached}
-use Rattle.board_face.specs.declared.views.nic.NicView.{NicView}
-use Rattle.board_face.proofs.Tallies.{weight, weight-le}
-use Rattle.board_face.proofs.ListLemmas.{not-eqb}
-use Rattle.std.proofs.lemmas.Bool.{cases_Bool, not-true, or_parts}
-use Rattle.std.proofs.lemmas.Bool.Decides.{eqb_tells}
-use Rattle.board_face.proofs.Counting.{count-first}
+use Rattle.board_face.specs.{Lists.{count_below}, NicEvents.{word_bits}, NicCalls.{HasSweptAll, is_lost, lost_of}, Used.{used_buffers, UnusedAreCached}}
+use Rattle.board_face.{specs.declared.views.nic.NicView.{NicView}, proofs.{Tallies.{weight, weight-le}, ListLemmas.{not-eqb}, Counting.{count-first}}}
 
 -- ---- how many numbers below n stand in a list
 

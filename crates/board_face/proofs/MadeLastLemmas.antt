@@ -1,34 +1,16 @@
 -- The piece in the making stays the last of its buffer under each event.
 use Rattle.std.proofs.Common.{◌≡◌, ℕ, ◌+◌, ◌<◌, ◌≤◌, Bool, true, false, List, length, set, refl, ap, sym, ◌∙◌, subst, arith}
-use Rattle.std.specs.Prelude.{nat_lt, count_by, Contains, Some, None}
-use Rattle.std.proofs.lemmas.Bool.{lt-ltb}
-use Rattle.std.proofs.lemmas.List.Elements.{All-contains}
-use Rattle.zr_kinds.specs.declared.place.Place.{Place}
-use Rattle.zr_kinds.specs.declared.place.Note.{Note}
-use Rattle.board_face.specs.Tokens.{next_place}
-use Rattle.board_face.specs.NicEvents.{begun, sent, sent_linear}
-use Rattle.board_face.specs.AppEvents.{cut, released, lent, filled, own_bytes, begin_place, lent_own}
-use Rattle.board_face.specs.NicCalls.{HasOwn, HasPiece}
-use Rattle.board_face.specs.AppCalls.{HasHeld, HasSpare, IsFilled}
-use Rattle.board_face.specs.Sides.{nic_at, app_at, IsApp, AreNumbered}
-use Rattle.board_face.specs.Holders.{sent_to, ended_in, returning_count}
-use Rattle.board_face.specs.Fillings.{IsFilledByOne}
-use Rattle.board_face.specs.Places.{places_of, ends_behind, ArePlaced, IsMadeLast}
-use Rattle.board_face.specs.declared.views.parts.Filling.{Filling}
-use Rattle.board_face.specs.declared.views.parts.Making.{Making}
-use Rattle.board_face.specs.declared.views.nic.NicView.{NicView}
-use Rattle.board_face.specs.declared.views.nic.NicSide.{NicSide}
-use Rattle.board_face.specs.declared.views.app.AppSide.{AppSide}
-use Rattle.board_face.proofs.Tallies.{weight, tally}
-use Rattle.board_face.proofs.ListLemmas.{eqb_same, not-eqb}
-use Rattle.board_face.proofs.Parts.{making_in, pool_count-parts, count-tally}
-use Rattle.board_face.proofs.NicLemmas.{making_at}
+use Rattle.std.{specs.Prelude.{nat_lt, count_by, Contains, Some, None}, proofs.lemmas.{Bool.{lt-ltb}, List.Elements.{All-contains}}}
+use Rattle.zr_kinds.specs.declared.place.{Place.{Place}, Note.{Note}}
+use Rattle.board_face.specs.{Tokens.{next_place}, NicEvents.{begun, sent, sent_linear}, AppEvents.{cut, released, lent, filled, own_bytes, begin_place, lent_own}}
+use Rattle.board_face.specs.{NicCalls.{HasOwn, HasPiece}, AppCalls.{HasHeld, HasSpare, IsFilled}, Sides.{nic_at, app_at, IsApp, AreNumbered}}
+use Rattle.board_face.specs.{Holders.{sent_to, ended_in, returning_count}, Fillings.{IsFilledByOne}, Places.{places_of, ends_behind, ArePlaced, IsMadeLast}}
+use Rattle.board_face.specs.declared.views.{parts.{Filling.{Filling}, Making.{Making}}, nic.{NicView.{NicView}, NicSide.{NicSide}}, app.AppSide.{AppSide}}
+use Rattle.board_face.proofs.{Tallies.{weight, tally}, ListLemmas.{eqb_same, not-eqb}, Parts.{making_in, pool_count-parts, count-tally}, NicLemmas.{making_at}}
 use Rattle.board_face.proofs.PlaceTallies.{in_buffer, piece_places, app_places}
 use Rattle.board_face.proofs.PlacesByEvent.{places-nic, places-begun, places-making, places-sent, places-sent_linear}
-use Rattle.board_face.proofs.PlacesByEvent.{places-app, app_places-cut, app_places-released, app_places-lent}
-use Rattle.board_face.proofs.PlacesByEvent.{app_places-filled, app_places-lent_own, places-stretch}
-use Rattle.board_face.proofs.ArePlacedLemmas.{IsBehind, right-weight, none-later, in-none, in-other, not-behind, less_spare}
-use Rattle.board_face.proofs.ArePlacedLemmas.{spare-free, front-ends, rest-ends}
+use Rattle.board_face.proofs.PlacesByEvent.{places-app, app_places-cut, app_places-released, app_places-lent, app_places-filled, app_places-lent_own, places-stretch}
+use Rattle.board_face.proofs.ArePlacedLemmas.{IsBehind, right-weight, none-later, in-none, in-other, not-behind, less_spare, spare-free, front-ends, rest-ends}
 
 -- no place comes, and the piece in the making is the same
 pub IsMadeLast-fewer : (nic nic' : NicSide) (apps apps' : List AppSide) → nic'.inside.making ≡ nic.inside.making

@@ -1,31 +1,13 @@
 -- Where the piece of an application's next note lies: in a pool buffer, with a byte at least, and apart from all that it has.
-use Rattle.std.proofs.Common.{◌≡◌, ℕ, ◌+◌, ◌<◌, ◌≤◌, Bool, true, List}
-use Rattle.std.proofs.Common.{length, refl, ap, ◌∙◌, subst, arith, ⊎_elim}
-use Rattle.std.specs.Prelude.{◌==◌, count_by, filter, All}
-use Rattle.std.proofs.lemmas.Bool.{cases_lt}
-use Rattle.std.proofs.lemmas.List.Elements.{All-head, All-filter, All-drop}
-use Rattle.zr_kinds.specs.declared.place.Place.{Place}
-use Rattle.zr_kinds.specs.declared.place.Note.{Note}
+use Rattle.std.{proofs.Common.{◌≡◌, ℕ, ◌+◌, ◌<◌, ◌≤◌, Bool, true, List, length, refl, ap, ◌∙◌, subst, arith, ⊎_elim}, specs.Prelude.{◌==◌, count_by, filter, All}}
+use Rattle.std.proofs.lemmas.{Bool.{cases_lt}, List.Elements.{All-head, All-filter, All-drop}}
+use Rattle.zr_kinds.specs.declared.place.{Place.{Place}, Note.{Note}}
 use Rattle.area_layout.specs.Layout.{LiesIn, pool_buffers}
-use Rattle.board_face.specs.Sides.{IsApp}
-use Rattle.board_face.specs.Holders.{sent_to, on_way}
-use Rattle.board_face.specs.Counts.{pool_count}
-use Rattle.board_face.specs.Places.{ArePlaced, places_of, has_byte, is_empty}
-use Rattle.board_face.specs.Fillings.{IsFilledByOne}
-use Rattle.board_face.specs.OwnBuffers.{CardLiesInPool}
-use Rattle.board_face.specs.AppCalls.{IsNewPlace}
-use Rattle.board_face.specs.declared.views.nic.SentNote.{SentNote}
-use Rattle.board_face.specs.declared.views.nic.NicSide.{NicSide}
-use Rattle.board_face.specs.declared.views.app.AppSide.{AppSide}
-use Rattle.board_face.proofs.ListLemmas.{eqb_same}
-use Rattle.board_face.proofs.Tallies.{weight, tally}
-use Rattle.board_face.proofs.Parts.{app_count, spares_in, pool_count-parts, count-tally}
-use Rattle.board_face.proofs.PlaceTallies.{in_buffer, app_places, held_places, loan_places, places-parts, first-of, All-some}
-use Rattle.board_face.proofs.IsFilledByOneLemmas.{fillings-alone}
-use Rattle.board_face.proofs.ApartLemmas.{AreApart-all}
-use Rattle.board_face.proofs.LiesLemmas.{total-at, lies-by}
-use Rattle.board_face.proofs.Counting.{All-none}
-use Rattle.board_face.specs.Laws.{IsNextNote}
+use Rattle.board_face.specs.{Sides.{IsApp}, Holders.{sent_to, on_way}, Counts.{pool_count}, Places.{ArePlaced, places_of, has_byte, is_empty}, Fillings.{IsFilledByOne}}
+use Rattle.board_face.specs.{OwnBuffers.{CardLiesInPool}, AppCalls.{IsNewPlace}, declared.views.{nic.{SentNote.{SentNote}, NicSide.{NicSide}}, app.AppSide.{AppSide}}}
+use Rattle.board_face.proofs.{ListLemmas.{eqb_same}, Tallies.{weight, tally}, Parts.{app_count, spares_in, pool_count-parts, count-tally}}
+use Rattle.board_face.proofs.{PlaceTallies.{in_buffer, app_places, held_places, loan_places, places-parts, first-of, All-some}, IsFilledByOneLemmas.{fillings-alone}}
+use Rattle.board_face.{proofs.{ApartLemmas.{AreApart-all}, LiesLemmas.{total-at, lies-by}, Counting.{All-none}}, specs.Laws.{IsNextNote}}
 
 module _ (nic : NicSide) (apps : List AppSide) (a : ℕ) (app : AppSide) (here : IsApp apps a app) (note : Note) (next : IsNextNote nic app note)
     (split : note.split ≡ true) where

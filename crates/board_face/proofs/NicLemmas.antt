@@ -1,35 +1,18 @@
 -- What each event of the card does to the counts of every buffer.
 use Rattle.std.proofs.Common.{◌≡◌, ℕ, zero, suc, ◌+◌, ◌-◌, ◌<◌, ◌≤◌, min, Bool, true, false, cond, eqb, List, [], ◌∷◌, ◌++◌}
-use Rattle.std.proofs.Common.{length, drop, refl, ap, sym, arith, ⊎_elim, subst}
-use Rattle.std.specs.Prelude.{Option, Some, None, if◌then◌else◌, ◌≢◌, filter, ◌==◌, ◌&&◌}
-use Rattle.std.proofs.lemmas.List.{append-nil, map-id}
-use Rattle.std.proofs.lemmas.Bool.{eq-eqb}
-use Rattle.std.proofs.lemmas.Bool.Decides.{eqb_tells}
-use Rattle.std.proofs.lemmas.List.Elements.{filter-append}
-use Rattle.zr_kinds.specs.declared.place.Note.{Note}
-use Rattle.zr_kinds.specs.declared.ring.Rqe.{Rqe}
-use Rattle.board_face.specs.Lists.{without, same_place}
-use Rattle.board_face.specs.Tokens.{filled_by, next_place, same_filling}
+use Rattle.std.{proofs.Common.{length, drop, refl, ap, sym, arith, ⊎_elim, subst}, specs.Prelude.{Option, Some, None, if◌then◌else◌, ◌≢◌, filter, ◌==◌, ◌&&◌}}
+use Rattle.std.proofs.lemmas.{List.{append-nil, map-id, Elements.{filter-append}}, Bool.{eq-eqb, Decides.{eqb_tells}}}
+use Rattle.zr_kinds.specs.declared.{place.Note.{Note}, ring.Rqe.{Rqe}}
+use Rattle.board_face.specs.{Lists.{without, same_place}, Tokens.{filled_by, next_place, same_filling}}
 use Rattle.board_face.specs.NicEvents.{begun, text_done, fresh, took, swept, placed, sent, sent_linear, gave_up, shut, passed_over, honoured, text_at}
-use Rattle.board_face.specs.NicCalls.{HasOwn, HasPiece}
-use Rattle.board_face.specs.Sides.{nic_at, IsApp, AreNumbered}
-use Rattle.board_face.specs.Holders.{sent_to, on_way, is_honoured_for, ended_in, returning_count}
-use Rattle.board_face.specs.Counts.{pool_count, user_count, EndedWereReturned}
-use Rattle.board_face.specs.declared.views.parts.Filling.{Filling}
-use Rattle.board_face.specs.declared.views.parts.Making.{Making}
-use Rattle.board_face.specs.declared.views.nic.SentNote.{SentNote}
-use Rattle.board_face.specs.declared.views.nic.PlacedText.{PlacedText}
-use Rattle.board_face.specs.declared.views.nic.Dealt.{Dealt}
-use Rattle.board_face.specs.declared.views.nic.Fate.TheVariants.{Honoured, Stray}
-use Rattle.board_face.specs.declared.views.nic.NicView.{NicView}
-use Rattle.board_face.specs.declared.views.nic.NicSide.{NicSide}
-use Rattle.board_face.specs.declared.views.app.AppInside.{AppInside}
-use Rattle.board_face.specs.declared.views.app.AppSide.{AppSide}
+use Rattle.board_face.specs.{NicCalls.{HasOwn, HasPiece}, Sides.{nic_at, IsApp, AreNumbered}, Holders.{sent_to, on_way, is_honoured_for, ended_in, returning_count}}
+use Rattle.board_face.specs.{Counts.{pool_count, user_count, EndedWereReturned}, declared.views.{parts.{Filling.{Filling}, Making.{Making}}, nic.SentNote.{SentNote}}}
+use Rattle.board_face.specs.declared.views.nic.{PlacedText.{PlacedText}, Dealt.{Dealt}, Fate.TheVariants.{Honoured, Stray}, NicView.{NicView}, NicSide.{NicSide}}
+use Rattle.board_face.specs.declared.views.app.{AppInside.{AppInside}, AppSide.{AppSide}}
 use Rattle.board_face.proofs.ListLemmas.{same_place-refl, same_filling-refl, same_place-is, same_filling-is, not-eqb}
 use Rattle.board_face.proofs.Tallies.{weight, tally, total, tally-append, tally-push, tally-without, total-agree}
 use Rattle.board_face.proofs.Parts.{returned_in-count, making_in, sent_in, returning_in_count, nic_count, app_count, user_part, loans_in, notes_in}
-use Rattle.board_face.proofs.Parts.{came_back_in, owed_count, pool_count-parts, user_count-parts, total-shift, count-tally}
-use Rattle.board_face.proofs.Counting.{weight-and, user_case}
+use Rattle.board_face.proofs.{Parts.{came_back_in, owed_count, pool_count-parts, user_count-parts, total-shift, count-tally}, Counting.{weight-and, user_case}}
 
 -- ---- events that send nothing and deal with nothing
 

@@ -1,30 +1,14 @@
 -- A board that was just opened: nobody has a buffer, no text lies anywhere, and nothing is owed.
-use Rattle.std.proofs.Common.{◌≡◌, ℕ, zero, suc, ◌<◌, List, [], ◌∷◌, length, get_or, replicate, Bool, refl, sym, subst, arith}
-use Rattle.std.specs.List.{flat_map}
+use Rattle.std.{proofs.Common.{◌≡◌, ℕ, zero, suc, ◌<◌, List, [], ◌∷◌, length, get_or, replicate, Bool, refl, sym, subst, arith}, specs.List.{flat_map}}
 use Rattle.std.specs.Prelude.{All, true, false, nat_eq, count_by, ◌==◌, if◌then◌else◌}
 use Rattle.std.proofs.lemmas.List.Elements.{All-nil, All-cons, All-head, All-tail, All-drop, All-weaker}
 use Rattle.area_layout.specs.Layout.{pool_buffers, size_of}
-use Rattle.board_face.specs.AppEvents.{begin_place}
-use Rattle.board_face.specs.Holders.{ended_in}
-use Rattle.board_face.specs.Counts.{pool_count, user_count}
-use Rattle.board_face.specs.Sides.{AreNumbered}
-use Rattle.board_face.specs.Fillings.{IsFilledByOne, FillingsFit}
-use Rattle.board_face.specs.Places.{has_byte, is_empty, ends_behind, ArePlaced}
-use Rattle.board_face.specs.Shown.{IsShown, text_of, AppIsShown, AreShown}
-use Rattle.board_face.specs.Opened.{new_nic, new_app, new_apps}
-use Rattle.board_face.specs.declared.views.parts.Setting.{Setting}
-use Rattle.board_face.specs.declared.views.parts.Filling.{Filling}
-use Rattle.board_face.specs.declared.views.nic.PlacedText.{PlacedText}
-use Rattle.board_face.specs.declared.views.nic.SentNote.{SentNote}
-use Rattle.board_face.specs.declared.views.app.HeldPiece.{HeldPiece}
-use Rattle.board_face.specs.declared.views.app.LentPiece.{LentPiece}
-use Rattle.board_face.specs.declared.views.app.SpareOwn.{SpareOwn}
-use Rattle.board_face.specs.declared.views.app.AppSide.{AppSide}
-use Rattle.board_face.proofs.Tallies.{total}
-use Rattle.board_face.proofs.Parts.{app_count, user_part, pool_count-parts, user_count-parts}
-use Rattle.board_face.proofs.IsFilledByOneLemmas.{IsFilledByOne-from, fillings-held}
-use Rattle.board_face.proofs.FillingsFitLemmas.{IsFit, AreFit}
-use Rattle.board_face.proofs.ArePlacedLemmas.{IsBehind, places-none}
+use Rattle.board_face.specs.{AppEvents.{begin_place}, Holders.{ended_in}, Counts.{pool_count, user_count}, Sides.{AreNumbered}, Fillings.{IsFilledByOne, FillingsFit}}
+use Rattle.board_face.specs.{Places.{has_byte, is_empty, ends_behind, ArePlaced}, Shown.{IsShown, text_of, AppIsShown, AreShown}, Opened.{new_nic, new_app, new_apps}}
+use Rattle.board_face.specs.declared.views.{parts.{Setting.{Setting}, Filling.{Filling}}, nic.{PlacedText.{PlacedText}, SentNote.{SentNote}}, app.HeldPiece.{HeldPiece}}
+use Rattle.board_face.{specs.declared.views.app.{LentPiece.{LentPiece}, SpareOwn.{SpareOwn}, AppSide.{AppSide}}, proofs.Tallies.{total}}
+use Rattle.board_face.proofs.{Parts.{app_count, user_part, pool_count-parts, user_count-parts}, IsFilledByOneLemmas.{IsFilledByOne-from, fillings-held}}
+use Rattle.board_face.proofs.{FillingsFitLemmas.{IsFit, AreFit}, ArePlacedLemmas.{IsBehind, places-none}}
 
 -- the application has done nothing
 abbrev pub IsNew : Setting → AppSide → Type 0

@@ -1,32 +1,16 @@
 -- Where holdings lie: what each event leaves of that.
-use Rattle.std.proofs.Common.{◌≡◌, ℕ, ◌<◌, true, false, List, [], ◌∷◌, length, map, set, sym, ◌∙◌, subst, inl}
-use Rattle.std.proofs.lemmas.Bool.{false≢true}
+use Rattle.std.proofs.{Common.{◌≡◌, ℕ, ◌<◌, true, false, List, [], ◌∷◌, length, map, set, sym, ◌∙◌, subst, inl}, lemmas.Bool.{false≢true}}
 use Rattle.std.proofs.lemmas.List.Elements.{All-nil, All-set, All-push, All-append, All-cons, All-map, All-contains, All-get_or}
-use Rattle.zr_kinds.specs.declared.place.Place.{Place}
-use Rattle.zr_kinds.specs.declared.place.Note.{Note}
+use Rattle.zr_kinds.specs.declared.place.{Place.{Place}, Note.{Note}}
 use Rattle.area_layout.specs.Layout.{pool_buffers}
-use Rattle.board_face.specs.Lists.{same_place}
-use Rattle.board_face.specs.Tokens.{filled_by, next_place, same_filling}
-use Rattle.board_face.specs.Texts.{front_place, rest_place, further}
-use Rattle.board_face.specs.NicEvents.{fresh, placed, text_at, sent, sent_linear}
-use Rattle.board_face.specs.NicCalls.{HasPiece}
+use Rattle.board_face.specs.{Lists.{same_place}, Tokens.{filled_by, next_place, same_filling}, Texts.{front_place, rest_place, further}}
+use Rattle.board_face.specs.{NicEvents.{fresh, placed, text_at, sent, sent_linear}, NicCalls.{HasPiece}}
 use Rattle.board_face.specs.AppEvents.{took_note, held_origin, helds_without, cut, released, lent, loan_origin, abandoned, got_spare, owns_without, filled}
-use Rattle.board_face.specs.AppEvents.{own_bytes, begin_place, lent_own}
-use Rattle.board_face.specs.AppCalls.{HasHeld, HasLoan, HasSpare}
-use Rattle.board_face.specs.Sides.{nic_at, IsApp}
-use Rattle.board_face.specs.OwnBuffers.{IsOwnBuffer, CardLiesInPool, AppLiesInOwn, LieInOwn}
-use Rattle.board_face.specs.declared.views.parts.Filling.{Filling}
-use Rattle.board_face.specs.declared.views.nic.PlacedText.{PlacedText}
-use Rattle.board_face.specs.declared.views.nic.SentNote.{SentNote}
-use Rattle.board_face.specs.declared.views.nic.NicView.{NicView}
-use Rattle.board_face.specs.declared.views.nic.NicSide.{NicSide}
-use Rattle.board_face.specs.declared.views.app.Origin.TheVariants.{Note as of_note, Copied as of_copy}
-use Rattle.board_face.specs.declared.views.app.HeldPiece.{HeldPiece}
-use Rattle.board_face.specs.declared.views.app.LentPiece.{LentPiece}
-use Rattle.board_face.specs.declared.views.app.SpareOwn.{SpareOwn}
-use Rattle.board_face.specs.declared.views.app.AppView.{AppView}
-use Rattle.board_face.specs.declared.views.app.AppSide.{AppSide}
-use Rattle.board_face.proofs.ListLemmas.{All-without}
+use Rattle.board_face.specs.{AppEvents.{own_bytes, begin_place, lent_own}, AppCalls.{HasHeld, HasLoan, HasSpare}, Sides.{nic_at, IsApp}}
+use Rattle.board_face.specs.{OwnBuffers.{IsOwnBuffer, CardLiesInPool, AppLiesInOwn, LieInOwn}, declared.views.{parts.Filling.{Filling}, nic.PlacedText.{PlacedText}}}
+use Rattle.board_face.specs.declared.views.nic.{SentNote.{SentNote}, NicView.{NicView}, NicSide.{NicSide}}
+use Rattle.board_face.specs.declared.views.app.{Origin.TheVariants.{Note as of_note, Copied as of_copy}, HeldPiece.{HeldPiece}, LentPiece.{LentPiece}}
+use Rattle.board_face.{specs.declared.views.app.{SpareOwn.{SpareOwn}, AppView.{AppView}, AppSide.{AppSide}}, proofs.ListLemmas.{All-without}}
 
 -- ---- the card's events
 

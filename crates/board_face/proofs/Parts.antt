@@ -1,19 +1,12 @@
 -- The counts of a buffer as sums of numbers, one for each kind of holding.
 use Rattle.std.proofs.Common.{◌≡◌, ℕ, zero, suc, ◌+◌, ◌-◌, ◌<◌, min, Bool, true, false, List, [], ◌∷◌, ◌++◌, length, map, get_or}
-use Rattle.std.proofs.Common.{refl, ap, sym, ◌∙◌, arith, length-append, length-drop, length-take}
-use Rattle.std.specs.Prelude.{if◌then◌else◌, ◌≢◌, filter, count_by, ◌==◌}
-use Rattle.std.specs.List.{flat_map}
-use Rattle.std.proofs.lemmas.List.{length-map}
-use Rattle.std.proofs.lemmas.List.Sums.{length-filter}
+use Rattle.std.{proofs.Common.{refl, ap, sym, ◌∙◌, arith, length-append, length-drop, length-take}, specs.Prelude.{if◌then◌else◌, ◌≢◌, filter, count_by, ◌==◌}}
+use Rattle.std.{specs.List.{flat_map}, proofs.lemmas.{List.{length-map, Sums.{length-filter}}, Bool.{eq-eqb, ne_eqb}}}
 use Rattle.board_face.specs.Sides.{AreNumbered, IsApp}
 use Rattle.board_face.specs.Holders.{Kind, own, piece, sent, held, spare, loan, owed, returning, places_in, on_way, sent_places, returned_in, ended_in}
 use Rattle.board_face.specs.Holders.{returning_count, owed_in, returning_in, making_places, nic_holders, app_holders, holders_of}
-use Rattle.board_face.specs.Counts.{pool_count, is_user, user_count}
-use Rattle.board_face.specs.declared.views.nic.SentNote.{SentNote}
-use Rattle.board_face.specs.declared.views.nic.NicSide.{NicSide}
-use Rattle.board_face.specs.declared.views.app.AppSide.{AppSide}
+use Rattle.board_face.specs.{Counts.{pool_count, is_user, user_count}, declared.views.{nic.{SentNote.{SentNote}, NicSide.{NicSide}}, app.AppSide.{AppSide}}}
 use Rattle.board_face.proofs.Tallies.{tally, total, tally-append, length-tally, tally-map, length-flat, tally-flat, total-agree, tally-agree}
-use Rattle.std.proofs.lemmas.Bool.{eq-eqb, ne_eqb}
 
 -- ---- the numbers
 

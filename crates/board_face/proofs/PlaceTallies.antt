@@ -1,20 +1,14 @@
 -- What each event does to the places of a buffer: how many of them meet a test, as that a byte lies there.
 use Rattle.std.proofs.Common.{◌≡◌, ℕ, ◌+◌, ◌<◌, Bool, true, false, cond, List, [], ◌∷◌, ◌++◌, length, map, refl, ap, ◌∙◌, arith, ⊎_elim}
-use Rattle.std.specs.Prelude.{filter, ◌==◌, ◌&&◌, nat_lt, if◌then◌else◌, All}
-use Rattle.std.specs.List.{flat_map}
+use Rattle.std.{specs.{Prelude.{filter, ◌==◌, ◌&&◌, nat_lt, if◌then◌else◌, All}, List.{flat_map}}, proofs.lemmas.List.Elements.{All-nil, All-cons}}
+use Rattle.std.proofs.lemmas.Bool.{eq-eqb, cases_lt}
 use Rattle.zr_kinds.specs.declared.place.Place.{Place}
 use Rattle.board_face.specs.AppEvents.{begin_place}
 use Rattle.board_face.specs.Holders.{Kind, own, piece, sent, held, spare, loan, owed, returning, places_in, on_way, sent_places, owed_in, returning_in}
-use Rattle.board_face.specs.Holders.{making_places, nic_holders, app_holders, holders_of}
-use Rattle.board_face.specs.Places.{kind_place, filled_places, places_of, is_empty}
-use Rattle.board_face.specs.declared.views.nic.NicSide.{NicSide}
-use Rattle.board_face.specs.declared.views.app.AppSide.{AppSide}
-use Rattle.board_face.proofs.Tallies.{weight, tally, total, tally-append, tally-map, tally-flat, total-append, total-agree}
-use Rattle.board_face.proofs.Counting.{total-flat}
-use Rattle.board_face.specs.declared.views.nic.SentNote.{SentNote}
-use Rattle.board_face.proofs.ListLemmas.{eqb_same}
-use Rattle.std.proofs.lemmas.List.Elements.{All-nil, All-cons}
-use Rattle.std.proofs.lemmas.Bool.{eq-eqb, cases_lt}
+use Rattle.board_face.specs.{Holders.{making_places, nic_holders, app_holders, holders_of}, Places.{kind_place, filled_places, places_of, is_empty}}
+use Rattle.board_face.specs.declared.views.{nic.NicSide.{NicSide}, app.AppSide.{AppSide}}
+use Rattle.board_face.proofs.{Tallies.{weight, tally, total, tally-append, tally-map, tally-flat, total-append, total-agree}, Counting.{total-flat}}
+use Rattle.board_face.{specs.declared.views.nic.SentNote.{SentNote}, proofs.ListLemmas.{eqb_same}}
 
 -- a place in the buffer that meets the test
 abbrev pub in_buffer : ℕ → (Place → Bool) → Place → Bool

@@ -2,45 +2,23 @@
 -- which none shares a byte with the other stay so, since no count rises but where a piece is placed or a spare filled.
 use Rattle.std.proofs.Common.{◌≡◌, ℕ, zero, suc, ◌+◌, ◌-◌, ◌≤◌, Bool, true, false, cond, List, [], ◌∷◌, ◌++◌, length, map, take}
 use Rattle.std.proofs.Common.{drop, set, refl, ap, sym, ◌∙◌, arith, add-zero, zero-add}
-use Rattle.std.specs.Prelude.{◌≢◌, filter, ◌==◌, ◌&&◌, nat_lt, slice_index, Contains, Some, None}
-use Rattle.std.proofs.lemmas.List.{map-append, drop-append-le, take-append-drop}
+use Rattle.std.{specs.Prelude.{◌≢◌, filter, ◌==◌, ◌&&◌, nat_lt, slice_index, Contains, Some, None}, proofs.lemmas.List.{map-append, drop-append-le, take-append-drop}}
 use Rattle.std.proofs.lemmas.List.Elements.{filter-append}
-use Rattle.zr_kinds.specs.declared.place.Place.{Place}
-use Rattle.zr_kinds.specs.declared.place.Note.{Note}
-use Rattle.zr_kinds.specs.declared.ring.Rqe.{Rqe}
-use Rattle.board_face.specs.Lists.{without, at_first, same_place}
-use Rattle.board_face.specs.Tokens.{next_place, filled_by, same_filling}
-use Rattle.board_face.specs.Texts.{further, front_place, rest_place}
+use Rattle.zr_kinds.specs.declared.{place.{Place.{Place}, Note.{Note}}, ring.Rqe.{Rqe}}
+use Rattle.board_face.specs.{Lists.{without, at_first, same_place}, Tokens.{next_place, filled_by, same_filling}, Texts.{further, front_place, rest_place}}
 use Rattle.board_face.specs.NicEvents.{begun, text_done, fresh, placed, sent, sent_linear, honoured, passed_over, text_at}
 use Rattle.board_face.specs.AppEvents.{took_note, took_linear, held_origin, helds_without, cut, released, lent, loans_without, abandoned, got_spare}
-use Rattle.board_face.specs.AppEvents.{owns_without, filled, own_bytes, begin_place, lent_own}
-use Rattle.board_face.specs.NicCalls.{HasPiece}
-use Rattle.board_face.specs.AppCalls.{HasHeld, HasLoan}
-use Rattle.board_face.specs.Sides.{nic_at, app_at, IsApp, AreNumbered}
-use Rattle.board_face.specs.Holders.{sent_to, on_way, returned_in, ended_in, returning_count, making_places}
-use Rattle.board_face.specs.Counts.{EndedWereReturned}
-use Rattle.board_face.specs.Places.{places_of}
-use Rattle.board_face.specs.declared.views.parts.Filling.{Filling}
-use Rattle.board_face.specs.declared.views.parts.Making.{Making}
-use Rattle.board_face.specs.declared.views.nic.PlacedText.{PlacedText}
-use Rattle.board_face.specs.declared.views.nic.SentNote.{SentNote}
-use Rattle.board_face.specs.declared.views.nic.NicView.{NicView}
-use Rattle.board_face.specs.declared.views.nic.NicSide.{NicSide}
-use Rattle.board_face.specs.declared.views.app.Origin.TheVariants.{Note as of_note, Copied as of_copy}
-use Rattle.board_face.specs.declared.views.app.HeldPiece.{HeldPiece}
-use Rattle.board_face.specs.declared.views.app.LentPiece.{LentPiece}
-use Rattle.board_face.specs.declared.views.app.SpareOwn.{SpareOwn}
-use Rattle.board_face.specs.declared.views.app.TakenNote.{TakenNote}
-use Rattle.board_face.specs.declared.views.app.AppInside.{AppInside}
-use Rattle.board_face.specs.declared.views.app.AppView.{AppView}
-use Rattle.board_face.specs.declared.views.app.AppSide.{AppSide}
+use Rattle.board_face.specs.{AppEvents.{owns_without, filled, own_bytes, begin_place, lent_own}, NicCalls.{HasPiece}, AppCalls.{HasHeld, HasLoan}}
+use Rattle.board_face.specs.{Sides.{nic_at, app_at, IsApp, AreNumbered}, Holders.{sent_to, on_way, returned_in, ended_in, returning_count, making_places}}
+use Rattle.board_face.specs.{Counts.{EndedWereReturned}, Places.{places_of}, declared.views.{parts.{Filling.{Filling}, Making.{Making}}, nic.PlacedText.{PlacedText}}}
+use Rattle.board_face.specs.declared.views.nic.{SentNote.{SentNote}, NicView.{NicView}, NicSide.{NicSide}}
+use Rattle.board_face.specs.declared.views.app.{Origin.TheVariants.{Note as of_note, Copied as of_copy}, HeldPiece.{HeldPiece}, LentPiece.{LentPiece}}
+use Rattle.board_face.specs.declared.views.app.{SpareOwn.{SpareOwn}, TakenNote.{TakenNote}, AppInside.{AppInside}, AppView.{AppView}, AppSide.{AppSide}}
 use Rattle.board_face.proofs.ListLemmas.{same_place-is, same_place-refl, same_filling-is}
-use Rattle.board_face.proofs.Tallies.{total-le, weight, tally, total, tally-append, tally-push, tally-without, total-set}
-use Rattle.board_face.proofs.Parts.{total-shift}
+use Rattle.board_face.proofs.{Tallies.{total-le, weight, tally, total, tally-append, tally-push, tally-without, total-set}, Parts.{total-shift}}
 use Rattle.board_face.proofs.NicLemmas.{making_at, sent_to-other, sent_to-same, drop-push, ended_in-honoured, ended_in-passed_over}
 use Rattle.board_face.proofs.AppLemmas.{SameHoldings, after-taken, scrubbed_side}
-use Rattle.board_face.proofs.PlaceTallies.{tally-filter, in_buffer, piece_places, way_places, app_places, places-parts}
-use Rattle.board_face.specs.Laws.{IsNextNote}
+use Rattle.board_face.{proofs.PlaceTallies.{tally-filter, in_buffer, piece_places, way_places, app_places, places-parts}, specs.Laws.{IsNextNote}}
 
 -- ---- the card's events that send nothing and deal with nothing
 

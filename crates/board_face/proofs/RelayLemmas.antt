@@ -1,29 +1,13 @@
 -- What each event does to the notes and entries on their way.
 use Rattle.std.proofs.Common.{◌≡◌, ℕ, zero, suc, ◌<◌, ◌≤◌, Bool, true, false, eqb, List, [], ◌∷◌, ◌++◌, length, map, take, drop}
-use Rattle.std.proofs.Common.{refl, ap, sym, ◌∙◌, arith, subst, ⊎_elim, append_assoc, length-append}
-use Rattle.std.specs.Prelude.{◌≢◌, filter, ◌==◌}
-use Rattle.std.proofs.lemmas.List.{append-nil, map-append, length-map}
-use Rattle.std.proofs.lemmas.List.Elements.{filter-append, All-push, All-weaker}
-use Rattle.std.proofs.lemmas.Bool.{eq-eqb, cases_lt}
+use Rattle.std.{proofs.Common.{refl, ap, sym, ◌∙◌, arith, subst, ⊎_elim, append_assoc, length-append}, specs.Prelude.{◌≢◌, filter, ◌==◌}}
+use Rattle.std.proofs.lemmas.{List.{append-nil, map-append, length-map, Elements.{filter-append, All-push, All-weaker}}, Bool.{eq-eqb, cases_lt}}
 use Rattle.zr_kinds.specs.declared.ring.Rqe.{Rqe}
-use Rattle.board_face.specs.Sides.{nic_at, app_at}
-use Rattle.board_face.specs.Holders.{sent_to, on_way}
-use Rattle.board_face.specs.Shown.{origin_bytes, bytes_sent}
-use Rattle.board_face.specs.Relay.{as_taken, IsAsSent, Relayed}
-use Rattle.board_face.specs.declared.views.nic.SentNote.{SentNote}
-use Rattle.board_face.specs.declared.views.nic.Dealt.{Dealt}
-use Rattle.board_face.specs.declared.views.nic.NicView.{NicView}
-use Rattle.board_face.specs.declared.views.nic.NicSide.{NicSide}
-use Rattle.board_face.specs.declared.views.app.Origin.{Origin}
-use Rattle.board_face.specs.declared.views.app.Origin.TheVariants.{Note as of_note, Copied as of_copy}
-use Rattle.board_face.specs.declared.views.app.TakenNote.{TakenNote}
-use Rattle.board_face.specs.declared.views.app.WrittenEntry.{WrittenEntry}
-use Rattle.board_face.specs.declared.views.app.Reading.{Reading}
-use Rattle.board_face.specs.declared.views.app.AppView.{AppView}
-use Rattle.board_face.specs.declared.views.app.AppSide.{AppSide}
-use Rattle.board_face.proofs.ListLemmas.{not-eqb}
-use Rattle.board_face.proofs.NicLemmas.{sent_to-other, sent_to-same}
-use Rattle.board_face.specs.Laws.{IsNextNote}
+use Rattle.board_face.specs.{Sides.{nic_at, app_at}, Holders.{sent_to, on_way}, Shown.{origin_bytes, bytes_sent}, Relay.{as_taken, IsAsSent, Relayed}}
+use Rattle.board_face.specs.declared.views.{nic.{SentNote.{SentNote}, Dealt.{Dealt}, NicView.{NicView}, NicSide.{NicSide}}, app.Origin.{Origin}}
+use Rattle.board_face.specs.declared.views.app.{Origin.TheVariants.{Note as of_note, Copied as of_copy}, TakenNote.{TakenNote}, WrittenEntry.{WrittenEntry}}
+use Rattle.board_face.{specs.declared.views.app.{Reading.{Reading}, AppView.{AppView}, AppSide.{AppSide}}, proofs.ListLemmas.{not-eqb}}
+use Rattle.board_face.{proofs.NicLemmas.{sent_to-other, sent_to-same}, specs.Laws.{IsNextNote}}
 
 -- ---- what is on its way
 

@@ -1,10 +1,7 @@
 -- Returns on their way.
-use Rattle.std.proofs.Common.{◌≡◌, ℕ, true, false, List, [], ◌∷◌, sym, ◌∙◌}
-use Rattle.std.specs.Prelude.{All}
-use Rattle.std.proofs.lemmas.List.Elements.{All-head, All-tail}
+use Rattle.std.{proofs.{Common.{◌≡◌, ℕ, true, false, List, [], ◌∷◌, sym, ◌∙◌}, lemmas.List.Elements.{All-head, All-tail}}, specs.Prelude.{All}}
 use Rattle.area_layout.specs.Layout.{Shape}
-use Rattle.board_face.specs.Returns.{IsOfLoan, IsClear}
-use Rattle.board_face.specs.declared.views.app.WrittenEntry.{WrittenEntry}
+use Rattle.board_face.specs.{Returns.{IsOfLoan, IsClear}, declared.views.app.WrittenEntry.{WrittenEntry}}
 
 -- where each entry came from a loan, no raw one is in front of any
 pub IsClear-of_loans : (layout : Shape) (b n : ℕ) (ws : List WrittenEntry) → All IsOfLoan ws → IsClear layout b n ws

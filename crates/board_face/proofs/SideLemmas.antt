@@ -1,7 +1,6 @@
 -- Applications that are numbered in order stay so, and each is found by its number.
 use Rattle.std.proofs.Common.{◌≡◌, ℕ, zero, suc, ◌+◌, ◌<◌, List, [], ◌∷◌, length, get_or, set, refl, arith}
-use Rattle.board_face.specs.Sides.{IsApp, AreNumbered}
-use Rattle.board_face.specs.declared.views.app.AppSide.{AppSide}
+use Rattle.board_face.specs.{Sides.{IsApp, AreNumbered}, declared.views.app.AppSide.{AppSide}}
 
 -- one application's side changes, and not its number
 pub AreNumbered-set : (n : ℕ) (apps : List AppSide) (i : ℕ) (now : AppSide) → now.view.app ≡ n + i → AreNumbered n apps

@@ -1,29 +1,13 @@
 -- Bytes are stored at a place in which no byte of a text lies: every text stays shown.
-use Rattle.std.proofs.Common.{◌≡◌, ℕ, ◌+◌, ◌<◌, ◌≤◌, Bool, true, false, cond, List, [], ◌∷◌, length, map, drop, refl, ap, sym}
-use Rattle.std.proofs.Common.{◌∙◌, subst, inl, inr, ⊎_elim, arith}
-use Rattle.std.specs.Prelude.{◌≢◌, ◌⊎◌, filter, ◌==◌, ◌&&◌, nat_lt, count_by, All, Some}
-use Rattle.std.proofs.lemmas.Bool.{eq-eqb, eqb-true, cases_lt, lt-ltb}
-use Rattle.std.proofs.lemmas.Bool.Decides.{eqb_tells}
-use Rattle.std.proofs.lemmas.List.{drop-map}
-use Rattle.std.proofs.lemmas.List.Elements.{All-nil, All-cons, All-head, All-tail, All-drop, All-weaker, filter_passes}
+use Rattle.std.proofs.Common.{◌≡◌, ℕ, ◌+◌, ◌<◌, ◌≤◌, Bool, true, false, cond, List, [], ◌∷◌, length, map, drop, refl, ap, sym, ◌∙◌, subst, inl, inr, ⊎_elim, arith}
+use Rattle.std.{specs.Prelude.{◌≢◌, ◌⊎◌, filter, ◌==◌, ◌&&◌, nat_lt, count_by, All, Some}, proofs.lemmas.Bool.{eq-eqb, eqb-true, cases_lt, lt-ltb, Decides.{eqb_tells}}}
+use Rattle.std.proofs.lemmas.List.{drop-map, Elements.{All-nil, All-cons, All-head, All-tail, All-drop, All-weaker, filter_passes}}
 use Rattle.zr_kinds.specs.declared.place.Place.{Place}
-use Rattle.board_face.specs.AppEvents.{begin_place}
-use Rattle.board_face.specs.Holders.{on_way, ended_in, owed_in, making_places}
-use Rattle.board_face.specs.Places.{places_of, has_byte, ends_behind, ArePlaced}
-use Rattle.board_face.specs.Shown.{owed_loans, CardIsShown, AppIsShown}
-use Rattle.board_face.specs.declared.views.parts.Making.{Making}
-use Rattle.board_face.specs.declared.views.nic.PlacedText.{PlacedText}
-use Rattle.board_face.specs.declared.views.nic.SentNote.{SentNote}
-use Rattle.board_face.specs.declared.views.nic.NicSide.{NicSide}
-use Rattle.board_face.specs.declared.views.app.HeldPiece.{HeldPiece}
-use Rattle.board_face.specs.declared.views.app.LentPiece.{LentPiece}
-use Rattle.board_face.specs.declared.views.app.SpareOwn.{SpareOwn}
-use Rattle.board_face.specs.declared.views.app.AppSide.{AppSide}
-use Rattle.board_face.proofs.Tallies.{weight, tally, total, tally-map}
-use Rattle.board_face.proofs.Parts.{count-tally}
-use Rattle.board_face.proofs.PlaceTallies.{in_buffer, app_places, places-parts, tally-filter}
-use Rattle.board_face.proofs.ApartLemmas.{has-weight}
-use Rattle.board_face.proofs.ArePlacedLemmas.{tally-fewer, right-weight, none-has}
+use Rattle.board_face.specs.{AppEvents.{begin_place}, Holders.{on_way, ended_in, owed_in, making_places}, Places.{places_of, has_byte, ends_behind, ArePlaced}}
+use Rattle.board_face.specs.{Shown.{owed_loans, CardIsShown, AppIsShown}, declared.views.{parts.Making.{Making}, nic.{PlacedText.{PlacedText}, SentNote.{SentNote}}}}
+use Rattle.board_face.specs.declared.views.{nic.NicSide.{NicSide}, app.{HeldPiece.{HeldPiece}, LentPiece.{LentPiece}, SpareOwn.{SpareOwn}, AppSide.{AppSide}}}
+use Rattle.board_face.proofs.{Tallies.{weight, tally, total, tally-map}, Parts.{count-tally}, PlaceTallies.{in_buffer, app_places, places-parts, tally-filter}}
+use Rattle.board_face.proofs.{ApartLemmas.{has-weight}, ArePlacedLemmas.{tally-fewer, right-weight, none-has}}
 use Rattle.board_face.proofs.TextsByEvent.{IsKept, CardIsShown-stored, AppIsShown-stored}
 
 -- bytes are stored at the place alone

@@ -1,8 +1,6 @@
 -- How many elements of a list meet a test, and sums over a list, by recursion, so that they compute.
 use Rattle.std.proofs.Common.{◌≡◌, ℕ, zero, suc, ◌+◌, ◌<◌, ◌≤◌, Bool, true, false, cond, List, [], ◌∷◌, ◌++◌, length, map}
-use Rattle.std.proofs.Common.{get_or, set, refl, ap, sym, ◌∙◌, arith, length-append}
-use Rattle.std.specs.Prelude.{if◌then◌else◌, filter, Contains}
-use Rattle.std.specs.List.{flat_map}
+use Rattle.std.{proofs.Common.{get_or, set, refl, ap, sym, ◌∙◌, arith, length-append}, specs.{Prelude.{if◌then◌else◌, filter, Contains}, List.{flat_map}}}
 use Rattle.std.proofs.lemmas.Bool.{false≢true}
 use Rattle.board_face.specs.Lists.{without}
 

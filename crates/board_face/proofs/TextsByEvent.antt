@@ -1,46 +1,22 @@
 -- What each event leaves of the texts that are shown, while the area's bytes stay as they are.
 use Rattle.std.proofs.Common.{◌<◌, ◌≡◌, ℕ, zero, suc, ◌+◌, ◌-◌, ◌≤◌, Bool, true, false, cond, List, [], ◌∷◌, ◌++◌, length}
-use Rattle.std.proofs.Common.{map, take, drop, refl, ap, sym, ◌∙◌, subst, ⊎_elim, arith, length-take, length-drop, get_or-take, get_or-drop, zero-add}
-use Rattle.std.proofs.Common.{add_assoc}
-use Rattle.std.specs.Prelude.{◌≢◌, filter, ◌==◌, All, Contains, Option}
-use Rattle.std.proofs.lemmas.List.{drop-append-le, length-take-le}
-use Rattle.std.proofs.Math.Seq.{take-length}
+use Rattle.std.proofs.Common.{map, take, drop, refl, ap, sym, ◌∙◌, subst, ⊎_elim, arith, length-take, length-drop, get_or-take, get_or-drop, zero-add, add_assoc}
+use Rattle.std.{specs.Prelude.{◌≢◌, filter, ◌==◌, All, Contains, Option}, proofs.{lemmas.List.{drop-append-le, length-take-le}, Math.Seq.{take-length}}}
 use Rattle.std.proofs.lemmas.List.Elements.{filter-append, All-nil, All-cons, All-head, All-tail, All-push, All-append, All-drop, All-filter, All-weaker}
 use Rattle.std.proofs.lemmas.Bool.{false≢true, cases_lt}
-use Rattle.zr_kinds.specs.declared.place.Place.{Place}
-use Rattle.zr_kinds.specs.declared.place.Note.{Note}
-use Rattle.board_face.specs.Lists.{at_first, same_place}
-use Rattle.board_face.specs.Tokens.{next_place, filled_by, same_filling}
-use Rattle.board_face.specs.Texts.{further, front_place, rest_place}
+use Rattle.zr_kinds.specs.declared.place.{Place.{Place}, Note.{Note}}
+use Rattle.board_face.specs.{Lists.{at_first, same_place}, Tokens.{next_place, filled_by, same_filling}, Texts.{further, front_place, rest_place}}
 use Rattle.board_face.specs.NicEvents.{text_done, fresh, placed, sent, text_at}
 use Rattle.board_face.specs.AppEvents.{took_note, took_linear, held_origin, helds_without, cut, released, lent, loan_origin, abandoned, got_spare, owns_without}
-use Rattle.board_face.specs.AppEvents.{filled, own_bytes, begin_place, lent_own}
-use Rattle.board_face.specs.NicCalls.{HasPiece}
-use Rattle.board_face.specs.AppCalls.{HasHeld, HasLoan, HasSpare}
-use Rattle.board_face.specs.Sides.{nic_at, app_at}
-use Rattle.board_face.specs.Holders.{sent_to, on_way, ended_in}
-use Rattle.board_face.specs.Counts.{EndedWereReturned}
+use Rattle.board_face.specs.{AppEvents.{filled, own_bytes, begin_place, lent_own}, NicCalls.{HasPiece}, AppCalls.{HasHeld, HasLoan, HasSpare}, Sides.{nic_at, app_at}}
+use Rattle.board_face.specs.{Holders.{sent_to, on_way, ended_in}, Counts.{EndedWereReturned}}
 use Rattle.board_face.specs.Shown.{IsShown, first_bytes, bytes_sent, origin_bytes, text_of, owed_loans, CardIsShown, AppIsShown}
-use Rattle.board_face.specs.declared.views.parts.Filling.{Filling}
-use Rattle.board_face.specs.declared.views.parts.Making.{Making}
-use Rattle.board_face.specs.declared.views.nic.PlacedText.{PlacedText}
-use Rattle.board_face.specs.declared.views.nic.SentNote.{SentNote}
-use Rattle.board_face.specs.declared.views.nic.NicView.{NicView}
-use Rattle.board_face.specs.declared.views.nic.NicSide.{NicSide}
-use Rattle.board_face.specs.declared.views.app.Origin.{Origin}
-use Rattle.board_face.specs.declared.views.app.Origin.TheVariants.{Note as of_note, Copied as of_copy}
-use Rattle.board_face.specs.declared.views.app.HeldPiece.{HeldPiece}
-use Rattle.board_face.specs.declared.views.app.LentPiece.{LentPiece}
-use Rattle.board_face.specs.declared.views.app.SpareOwn.{SpareOwn}
-use Rattle.board_face.specs.declared.views.app.AppInside.{AppInside}
-use Rattle.board_face.specs.declared.views.app.AppView.{AppView}
-use Rattle.board_face.specs.declared.views.app.AppSide.{AppSide}
-use Rattle.board_face.proofs.ListLemmas.{same_place-is, same_place-refl, same_filling-is, same_filling-refl, All-without}
-use Rattle.board_face.proofs.Tallies.{length-tally}
-use Rattle.board_face.proofs.Parts.{returned_in-count}
-use Rattle.board_face.proofs.NicLemmas.{making_at, sent_to-other, sent_to-same, drop-push}
-use Rattle.board_face.proofs.AppLemmas.{after-taken, scrubbed_side, SameHoldings}
-use Rattle.board_face.proofs.RelayLemmas.{bytes_sent-push, bytes_sent-past, take-drop-none}
+use Rattle.board_face.specs.declared.views.{parts.{Filling.{Filling}, Making.{Making}}, nic.{PlacedText.{PlacedText}, SentNote.{SentNote}, NicView.{NicView}}}
+use Rattle.board_face.specs.declared.views.{nic.NicSide.{NicSide}, app.{Origin.{Origin, TheVariants.{Note as of_note, Copied as of_copy}}, HeldPiece.{HeldPiece}}}
+use Rattle.board_face.specs.declared.views.app.{LentPiece.{LentPiece}, SpareOwn.{SpareOwn}, AppInside.{AppInside}, AppView.{AppView}, AppSide.{AppSide}}
+use Rattle.board_face.proofs.{ListLemmas.{same_place-is, same_place-refl, same_filling-is, same_filling-refl, All-without}, Tallies.{length-tally}}
+use Rattle.board_face.proofs.{Parts.{returned_in-count}, NicLemmas.{making_at, sent_to-other, sent_to-same, drop-push}}
+use Rattle.board_face.proofs.{AppLemmas.{after-taken, scrubbed_side, SameHoldings}, RelayLemmas.{bytes_sent-push, bytes_sent-past, take-drop-none}}
 use Rattle.board_face.specs.Laws.{IsNextNote}
 
 -- ---- lists

@@ -1,12 +1,7 @@
 -- Buffers for filling keep what their tokens need.
-use Rattle.std.proofs.Common.{◌≡◌, ℕ, ◌+◌, ◌%◌, ◌^◌, ◌≤◌, zero, suc, arith}
-use Rattle.std.proofs.Math.Nat.{pow-suc}
-use Rattle.area_layout.specs.Layout.{IsLayout, IsBufferSize, size_of}
-use Rattle.area_layout.proofs.Words.{words_apart}
-use Rattle.board_face.specs.Tokens.{FitsBuffer, filled_by}
-use Rattle.board_face.specs.NicEvents.{fresh}
-use Rattle.board_face.specs.declared.views.parts.Filling.{Filling}
-use Rattle.board_face.specs.declared.views.parts.Setting.{Setting}
+use Rattle.std.proofs.{Common.{◌≡◌, ℕ, ◌+◌, ◌%◌, ◌^◌, ◌≤◌, zero, suc, arith}, Math.Nat.{pow-suc}}
+use Rattle.area_layout.{specs.Layout.{IsLayout, IsBufferSize, size_of}, proofs.Words.{words_apart}}
+use Rattle.board_face.specs.{Tokens.{FitsBuffer, filled_by}, NicEvents.{fresh}, declared.views.parts.{Filling.{Filling}, Setting.{Setting}}}
 
 -- what is filled ends within the buffer
 pub FitsBuffer-filled_by : (own : Filling) (n : ℕ) → FitsBuffer own → own.start + n ≤ own.size → FitsBuffer (filled_by own n)

@@ -1,30 +1,15 @@
 -- Entries that are written, of a loan or raw: each is the last on its way, and nothing before it changes.
-use Rattle.std.proofs.Common.{◌≡◌, ⊎_elim, ℕ, suc, ◌+◌, ◌-◌, ◌<◌, ◌≤◌, Bool, true, false}
-use Rattle.std.proofs.Common.{List, [], ◌∷◌, ◌++◌, length, drop, map}
-use Rattle.std.proofs.Common.{refl, ap, sym, ◌∙◌, arith, subst, length-drop, Option, Some, None}
-use Rattle.std.specs.Prelude.{◌==◌, count_by, filter, All, Contains, IfSome}
-use Rattle.std.specs.List.{zip}
-use Rattle.std.proofs.lemmas.List.{drop-append-le, length-map}
-use Rattle.std.proofs.lemmas.List.Elements.{All-push}
-use Rattle.std.proofs.lemmas.Bool.Decides.{eqb_tells}
-use Rattle.zr_kinds.specs.declared.place.Place.{Place}
-use Rattle.zr_kinds.specs.declared.ring.Rqe.{Rqe}
+use Rattle.std.proofs.Common.{◌≡◌, ⊎_elim, ℕ, suc, ◌+◌, ◌-◌, ◌<◌, ◌≤◌, Bool, true, false, List, [], ◌∷◌, ◌++◌, length, drop, map}
+use Rattle.std.{proofs.Common.{refl, ap, sym, ◌∙◌, arith, subst, length-drop, Option, Some, None}, specs.Prelude.{◌==◌, count_by, filter, All, Contains, IfSome}}
+use Rattle.std.{specs.List.{zip}, proofs.lemmas.{List.{drop-append-le, length-map, Elements.{All-push}}, Bool.Decides.{eqb_tells}}}
+use Rattle.zr_kinds.specs.declared.{place.Place.{Place}, ring.Rqe.{Rqe}}
 use Rattle.area_layout.specs.Layout.{Shape, judged}
-use Rattle.board_face.specs.Lists.{same_place}
-use Rattle.board_face.specs.Sides.{app_at}
-use Rattle.board_face.specs.AppCalls.{HasLoan, IsLive, NamesNoLoan}
-use Rattle.board_face.specs.AppEvents.{abandoned, gave, pushed_raw, entry_of, loan_origin, loans_without}
-use Rattle.board_face.specs.Counts.{EndedWereReturned}
-use Rattle.board_face.specs.Holders.{ended_in, owed_in, returned_in}
-use Rattle.board_face.specs.Relay.{dealt_entries, IsNoLoanStray, HasNoLoanStray}
-use Rattle.board_face.specs.Returns.{entries_on_way, returns, names, is_some_of, loans_out, IsOfLoan, IsNamed, IsClear, AreReturns}
-use Rattle.board_face.specs.declared.views.nic.Dealt.{Dealt}
-use Rattle.board_face.specs.declared.views.nic.NicSide.{NicSide}
-use Rattle.board_face.specs.declared.views.app.LentPiece.{LentPiece}
-use Rattle.board_face.specs.declared.views.app.WrittenEntry.{WrittenEntry}
-use Rattle.board_face.specs.declared.views.app.AppSide.{AppSide}
-use Rattle.board_face.proofs.ListLemmas.{same_place-is, same_place-refl}
-use Rattle.board_face.proofs.Tallies.{weight, tally, tally-push, tally-without}
+use Rattle.board_face.specs.{Lists.{same_place}, Sides.{app_at}, AppCalls.{HasLoan, IsLive, NamesNoLoan}}
+use Rattle.board_face.specs.{AppEvents.{abandoned, gave, pushed_raw, entry_of, loan_origin, loans_without}, Counts.{EndedWereReturned}}
+use Rattle.board_face.specs.{Holders.{ended_in, owed_in, returned_in}, Relay.{dealt_entries, IsNoLoanStray, HasNoLoanStray}}
+use Rattle.board_face.specs.{Returns.{entries_on_way, returns, names, is_some_of, loans_out, IsOfLoan, IsNamed, IsClear, AreReturns}, declared.views.nic.Dealt.{Dealt}}
+use Rattle.board_face.specs.declared.views.{nic.NicSide.{NicSide}, app.{LentPiece.{LentPiece}, WrittenEntry.{WrittenEntry}, AppSide.{AppSide}}}
+use Rattle.board_face.proofs.{ListLemmas.{same_place-is, same_place-refl}, Tallies.{weight, tally, tally-push, tally-without}}
 use Rattle.board_face.proofs.Parts.{count-tally, came_back_in, returned_in-count}
 
 pub zip-longer : {A B : Type 0} (xs : List A) (ys : List B) (x : A) → length ys ≤ length xs → zip (xs ++ x ∷ []) ys ≡ zip xs ys

@@ -1,23 +1,11 @@
 -- What an application does at a board: each event is a function of its view and of the event's own data.
 use Rattle.std.specs.Prelude.{ℕ, ◌+◌, Bool, true, false, if◌then◌else◌, nat_lt, List, [], ◌∷◌, ◌++◌, length}
-use Rattle.zr_kinds.specs.declared.place.Note.{Note}
-use Rattle.zr_kinds.specs.declared.place.Place.{Place}
-use Rattle.zr_kinds.specs.declared.ring.Rqe.{Rqe}
+use Rattle.zr_kinds.specs.declared.{place.{Note.{Note}, Place.{Place}}, ring.Rqe.{Rqe}}
 use Rattle.area_layout.specs.Layout.{Shape, pool_buffers, off_of}
-use Rattle.board_face.specs.Lists.{without, at_first, same_place}
-use Rattle.board_face.specs.Tokens.{filled_by, same_filling}
-use Rattle.board_face.specs.Texts.{further, front_place, rest_place}
-use Rattle.board_face.specs.NicEvents.{fresh}
-use Rattle.board_face.specs.declared.views.parts.Filling.{Filling}
-use Rattle.board_face.specs.declared.views.app.Origin.{Origin}
-use Rattle.board_face.specs.declared.views.app.Origin.TheVariants.{Note as of_note, Copied as of_copy}
-use Rattle.board_face.specs.declared.views.app.AppLook.{AppLook}
-use Rattle.board_face.specs.declared.views.app.AppLook.TheVariants.{CardEnded, NoneListed}
-use Rattle.board_face.specs.declared.views.app.Reading.{Reading}
-use Rattle.board_face.specs.declared.views.app.HeldPiece.{HeldPiece}
-use Rattle.board_face.specs.declared.views.app.LentPiece.{LentPiece}
-use Rattle.board_face.specs.declared.views.app.SpareOwn.{SpareOwn}
-use Rattle.board_face.specs.declared.views.app.AppView.{AppView}
+use Rattle.board_face.specs.{Lists.{without, at_first, same_place}, Tokens.{filled_by, same_filling}, Texts.{further, front_place, rest_place}, NicEvents.{fresh}}
+use Rattle.board_face.specs.declared.views.{parts.Filling.{Filling}, app.{Origin.{Origin, TheVariants.{Note as of_note, Copied as of_copy}}, AppLook.{AppLook}}}
+use Rattle.board_face.specs.declared.views.app.{AppLook.TheVariants.{CardEnded, NoneListed}, Reading.{Reading}, HeldPiece.{HeldPiece}, LentPiece.{LentPiece}}
+use Rattle.board_face.specs.declared.views.app.{SpareOwn.{SpareOwn}, AppView.{AppView}}
 
 -- nothing but a look
 abbrev pub app_saw : AppView → AppLook → AppView

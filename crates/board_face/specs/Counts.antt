@@ -1,8 +1,7 @@
 -- Counts are holders: nothing keeps a count in these definitions. (page_pool's `pp_ref_count`, and the user references of
 -- iou-zcrx, of which each carries one of the pool.)
 use Rattle.std.specs.Prelude.{ℕ, ◌≤◌, Bool, false, List, length, ◌==◌, count_by}
-use Rattle.board_face.specs.declared.views.nic.NicSide.{NicSide}
-use Rattle.board_face.specs.declared.views.app.AppSide.{AppSide}
+use Rattle.board_face.specs.declared.views.{nic.NicSide.{NicSide}, app.AppSide.{AppSide}}
 use Rattle.board_face.specs.Holders.{Kind, own, piece, sent, held, spare, loan, owed, returning, holders_of, returned_in, ended_in, returning_count}
 
 -- how many holders a buffer has

@@ -1,10 +1,7 @@
 -- The end of a board that all roles have left: each pool buffer is free once, and every application was served.
 use Rattle.std.specs.Prelude.{◌≡◌, ℕ, ◌<◌, true, List, length, map, All, nat_eq, count_by}
-use Rattle.board_face.specs.Holders.{sent_to}
-use Rattle.board_face.specs.Relay.{as_taken, IsAsSent, IsProper, dealt_entries, HasNoLoanStray}
-use Rattle.board_face.specs.Sides.{AreNumbered, HaveOneSetting}
-use Rattle.board_face.specs.declared.views.nic.NicSide.{NicSide}
-use Rattle.board_face.specs.declared.views.app.AppSide.{AppSide}
+use Rattle.board_face.specs.{Holders.{sent_to}, Relay.{as_taken, IsAsSent, IsProper, dealt_entries, HasNoLoanStray}, Sides.{AreNumbered, HaveOneSetting}}
+use Rattle.board_face.specs.declared.views.{nic.NicSide.{NicSide}, app.AppSide.{AppSide}}
 
 -- Each pool buffer stands in the list once, and nothing else does.
 pub record IsEachOnce (buffers : ℕ) (free : List ℕ) : Type 0 where

@@ -2,11 +2,8 @@
 -- nobody has the buffer, so a spare's buffer has no other holder.
 use Rattle.std.specs.Prelude.{◌≡◌, ℕ, ◌<◌, ◌≤◌, Bool, true, false, List, All, count_by}
 use Rattle.area_layout.specs.Layout.{pool_buffers, total, size_of}
-use Rattle.board_face.specs.Tokens.{FitsBuffer}
-use Rattle.board_face.specs.Holders.{Kind, own, piece, sent, held, spare, loan, owed, returning, holders_of}
-use Rattle.board_face.specs.Counts.{pool_count}
-use Rattle.board_face.specs.declared.views.nic.NicSide.{NicSide}
-use Rattle.board_face.specs.declared.views.app.AppSide.{AppSide}
+use Rattle.board_face.specs.{Tokens.{FitsBuffer}, Holders.{Kind, own, piece, sent, held, spare, loan, owed, returning, holders_of}, Counts.{pool_count}}
+use Rattle.board_face.specs.declared.views.{nic.NicSide.{NicSide}, app.AppSide.{AppSide}}
 
 -- a holding of a buffer that is being filled
 abbrev pub is_filling : Kind → Bool

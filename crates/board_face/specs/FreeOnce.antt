@@ -1,12 +1,9 @@
 -- Free once: a pool buffer has a holder and stands in no free place, or it has none and stands in exactly one of these:
 -- the free list, the card's cache, the hands of one role between two steps. A reserve buffer is never listed and never
 -- cached: it is free where it has no holder.
-use Rattle.std.specs.Prelude.{◌≡◌, ℕ, ◌+◌, ◌<◌, ◌≤◌, Bool, if◌then◌else◌, List, nat_eq, ◌==◌, count_by}
-use Rattle.std.specs.List.{flat_map}
+use Rattle.std.specs.{Prelude.{◌≡◌, ℕ, ◌+◌, ◌<◌, ◌≤◌, Bool, if◌then◌else◌, List, nat_eq, ◌==◌, count_by}, List.{flat_map}}
 use Rattle.area_layout.specs.Layout.{pool_buffers}
-use Rattle.board_face.specs.declared.views.nic.NicSide.{NicSide}
-use Rattle.board_face.specs.declared.views.app.AppSide.{AppSide}
-use Rattle.board_face.specs.Counts.{pool_count}
+use Rattle.board_face.specs.{declared.views.{nic.NicSide.{NicSide}, app.AppSide.{AppSide}}, Counts.{pool_count}}
 
 -- in how many free places a buffer stands, where `listed` says whether it is on the free list
 abbrev pub free_places : (ℕ → Bool) → ℕ → NicSide → List AppSide → ℕ

@@ -11,19 +11,11 @@
 -- | owed a      | given back or abandoned     | an entry of a was honoured, or a scrub took it    |
 -- | returning a | owed ended                  | the pool count was lowered                        |
 use Rattle.std.specs.Prelude.{ℕ, ◌+◌, ◌-◌, Bool, false, ◌&&◌, if◌then◌else◌, List, [], ◌∷◌, ◌++◌, length, map, filter, take, drop}
-use Rattle.std.specs.Prelude.{◌==◌, count_by, slice_index, Option, Some, None}
-use Rattle.std.specs.List.{flat_map}
+use Rattle.std.specs.{Prelude.{◌==◌, count_by, slice_index, Option, Some, None}, List.{flat_map}}
 use Rattle.zr_kinds.specs.declared.place.Place.{Place}
-use Rattle.board_face.specs.declared.views.parts.Making.{Making}
-use Rattle.board_face.specs.declared.views.nic.Fate.{Fate}
-use Rattle.board_face.specs.declared.views.nic.Fate.TheVariants.{Honoured, Stray}
-use Rattle.board_face.specs.declared.views.nic.Judged.{Judged}
-use Rattle.board_face.specs.declared.views.nic.Judged.TheVariants.{Not, Stray as judged_stray, Owed, UserLowered, BothLowered}
-use Rattle.board_face.specs.declared.views.nic.EntryInHand.{EntryInHand}
-use Rattle.board_face.specs.declared.views.nic.SentNote.{SentNote}
-use Rattle.board_face.specs.declared.views.nic.Dealt.{Dealt}
-use Rattle.board_face.specs.declared.views.nic.NicSide.{NicSide}
-use Rattle.board_face.specs.declared.views.app.AppSide.{AppSide}
+use Rattle.board_face.specs.declared.views.{parts.Making.{Making}, nic.{Fate.{Fate, TheVariants.{Honoured, Stray}}, Judged.{Judged}}}
+use Rattle.board_face.specs.declared.views.nic.{Judged.TheVariants.{Not, Stray as judged_stray, Owed, UserLowered, BothLowered}, EntryInHand.{EntryInHand}}
+use Rattle.board_face.specs.declared.views.{nic.{SentNote.{SentNote}, Dealt.{Dealt}, NicSide.{NicSide}}, app.AppSide.{AppSide}}
 
 -- what a buffer is held for; the place, where the holding has one
 pub data Kind : Type 0 where

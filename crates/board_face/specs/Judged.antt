@@ -3,9 +3,7 @@
 use Rattle.std.specs.Prelude.{◌≡◌, ℕ, nat_lt, if◌then◌else◌, Option, Some, None}
 use Rattle.zr_kinds.specs.declared.ring.Rqe.{Rqe}
 use Rattle.area_layout.specs.Layout.{Shape, judged}
-use Rattle.board_face.specs.declared.views.nic.Fate.{Fate}
-use Rattle.board_face.specs.declared.views.nic.Fate.TheVariants.{Honoured, Stray}
-use Rattle.board_face.specs.declared.views.nic.Dealt.{Dealt}
+use Rattle.board_face.specs.declared.views.nic.{Fate.{Fate, TheVariants.{Honoured, Stray}}, Dealt.{Dealt}}
 
 -- what becomes of an entry, where `owed` has the application's user count of each buffer
 abbrev pub fate_of : Shape → (ℕ → ℕ) → Rqe → Fate

@@ -3,27 +3,16 @@
 -- others at once.
 use Rattle.std.specs.Prelude.{◌≡◌, ◌≢◌, ℕ, ◌+◌, ◌≤◌, Bool, false, true, ◌&&◌, if◌then◌else◌, nat_lt, List, [], ◌∷◌}
 use Rattle.std.specs.Prelude.{◌++◌, length, nat_eq, ◌==◌, count_by, slice_index, slice_set}
-use Rattle.zr_kinds.specs.declared.place.Place.{Place}
-use Rattle.zr_kinds.specs.declared.place.Note.{Note}
-use Rattle.zr_kinds.specs.declared.ring.Rqe.{Rqe}
+use Rattle.zr_kinds.specs.declared.{place.{Place.{Place}, Note.{Note}}, ring.Rqe.{Rqe}}
 use Rattle.area_layout.specs.Layout.{pool_buffers}
 use Rattle.board_face.specs.NicCalls.{HasOwn, HasPiece}
 use Rattle.board_face.specs.NicEvents.{cache_room, took, swept, placed, sent, sent_linear, gave_up, shut, passed_over, honoured, nic_saw, saw_leave, nic_ended}
 use Rattle.board_face.specs.AppCalls.{HasHeld, HasLoan, HasSpare}
 use Rattle.board_face.specs.AppEvents.{app_saw, took_note, took_linear, told_end, cut, released, lent, has_read, abandoned, gave, pushed_raw, came_to_rest}
-use Rattle.board_face.specs.AppEvents.{got_spare, filled, lent_own, fell_quiet, scrubbed, left_board}
-use Rattle.board_face.specs.Holders.{sent_to, on_way, owed_in}
-use Rattle.board_face.specs.Counts.{pool_count, user_count, EndedWereReturned}
-use Rattle.board_face.specs.FreeOnce.{free_places}
-use Rattle.board_face.specs.Sides.{nic_at, IsApp, AreNumbered, apps_at}
-use Rattle.board_face.specs.declared.views.parts.Filling.{Filling}
-use Rattle.board_face.specs.declared.views.nic.NicLook.{NicLook}
-use Rattle.board_face.specs.declared.views.nic.SentNote.{SentNote}
-use Rattle.board_face.specs.declared.views.nic.NicView.{NicView}
-use Rattle.board_face.specs.declared.views.nic.NicSide.{NicSide}
-use Rattle.board_face.specs.declared.views.app.AppLook.{AppLook}
-use Rattle.board_face.specs.declared.views.app.AppView.{AppView}
-use Rattle.board_face.specs.declared.views.app.AppSide.{AppSide}
+use Rattle.board_face.specs.{AppEvents.{got_spare, filled, lent_own, fell_quiet, scrubbed, left_board}, Holders.{sent_to, on_way, owed_in}}
+use Rattle.board_face.specs.{Counts.{pool_count, user_count, EndedWereReturned}, FreeOnce.{free_places}, Sides.{nic_at, IsApp, AreNumbered, apps_at}}
+use Rattle.board_face.specs.declared.views.{parts.Filling.{Filling}, nic.{NicLook.{NicLook}, SentNote.{SentNote}, NicView.{NicView}, NicSide.{NicSide}}}
+use Rattle.board_face.specs.declared.views.app.{AppLook.{AppLook}, AppView.{AppView}, AppSide.{AppSide}}
 
 -- ---- sides and their counts
 

@@ -2,12 +2,9 @@
 -- falls, and is as large as it is: it has no greatest value. What a look tells beyond that is each board's to say, by
 -- `tells` of the face.
 use Rattle.std.specs.Prelude.{ℕ, ◌+◌, ◌<◌, ◌≤◌, Bool, true, false, if◌then◌else◌, List, [], ◌∷◌, ◌==◌, ◌&&◌}
-use Rattle.board_face.specs.declared.views.nic.NicLook.{NicLook}
-use Rattle.board_face.specs.declared.views.nic.NicLook.TheVariants.{RingEmpty, NoteInUse, Swept, NotLeft, HasLeft, NotOwed, Owed, LastHolder, StillHeld}
-use Rattle.board_face.specs.declared.views.nic.NicView.{NicView}
-use Rattle.board_face.specs.declared.views.app.AppLook.{AppLook}
-use Rattle.board_face.specs.declared.views.app.AppLook.TheVariants.{NoNote, CardEnded, RefillInUse, RawOnItsWay, NoneListed, NoSpare, NotQuiet}
-use Rattle.board_face.specs.declared.views.app.AppView.{AppView}
+use Rattle.board_face.specs.declared.views.nic.NicLook.{NicLook, TheVariants.{RingEmpty, NoteInUse, Swept, NotLeft, HasLeft, NotOwed, Owed, LastHolder, StillHeld}}
+use Rattle.board_face.specs.declared.views.{nic.NicView.{NicView}, app.AppLook.{AppLook}}
+use Rattle.board_face.specs.declared.views.app.{AppLook.TheVariants.{NoNote, CardEnded, RefillInUse, RawOnItsWay, NoneListed, NoSpare, NotQuiet}, AppView.{AppView}}
 
 abbrev pub same_nic_look : NicLook → NicLook → Bool
 same_nic_look (RingEmpty a) (RingEmpty b) = a == b

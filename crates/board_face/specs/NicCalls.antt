@@ -1,21 +1,12 @@
 -- What the card may ask of a board, and what its calls answer.
 use Rattle.std.specs.Prelude.{◌≤◌, true, ◌≡◌, ◌≢◌, ℕ, ◌+◌, ◌/◌, ◌<◌, Bool, false, not, ◌&&◌, List, [], ◌∷◌, ◌++◌}
-use Rattle.std.specs.Prelude.{length, map, nat_eq, All, AllPairs, Contains, Some, IfSome}
-use Rattle.std.specs.List.{list_any}
-use Rattle.zr_kinds.specs.declared.place.Place.{Place}
-use Rattle.zr_kinds.specs.declared.ring.Rqe.{Rqe}
+use Rattle.std.specs.{Prelude.{length, map, nat_eq, All, AllPairs, Contains, Some, IfSome}, List.{list_any}}
+use Rattle.zr_kinds.specs.declared.{place.Place.{Place}, ring.Rqe.{Rqe}}
 use Rattle.area_layout.specs.Layout.{pool_buffers, judged}
-use Rattle.board_face.specs.Lists.{count_below}
-use Rattle.board_face.specs.Looks.{NicRose}
-use Rattle.board_face.specs.Texts.{unsplit_bytes}
+use Rattle.board_face.specs.{Lists.{count_below}, Looks.{NicRose}, Texts.{unsplit_bytes}}
 use Rattle.board_face.specs.NicEvents.{fresh, took, word_bits, swept, holder_look, gave_up, shut, passed_over, honoured, nic_saw}
-use Rattle.board_face.specs.declared.views.parts.Setting.{Setting}
-use Rattle.board_face.specs.declared.views.parts.Filling.{Filling}
-use Rattle.board_face.specs.declared.views.nic.NicLook.TheVariants.{RingEmpty, Swept, NotOwed, Owed, LastHolder}
-use Rattle.board_face.specs.declared.views.nic.NicLook.{NicLook}
-use Rattle.board_face.specs.declared.views.nic.NicView.{NicView}
-use Rattle.board_face.specs.declared.answers.Entry.{Entry}
-use Rattle.board_face.specs.declared.answers.Entry.TheVariants.{Freed, Honoured, Stray, Empty}
+use Rattle.board_face.specs.declared.views.{parts.{Setting.{Setting}, Filling.{Filling}}, nic.NicLook.TheVariants.{RingEmpty, Swept, NotOwed, Owed, LastHolder}}
+use Rattle.board_face.specs.declared.{views.nic.{NicLook.{NicLook}, NicView.{NicView}}, answers.Entry.{Entry, TheVariants.{Freed, Honoured, Stray, Empty}}}
 
 -- how many applications there are
 abbrev pub apps_of : Setting → ℕ

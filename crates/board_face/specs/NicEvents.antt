@@ -1,18 +1,10 @@
 -- What the card does at a board: each event is a function of its view and of the event's own data.
 use Rattle.std.specs.Prelude.{◌&&◌, ℕ, ◌-◌, Bool, true, if◌then◌else◌, List, [], ◌∷◌, ◌++◌, length, take, nat_lt, Option, Some, None}
-use Rattle.zr_kinds.specs.declared.place.Note.{Note}
-use Rattle.zr_kinds.specs.declared.place.Place.{Place}
-use Rattle.zr_kinds.specs.declared.ring.Rqe.{Rqe}
+use Rattle.zr_kinds.specs.declared.{place.{Note.{Note}, Place.{Place}}, ring.Rqe.{Rqe}}
 use Rattle.area_layout.specs.Layout.{pool_buffers, size_of, judged}
-use Rattle.board_face.specs.Lists.{without, at_first, same_place}
-use Rattle.board_face.specs.Tokens.{filling, filled_by, next_place, same_filling}
-use Rattle.board_face.specs.declared.views.parts.Setting.{Setting}
-use Rattle.board_face.specs.declared.views.parts.Filling.{Filling}
-use Rattle.board_face.specs.declared.views.nic.NicLook.{NicLook}
-use Rattle.board_face.specs.declared.views.nic.NicLook.TheVariants.{Swept, HasLeft, NotOwed, Owed, LastHolder, StillHeld}
-use Rattle.board_face.specs.declared.views.nic.Fate.{Fate}
-use Rattle.board_face.specs.declared.views.nic.Fate.TheVariants.{Honoured, Stray}
-use Rattle.board_face.specs.declared.views.nic.NicView.{NicView}
+use Rattle.board_face.specs.{Lists.{without, at_first, same_place}, Tokens.{filling, filled_by, next_place, same_filling}, declared.views.parts.Setting.{Setting}}
+use Rattle.board_face.specs.declared.views.{parts.Filling.{Filling}, nic.NicLook.{NicLook, TheVariants.{Swept, HasLeft, NotOwed, Owed, LastHolder, StillHeld}}}
+use Rattle.board_face.specs.declared.views.nic.{Fate.{Fate, TheVariants.{Honoured, Stray}}, NicView.{NicView}}
 
 -- a buffer of which nothing is used
 abbrev pub fresh : Setting → ℕ → Filling

@@ -1,9 +1,6 @@
 -- What an answer 'not now' implies of what the role itself has done, on every board.
 use Rattle.std.specs.Prelude.{ℕ, ◌+◌, ◌<◌, ◌≤◌, ◌==◌, length, filter, count_by}
-use Rattle.board_face.specs.Returns.{is_raw}
-use Rattle.board_face.specs.AppEvents.{reserve_of}
-use Rattle.board_face.specs.declared.views.nic.NicView.{NicView}
-use Rattle.board_face.specs.declared.views.app.AppView.{AppView}
+use Rattle.board_face.specs.{Returns.{is_raw}, AppEvents.{reserve_of}, declared.views.{nic.NicView.{NicView}, app.AppView.{AppView}}}
 
 -- At least as many notes were sent to the application as a ring has places.
 abbrev pub HasSentRingful : NicView → ℕ → Type 0

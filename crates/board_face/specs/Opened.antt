@@ -1,13 +1,8 @@
 -- The sides of a board that was just opened: nobody has done anything.
 use Rattle.std.specs.Prelude.{ℕ, zero, suc, true, false, List, [], ◌∷◌, None, replicate}
 use Rattle.area_layout.specs.Layout.{total}
-use Rattle.board_face.specs.NicCalls.{apps_of}
-use Rattle.board_face.specs.declared.views.parts.Setting.{Setting}
-use Rattle.board_face.specs.declared.views.parts.Slot.{Slot}
-use Rattle.board_face.specs.declared.views.nic.NicView.{NicView}
-use Rattle.board_face.specs.declared.views.nic.NicSide.{NicSide}
-use Rattle.board_face.specs.declared.views.app.AppView.{AppView}
-use Rattle.board_face.specs.declared.views.app.AppSide.{AppSide}
+use Rattle.board_face.specs.{NicCalls.{apps_of}, declared.views.{parts.{Setting.{Setting}, Slot.{Slot}}, nic.{NicView.{NicView}, NicSide.{NicSide}}}}
+use Rattle.board_face.specs.declared.views.app.{AppView.{AppView}, AppSide.{AppSide}}
 
 abbrev pub new_nic_view : Setting → NicView
 new_nic_view setting = record {

@@ -1,10 +1,6 @@
 -- Phases: how far the card and the applications have come.
 use Rattle.std.specs.Prelude.{◌≡◌, ℕ, true, List, [], length, All}
-use Rattle.board_face.specs.NicCalls.{HasNoToken}
-use Rattle.board_face.specs.AppCalls.{CanLeave}
-use Rattle.board_face.specs.Holders.{on_way, owed_in}
-use Rattle.board_face.specs.declared.views.nic.NicSide.{NicSide}
-use Rattle.board_face.specs.declared.views.app.AppSide.{AppSide}
+use Rattle.board_face.specs.{NicCalls.{HasNoToken}, AppCalls.{CanLeave}, Holders.{on_way, owed_in}, declared.views.{nic.NicSide.{NicSide}, app.AppSide.{AppSide}}}
 
 -- How far an application has come. Once it was told the end, the card has ended and no note is on its way. Once it
 -- has scrubbed it has no loan and owes none. When it left it could leave.

@@ -1,16 +1,11 @@
 -- The places of a buffer: where its holders lie, but for the buffer that is being filled itself and an unfilled spare. None
 -- is empty, none ends behind the buffer, and each byte lies in one of them at most. They end where the bytes begin that
 -- the card fills next.
-use Rattle.std.specs.Prelude.{◌≡◌, ℕ, ◌+◌, ◌≤◌, ◌==◌, Bool, ◌&&◌, List, [], ◌∷◌, ◌++◌, length, map, filter, nat_lt, nat_le}
-use Rattle.std.specs.Prelude.{count_by, All, Some}
-use Rattle.std.specs.List.{flat_map}
+use Rattle.std.specs.{Prelude.{◌≡◌, ℕ, ◌+◌, ◌≤◌, ◌==◌, Bool, ◌&&◌, List, [], ◌∷◌, ◌++◌, length, map, filter, nat_lt, nat_le, count_by, All, Some}, List.{flat_map}}
 use Rattle.zr_kinds.specs.declared.place.Place.{Place}
 use Rattle.area_layout.specs.Layout.{size_of}
-use Rattle.board_face.specs.AppEvents.{begin_place}
-use Rattle.board_face.specs.Holders.{Kind, own, piece, sent, held, spare, loan, owed, returning, holders_of}
-use Rattle.board_face.specs.declared.views.parts.Making.{Making}
-use Rattle.board_face.specs.declared.views.nic.NicSide.{NicSide}
-use Rattle.board_face.specs.declared.views.app.AppSide.{AppSide}
+use Rattle.board_face.specs.{AppEvents.{begin_place}, Holders.{Kind, own, piece, sent, held, spare, loan, owed, returning, holders_of}}
+use Rattle.board_face.specs.declared.views.{parts.Making.{Making}, nic.NicSide.{NicSide}, app.AppSide.{AppSide}}
 
 -- where a holding lies
 abbrev pub kind_place : Kind → List Place

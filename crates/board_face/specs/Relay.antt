@@ -1,19 +1,9 @@
 -- Relay: what was sent is what was taken, in order, each once.
-use Rattle.std.specs.Prelude.{◌≡◌, ℕ, Bool, true, false, ◌==◌, if◌then◌else◌, List, [], ◌++◌, length, map, filter, All}
-use Rattle.std.specs.List.{zip}
-use Rattle.board_face.specs.declared.views.nic.Fate.{Fate}
-use Rattle.board_face.specs.declared.views.nic.Fate.TheVariants.{Honoured, Stray}
-use Rattle.board_face.specs.declared.views.nic.Dealt.{Dealt}
-use Rattle.board_face.specs.declared.views.app.WrittenEntry.{WrittenEntry}
+use Rattle.std.specs.{Prelude.{◌≡◌, ℕ, Bool, true, false, ◌==◌, if◌then◌else◌, List, [], ◌++◌, length, map, filter, All}, List.{zip}}
+use Rattle.board_face.specs.declared.views.{nic.{Fate.{Fate, TheVariants.{Honoured, Stray}}, Dealt.{Dealt}, SentNote.{SentNote}}, app.WrittenEntry.{WrittenEntry}}
+use Rattle.board_face.specs.{declared.views.{nic.NicSide.{NicSide}, app.{TakenNote.{TakenNote}, Reading.{Reading}, AppSide.{AppSide}}}, Holders.{sent_to}}
+use Rattle.board_face.specs.{Texts.{IsSplitNote, IsLinearNote}, Shown.{origin_bytes}}
 use Rattle.zr_kinds.specs.declared.ring.Rqe.{Rqe}
-use Rattle.board_face.specs.declared.views.nic.SentNote.{SentNote}
-use Rattle.board_face.specs.declared.views.nic.NicSide.{NicSide}
-use Rattle.board_face.specs.declared.views.app.TakenNote.{TakenNote}
-use Rattle.board_face.specs.declared.views.app.Reading.{Reading}
-use Rattle.board_face.specs.declared.views.app.AppSide.{AppSide}
-use Rattle.board_face.specs.Holders.{sent_to}
-use Rattle.board_face.specs.Texts.{IsSplitNote, IsLinearNote}
-use Rattle.board_face.specs.Shown.{origin_bytes}
 
 -- a note as the application takes it: with its bytes, where these travel in it
 abbrev pub as_taken : SentNote → TakenNote

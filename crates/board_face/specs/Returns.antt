@@ -3,11 +3,8 @@
 use Rattle.std.specs.Prelude.{⊤, ◌≡◌, ℕ, ◌+◌, ◌-◌, ◌≤◌, Bool, true, false, not, ◌==◌, if◌then◌else◌, List, []}
 use Rattle.std.specs.Prelude.{◌∷◌, length, drop, count_by, All, Option, Some, None, IsSome}
 use Rattle.area_layout.specs.Layout.{Shape, judged}
-use Rattle.board_face.specs.Holders.{lowered_in_hand, returned_in, owed_in}
-use Rattle.board_face.specs.Relay.{dealt_entries, HasNoLoanStray}
-use Rattle.board_face.specs.declared.views.nic.NicSide.{NicSide}
-use Rattle.board_face.specs.declared.views.app.WrittenEntry.{WrittenEntry}
-use Rattle.board_face.specs.declared.views.app.AppSide.{AppSide}
+use Rattle.board_face.specs.{Holders.{lowered_in_hand, returned_in, owed_in}, Relay.{dealt_entries, HasNoLoanStray}, declared.views.nic.NicSide.{NicSide}}
+use Rattle.board_face.specs.declared.views.app.{WrittenEntry.{WrittenEntry}, AppSide.{AppSide}}
 
 -- the entries of an application that the card hasn't dealt with
 abbrev pub entries_on_way : NicSide → AppSide → List WrittenEntry

@@ -2,14 +2,8 @@
 -- was given back or abandoned and is still owed, has a place and a text, and the area has the text at the place.
 use Rattle.std.specs.Prelude.{◌≡◌, ℕ, ◌+◌, ◌<◌, ◌==◌, true, List, [], ◌∷◌, length, filter, take, drop, slice_index, All}
 use Rattle.zr_kinds.specs.declared.place.Place.{Place}
-use Rattle.board_face.specs.AppEvents.{begin_place}
-use Rattle.board_face.specs.Holders.{sent_to, on_way, ended_in}
-use Rattle.board_face.specs.Places.{ArePlaced}
-use Rattle.board_face.specs.declared.views.nic.SentNote.{SentNote}
-use Rattle.board_face.specs.declared.views.nic.NicSide.{NicSide}
-use Rattle.board_face.specs.declared.views.app.Origin.{Origin}
-use Rattle.board_face.specs.declared.views.app.Origin.TheVariants.{Note as of_note, Copied as of_copy}
-use Rattle.board_face.specs.declared.views.app.LentPiece.{LentPiece}
+use Rattle.board_face.specs.{AppEvents.{begin_place}, Holders.{sent_to, on_way, ended_in}, Places.{ArePlaced}, declared.views.nic.SentNote.{SentNote}}
+use Rattle.board_face.specs.declared.views.{nic.NicSide.{NicSide}, app.{Origin.{Origin, TheVariants.{Note as of_note, Copied as of_copy}}, LentPiece.{LentPiece}}}
 use Rattle.board_face.specs.declared.views.app.AppSide.{AppSide}
 
 -- The area, whose bytes `byte` gives by buffer and offset, has the text at the place.

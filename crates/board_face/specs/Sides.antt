@@ -1,10 +1,6 @@
 -- The sides of a board after an event of a view, and the applications in the order of their numbers.
 use Rattle.std.specs.Prelude.{◌≡◌, ℕ, suc, ◌<◌, List, [], ◌∷◌, length, slice_index_or, slice_set, All, ⊤}
-use Rattle.board_face.specs.NicCalls.{apps_of}
-use Rattle.board_face.specs.Blank.{blank_app}
-use Rattle.board_face.specs.declared.views.nic.NicView.{NicView}
-use Rattle.board_face.specs.declared.views.nic.NicSide.{NicSide}
-use Rattle.board_face.specs.declared.views.app.AppView.{AppView}
+use Rattle.board_face.specs.{NicCalls.{apps_of}, Blank.{blank_app}, declared.views.{nic.{NicView.{NicView}, NicSide.{NicSide}}, app.AppView.{AppView}}}
 use Rattle.board_face.specs.declared.views.app.AppSide.{AppSide}
 
 -- the card's side with another view

@@ -1,19 +1,10 @@
 -- Steps at the slots of the rings, on a board of words: an end looks at the flag of its next slot, stores or loads the words behind
 -- it, and hands the slot over. Handing it over is the call's event.
 use Rattle.std.specs.Prelude.{ℕ, ◌%◌, Bool, true, if◌then◌else◌, List, [], ◌∷◌, ◌++◌, length, slice_index_or, slice_set, Some, None}
-use Rattle.zr_kinds.specs.declared.place.Note.{Note}
-use Rattle.zr_kinds.specs.declared.place.Place.{Place}
-use Rattle.zr_kinds.specs.declared.ring.Rqe.{Rqe}
-use Rattle.board_face.specs.NicEvents.{nic_saw, sent, sent_linear, dealt}
-use Rattle.board_face.specs.AppEvents.{app_saw, took_note, took_linear, gave, pushed_raw, fell_quiet}
-use Rattle.board_face.specs.Opened.{unseen}
-use Rattle.board_face.specs.Sides.{nic_at, app_at}
-use Rattle.board_face.specs.declared.views.parts.Slot.{Slot}
-use Rattle.board_face.specs.declared.views.nic.Fate.{Fate}
-use Rattle.board_face.specs.declared.views.nic.Judged.TheVariants.{Not}
-use Rattle.board_face.specs.declared.views.nic.NicLook.TheVariants.{RingEmpty, NoteInUse}
-use Rattle.board_face.specs.declared.views.nic.NicSide.{NicSide}
-use Rattle.board_face.specs.declared.views.app.AppLook.TheVariants.{RefillInUse}
+use Rattle.zr_kinds.specs.declared.{place.{Note.{Note}, Place.{Place}}, ring.Rqe.{Rqe}}
+use Rattle.board_face.specs.{NicEvents.{nic_saw, sent, sent_linear, dealt}, AppEvents.{app_saw, took_note, took_linear, gave, pushed_raw, fell_quiet}, Opened.{unseen}}
+use Rattle.board_face.specs.{Sides.{nic_at, app_at}, declared.views.{parts.Slot.{Slot}, nic.{Fate.{Fate}, Judged.TheVariants.{Not}}}}
+use Rattle.board_face.specs.declared.views.{nic.{NicLook.TheVariants.{RingEmpty, NoteInUse}, NicSide.{NicSide}}, app.AppLook.TheVariants.{RefillInUse}}
 use Rattle.board_face.specs.declared.views.app.AppSide.{AppSide}
 
 -- a slot that was seen as its end needs it, and the words that were stored or loaded there since

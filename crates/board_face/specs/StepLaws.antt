@@ -1,17 +1,11 @@
 -- The steps of a call together are the call's event.
 use Rattle.std.specs.Prelude.{◌≡◌, ℕ, ◌+◌, ◌<◌, ◌≤◌, Bool, true, false, List, length, Some}
-use Rattle.zr_kinds.specs.declared.place.Place.{Place}
-use Rattle.zr_kinds.specs.declared.ring.Rqe.{Rqe}
+use Rattle.zr_kinds.specs.declared.{place.Place.{Place}, ring.Rqe.{Rqe}}
 use Rattle.area_layout.specs.Layout.{pool_buffers, total, judged}
-use Rattle.board_face.specs.NicEvents.{text_done, placed, shut, gave_up, dealt, honoured, passed_over}
-use Rattle.board_face.specs.AppEvents.{released, got_spare, scrubbed}
+use Rattle.board_face.specs.{NicEvents.{text_done, placed, shut, gave_up, dealt, honoured, passed_over}, AppEvents.{released, got_spare, scrubbed}}
 use Rattle.board_face.specs.Steps.{side_begun, side_shut, side_judged, side_user_lowered, side_both_lowered}
-use Rattle.board_face.specs.Steps.{side_released, side_picked, side_spare_begun, side_user_taken, side_owes_lowered}
-use Rattle.board_face.specs.declared.views.parts.Filling.{Filling}
-use Rattle.board_face.specs.declared.views.nic.Fate.TheVariants.{Honoured, Stray}
-use Rattle.board_face.specs.declared.views.nic.NicView.{NicView}
-use Rattle.board_face.specs.declared.views.nic.NicSide.{NicSide}
-use Rattle.board_face.specs.declared.views.app.AppSide.{AppSide}
+use Rattle.board_face.specs.{Steps.{side_released, side_picked, side_spare_begun, side_user_taken, side_owes_lowered}, declared.views.parts.Filling.{Filling}}
+use Rattle.board_face.specs.declared.views.{nic.{Fate.TheVariants.{Honoured, Stray}, NicView.{NicView}, NicSide.{NicSide}}, app.AppSide.{AppSide}}
 
 -- the card's view, once it judged an entry and lowered both counts
 abbrev pub view_lowered : NicSide → ℕ → Rqe → ℕ → Bool → NicView

@@ -1,20 +1,12 @@
 -- Steps: what a call of a face does to a side by its single steps on a board of words, where it has more than one. The steps of
 -- a call together are the call's event.
-use Rattle.std.specs.Prelude.{ℕ, ◌+◌, Bool, false, not, ◌&&◌, if◌then◌else◌, List, [], ◌∷◌, ◌++◌, length, nat_lt, nat_eq}
-use Rattle.std.specs.Prelude.{◌<◌, slice_index, slice_set, Some, Contains}
-use Rattle.zr_kinds.specs.declared.place.Place.{Place}
-use Rattle.zr_kinds.specs.declared.ring.Rqe.{Rqe}
+use Rattle.std.specs.Prelude.{ℕ, ◌+◌, Bool, false, not, ◌&&◌, if◌then◌else◌, List, [], ◌∷◌, ◌++◌, length, nat_lt, nat_eq, ◌<◌, slice_index, slice_set, Some, Contains}
+use Rattle.zr_kinds.specs.declared.{place.Place.{Place}, ring.Rqe.{Rqe}}
 use Rattle.area_layout.specs.Layout.{pool_buffers, total}
-use Rattle.board_face.specs.Lists.{without}
-use Rattle.board_face.specs.Tokens.{next_place}
-use Rattle.board_face.specs.NicCalls.{free_words_of}
-use Rattle.board_face.specs.NicEvents.{cache_room, begun, shut, gave_up, nic_saw}
-use Rattle.board_face.specs.AppEvents.{released, picked_one, spare_begun}
-use Rattle.board_face.specs.declared.views.parts.Filling.{Filling}
+use Rattle.board_face.specs.{Lists.{without}, Tokens.{next_place}, NicCalls.{free_words_of}, NicEvents.{cache_room, begun, shut, gave_up, nic_saw}}
+use Rattle.board_face.specs.{AppEvents.{released, picked_one, spare_begun}, declared.views.parts.Filling.{Filling}}
 use Rattle.board_face.specs.declared.views.nic.Judged.TheVariants.{Stray as judged_stray, Owed as judged_owed, UserLowered, BothLowered}
-use Rattle.board_face.specs.declared.views.nic.NicLook.TheVariants.{NotOwed, Owed}
-use Rattle.board_face.specs.declared.views.nic.NicSide.{NicSide}
-use Rattle.board_face.specs.declared.views.app.AppSide.{AppSide}
+use Rattle.board_face.specs.declared.views.{nic.{NicLook.TheVariants.{NotOwed, Owed}, NicSide.{NicSide}}, app.AppSide.{AppSide}}
 
 -- ---- the card
 

@@ -1,10 +1,7 @@
 -- Notes, and the bytes that they tell of.
 use Rattle.std.specs.Prelude.{◌≡◌, ℕ, ◌+◌, ◌-◌, ◌≤◌, true, false, if◌then◌else◌, List, drop, sum_by}
-use Rattle.zr_kinds.specs.Limits.{longest_payload}
-use Rattle.zr_kinds.specs.declared.place.Note.{Note}
-use Rattle.zr_kinds.specs.declared.place.Place.{Place}
-use Rattle.board_face.specs.declared.views.app.Origin.{Origin}
-use Rattle.board_face.specs.declared.views.app.Origin.TheVariants.{Note as of_note, Copied as of_copy}
+use Rattle.zr_kinds.specs.{Limits.{longest_payload}, declared.place.{Note.{Note}, Place.{Place}}}
+use Rattle.board_face.specs.declared.views.app.Origin.{Origin, TheVariants.{Note as of_note, Copied as of_copy}}
 
 -- the fields of a note that tells of a piece in the area
 pub record IsSplitNote (note : Note) : Type 0 where

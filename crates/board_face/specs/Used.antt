@@ -1,12 +1,7 @@
 -- Used buffers: a pool buffer is used once the card has taken it or an application has picked it as a spare.
-use Rattle.std.specs.Prelude.{◌≡◌, false, true, ℕ, ◌+◌, ◌/◌, ◌<◌, ◌≤◌, Bool, not, if◌then◌else◌, List, ◌++◌, length, map, nat_eq, count_by}
-use Rattle.std.specs.List.{flat_map, list_any}
+use Rattle.std.specs.{Prelude.{◌≡◌, false, true, ℕ, ◌+◌, ◌/◌, ◌<◌, ◌≤◌, Bool, not, if◌then◌else◌, List, ◌++◌, length, map, nat_eq, count_by}, List.{flat_map, list_any}}
 use Rattle.area_layout.specs.Layout.{pool_buffers}
-use Rattle.board_face.specs.Lists.{count_below}
-use Rattle.board_face.specs.NicCalls.{HasSweptAll}
-use Rattle.board_face.specs.NicEvents.{word_bits}
-use Rattle.board_face.specs.Texts.{unsplit_bytes}
-use Rattle.board_face.specs.declared.views.nic.NicSide.{NicSide}
+use Rattle.board_face.specs.{Lists.{count_below}, NicCalls.{HasSweptAll}, NicEvents.{word_bits}, Texts.{unsplit_bytes}, declared.views.nic.NicSide.{NicSide}}
 use Rattle.board_face.specs.declared.views.app.AppSide.{AppSide}
 
 -- the buffers that applications have picked

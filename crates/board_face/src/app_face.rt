@@ -1,18 +1,6 @@
-ghost use Rattle.std.specs.Prelude.{◌≡◌, ℕ, ◌+◌, ◌-◌, ◌<◌, ◌≤◌, ◌↔◌, true, false, length, IsTrue, IfErr, IfNone, IfSome, MatchOption, MatchResult};
-ghost use Rattle.std.specs.Prelude.{MatchBool};
+ghost use Rattle.std.specs.Prelude.{◌≡◌, ℕ, ◌+◌, ◌-◌, ◌<◌, ◌≤◌, ◌↔◌, true, false, length, IsTrue, IfErr, IfNone, IfSome, MatchOption, MatchResult, MatchBool};
 ghost use Rattle.area_layout.specs.Layout.{IsLayout, IsBufferSize, total, least_size, off_of};
-ghost use Rattle.board_face.specs.declared.views.app.AppView.{AppView};
-ghost use Rattle.board_face.specs.declared.views.app.AppLook.TheVariants.{RefillInUse, RawOnItsWay, NoSpare, NotQuiet};
-ghost use Rattle.board_face.specs.declared.views.app.AppLook.{AppLook};
-ghost use Rattle.board_face.specs.Looks.{AppTold};
-ghost use Rattle.board_face.specs.NotNow.{HasWritten, HasWrittenRingful, HasPushedRaw, HasUsedReserve};
-ghost use Rattle.board_face.specs.declared.answers.Polled.TheVariants.{Empty as got_none};
-ghost use Rattle.board_face.specs.Tokens.{filled_by};
-ghost use Rattle.board_face.specs.Texts.{front_place, rest_place};
-ghost use Rattle.board_face.specs.AppEvents.{app_gist, cut, released, lent, loan_origin, has_read, abandoned, gave, pushed_raw, came_to_rest, reserve_of};
-ghost use Rattle.board_face.specs.AppEvents.{filled, own_bytes, begin_place, lent_own, fell_quiet, scrubbed, left_board};
-ghost use Rattle.board_face.specs.AppCalls.{IsHere, HasHeld, HasLoan, HasSpare, HasPlace, CanLend, IsLive, NamesNoLoan, MaySpare, IsFilled, CanScrub, CanLeave};
-ghost use Rattle.board_face.specs.AppCalls.{AppOnlySaw, Looked, GotSpare, ShowsCopy};
+ghost use Rattle.board_face.specs.{declared.{views.app.{AppView.{AppView}, AppLook.{TheVariants.{RefillInUse, RawOnItsWay, NoSpare, NotQuiet}, AppLook}}, answers.Polled.TheVariants.{Empty as got_none}}, Looks.{AppTold}, NotNow.{HasWritten, HasWrittenRingful, HasPushedRaw, HasUsedReserve}, Tokens.{filled_by}, Texts.{front_place, rest_place}, AppEvents.{app_gist, cut, released, lent, loan_origin, has_read, abandoned, gave, pushed_raw, came_to_rest, reserve_of, filled, own_bytes, begin_place, lent_own, fell_quiet, scrubbed, left_board}, AppCalls.{IsHere, HasHeld, HasLoan, HasSpare, HasPlace, CanLend, IsLive, NamesNoLoan, MaySpare, IsFilled, CanScrub, CanLeave, AppOnlySaw, Looked, GotSpare, ShowsCopy}};
 
 use crate::{Held, Loan, Own, Polled};
 use zr_kinds::{Place, Rqe};

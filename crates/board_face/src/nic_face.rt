@@ -1,15 +1,6 @@
 ghost use Rattle.std.specs.Prelude.{◌≡◌, ◌+◌, ◌<◌, ◌≤◌, [], false, length, IfErr, MatchOption, MatchResult, MatchBool};
 ghost use Rattle.area_layout.specs.Layout.{IsLayout, IsBufferSize, least_size};
-ghost use Rattle.board_face.specs.declared.views.nic.NicView.{NicView};
-ghost use Rattle.board_face.specs.declared.views.nic.NicLook.TheVariants.{NoteInUse, NotLeft};
-ghost use Rattle.board_face.specs.declared.views.nic.NicLook.{NicLook};
-ghost use Rattle.board_face.specs.Looks.{NicTold};
-ghost use Rattle.board_face.specs.NotNow.{HasSentRingful};
-ghost use Rattle.board_face.specs.Tokens.{filled_by, next_place};
-ghost use Rattle.board_face.specs.Texts.{IsSplitNote, IsLinearNote};
-ghost use Rattle.board_face.specs.NicEvents.{nic_gist, placed, sent, sent_linear, saw_leave, nic_ended};
-ghost use Rattle.board_face.specs.NicCalls.{apps_of, free_words_of, IsOpen, HasOwn, HasPiece, HasNoToken, lost_of, sent_unsplit_bytes, NicOnlySaw, TookBuffer};
-ghost use Rattle.board_face.specs.NicCalls.{SweptWord, DealtWith, Closed};
+ghost use Rattle.board_face.specs.{declared.views.nic.{NicView.{NicView}, NicLook.{TheVariants.{NoteInUse, NotLeft}, NicLook}}, Looks.{NicTold}, NotNow.{HasSentRingful}, Tokens.{filled_by, next_place}, Texts.{IsSplitNote, IsLinearNote}, NicEvents.{nic_gist, placed, sent, sent_linear, saw_leave, nic_ended}, NicCalls.{apps_of, free_words_of, IsOpen, HasOwn, HasPiece, HasNoToken, lost_of, sent_unsplit_bytes, NicOnlySaw, TookBuffer, SweptWord, DealtWith, Closed}};
 
 use crate::{Entry, Own, Piece};
 use zr_kinds::Note;

@@ -14,8 +14,7 @@ pub struct Own {
 }
 
 impl Model for Own {
-    ghost use Rattle.board_face.specs.Tokens.{FitsBuffer, filling};
-    ghost use Rattle.board_face.specs.declared.views.parts.Filling.{Filling};
+    ghost use Rattle.board_face.specs.{Tokens.{FitsBuffer, filling}, declared.views.parts.Filling.{Filling}};
 
     ghost Value = { Filling };
 

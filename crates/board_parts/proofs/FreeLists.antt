@@ -1,16 +1,10 @@
 -- The free buffers in one list: those of the cache, and the listed ones behind them.
 use Rattle.std.proofs.Common.{◌≡◌, ℕ, zero, suc, ◌+◌, ◌<◌, ◌≤◌, Bool, true, false, List, [], ◌∷◌, ◌++◌, length}
 use Rattle.std.proofs.Common.{get_or, refl, ap, sym, ◌∙◌, arith, ⊎_elim, subst, length-append}
-use Rattle.std.specs.Prelude.{◌≢◌, ◌==◌, All, AllPairs, nat_eq, count_by, if◌then◌else◌}
-use Rattle.std.proofs.lemmas.List.{append-nil}
-use Rattle.std.proofs.lemmas.List.Elements.{All-nil, All-push, All-weaker}
-use Rattle.std.proofs.lemmas.List.Quantifiers.{all_pairs_push}
-use Rattle.std.proofs.lemmas.Bool.{cases_lt}
-use Rattle.std.proofs.lemmas.Bool.Decides.{eqb_tells}
-use Rattle.board_face.specs.Ended.{IsEachOnce}
-use Rattle.board_face.proofs.Tallies.{weight}
+use Rattle.std.{specs.Prelude.{◌≢◌, ◌==◌, All, AllPairs, nat_eq, count_by, if◌then◌else◌}, proofs.lemmas.List.{append-nil, Elements.{All-nil, All-push, All-weaker}}}
+use Rattle.std.proofs.lemmas.{List.Quantifiers.{all_pairs_push}, Bool.{cases_lt, Decides.{eqb_tells}}}
+use Rattle.board_face.{specs.Ended.{IsEachOnce}, proofs.{Tallies.{weight}, Counting.{weight-same, count-append, count-cons}}}
 use Rattle.board_parts.specs.Free.{listed_in, listed_below}
-use Rattle.board_face.proofs.Counting.{weight-same, count-append, count-cons}
 pub use Rattle.board_face.proofs.Counting.{weight-other}
 use Rattle.zr_kinds.proofs.Booleans.{if-none, if-one}
 

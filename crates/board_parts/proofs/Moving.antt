@@ -1,11 +1,8 @@
 -- A word of the free list is moved into the cache, the highest buffer first.
 use Rattle.std.proofs.Common.{◌≡◌, ℕ, zero, suc, ◌+◌, ◌<◌, ◌≤◌, Bool, true, false, List, [], ◌∷◌, ◌++◌, length, set, refl, ap}
-use Rattle.std.proofs.Common.{sym, ◌∙◌, subst, arith, ⊎_elim, inl, inr, length-append, append_assoc}
-use Rattle.std.specs.Prelude.{◌≢◌, ◌⊎◌, if◌then◌else◌}
-use Rattle.std.proofs.lemmas.List.{get_or-set_same, get_or-set_other, length-set}
-use Rattle.std.proofs.lemmas.Bool.Decides.{eqb_tells}
-use Rattle.board_parts.specs.Free.{listed_in}
-use Rattle.board_parts.specs.Free.{listed_from}
+use Rattle.std.{proofs.Common.{sym, ◌∙◌, subst, arith, ⊎_elim, inl, inr, length-append, append_assoc}, specs.Prelude.{◌≢◌, ◌⊎◌, if◌then◌else◌}}
+use Rattle.std.proofs.lemmas.{List.{get_or-set_same, get_or-set_other, length-set}, Bool.Decides.{eqb_tells}}
+use Rattle.board_parts.specs.Free.{listed_in, listed_from}
 
 -- Of the n buffers from `first` on, those from the place `left` on are moved.
 pub record IsMoved (before now : List Bool) (cache0 cache : List ℕ) (first n left count : ℕ) : Type 0 where

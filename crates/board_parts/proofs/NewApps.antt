@@ -1,7 +1,6 @@
 -- One application more.
 use Rattle.std.proofs.Common.{◌≡◌, ℕ, zero, suc, ◌+◌, [], ◌∷◌, ◌++◌, refl, ap, arith, add-zero}
-use Rattle.board_face.specs.Opened.{new_app}
-use Rattle.board_face.specs.declared.views.parts.Setting.{Setting}
+use Rattle.board_face.specs.{Opened.{new_app}, declared.views.parts.Setting.{Setting}}
 use Rattle.board_parts.specs.Opened.{new_apps}
 
 pub new_apps-push : (s : Setting) (first n : ℕ) → new_apps s first (suc n) ≡ new_apps s first n ++ new_app s (first + n) ∷ []

@@ -1,20 +1,10 @@
 -- Nobody but its application has anything in a reserve, where each lies in the pool or in its own.
-use Rattle.std.proofs.Common.{◌≡◌, ℕ, zero, suc, ◌+◌, ◌<◌, ◌≤◌, Bool, true, false, List, [], ◌∷◌, length, get_or, refl, ap, sym}
-use Rattle.std.proofs.Common.{◌∙◌, arith, ⊎_elim}
-use Rattle.std.specs.Prelude.{◌≢◌, ◌==◌, if◌then◌else◌, filter, All}
-use Rattle.std.proofs.lemmas.List.Elements.{All-head, All-tail, All-filter, All-drop, All-weaker}
+use Rattle.std.proofs.Common.{◌≡◌, ℕ, zero, suc, ◌+◌, ◌<◌, ◌≤◌, Bool, true, false, List, [], ◌∷◌, length, get_or, refl, ap, sym, ◌∙◌, arith, ⊎_elim}
+use Rattle.std.{specs.Prelude.{◌≢◌, ◌==◌, if◌then◌else◌, filter, All}, proofs.lemmas.List.Elements.{All-head, All-tail, All-filter, All-drop, All-weaker}}
 use Rattle.area_layout.specs.Layout.{pool_buffers}
-use Rattle.board_face.specs.Sides.{IsApp, AreNumbered}
-use Rattle.board_face.specs.Holders.{sent_to, on_way}
-use Rattle.board_face.specs.Counts.{pool_count}
-use Rattle.board_face.specs.AppEvents.{reserve_of}
-use Rattle.board_face.specs.OwnBuffers.{IsOwnBuffer, CardLiesInPool, AppLiesInOwn}
-use Rattle.board_face.specs.declared.views.nic.SentNote.{SentNote}
-use Rattle.board_face.specs.declared.views.nic.NicSide.{NicSide}
-use Rattle.board_face.specs.declared.views.app.AppView.{AppView}
-use Rattle.board_face.specs.declared.views.app.AppSide.{AppSide}
-use Rattle.board_face.proofs.SideLemmas.{IsApp-at}
-use Rattle.board_face.proofs.Tallies.{tally, total}
+use Rattle.board_face.specs.{Sides.{IsApp, AreNumbered}, Holders.{sent_to, on_way}, Counts.{pool_count}, AppEvents.{reserve_of}}
+use Rattle.board_face.specs.{OwnBuffers.{IsOwnBuffer, CardLiesInPool, AppLiesInOwn}, declared.views.nic.{SentNote.{SentNote}, NicSide.{NicSide}}}
+use Rattle.board_face.{specs.declared.views.app.{AppView.{AppView}, AppSide.{AppSide}}, proofs.{SideLemmas.{IsApp-at}, Tallies.{tally, total}}}
 use Rattle.board_face.proofs.Parts.{nic_count, app_count, notes_in, spares_in, loans_in, owed_count, returning_in_count, making_in, pool_count-parts}
 use Rattle.board_face.proofs.Counting.{weight-other}
 

@@ -1,14 +1,8 @@
 -- The references of an application are taken back. Each buffer has its own counts, so its turn leaves the others as they are.
-use Rattle.std.proofs.Common.{◌≡◌, ℕ, ◌+◌, ◌-◌, ◌<◌, ◌≤◌, Bool, true, false, List, length, get_or, set, refl, ◌∙◌, arith}
-use Rattle.std.proofs.Common.{⊎_elim}
-use Rattle.std.specs.Prelude.{◌≢◌, if◌then◌else◌}
-use Rattle.std.proofs.lemmas.List.{get_or-set_same, get_or-set_other, length-set}
-use Rattle.std.proofs.lemmas.Bool.{cases_eq}
-use Rattle.std.proofs.lemmas.Bool.Decides.{nat_tests}
-use Rattle.std.proofs.lemmas.Nat.{same_from_place}
+use Rattle.std.{proofs.Common.{◌≡◌, ℕ, ◌+◌, ◌-◌, ◌<◌, ◌≤◌, Bool, true, false, List, length, get_or, set, refl, ◌∙◌, arith, ⊎_elim}, specs.Prelude.{◌≢◌, if◌then◌else◌}}
+use Rattle.std.proofs.lemmas.{List.{get_or-set_same, get_or-set_other, length-set}, Bool.{cases_eq, Decides.{nat_tests}}, Nat.{same_from_place}}
 use Rattle.area_layout.specs.Layout.{Shape, total, pool_buffers}
-use Rattle.board_parts.specs.Counts.{user_at, came_back}
-use Rattle.board_parts.specs.Free.{listed_in}
+use Rattle.board_parts.specs.{Counts.{user_at, came_back}, Free.{listed_in}}
 
 -- what a buffer has once it had its turn
 pub record IsTaken (layout : Shape) (b user user' count count' : ℕ) (is is' : Bool) : Type 0 where

@@ -1,5 +1,4 @@
-ghost use Rattle.std.specs.Prelude.{◌≡◌, ℕ, ◌+◌, ◌*◌, ◌<◌, ◌≤◌, ◌++◌, ◌⊎◌, true, false, [], length, slice_index, slice_set};
-ghost use Rattle.std.specs.Prelude.{IsTrue, MatchOption, vec_capacity, ◌&&◌, nat_lt, if◌then◌else◌};
+ghost use Rattle.std.specs.Prelude.{◌≡◌, ℕ, ◌+◌, ◌*◌, ◌<◌, ◌≤◌, ◌++◌, ◌⊎◌, true, false, [], length, slice_index, slice_set, IsTrue, MatchOption, vec_capacity, ◌&&◌, nat_lt, if◌then◌else◌};
 ghost use Rattle.area_layout.specs.Layout.{pool_buffers};
 ghost use Rattle.board_face.specs.NicEvents.{cached, cache_room, word_bits};
 ghost use Rattle.board_parts.specs.Free.{listed_in, relisted, word_end, found_in, listed_below, HasNoneListed, IsLowest, IsPicked};

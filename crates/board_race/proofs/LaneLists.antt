@@ -1,15 +1,11 @@
 -- Lists of lanes, and the applications that are back.
-use Rattle.std.proofs.Common.{◌≡◌, ℕ, suc, take, drop, ◌<◌, List, [], ◌∷◌, ◌++◌, length, map, refl, sym, ◌∙◌, arith, subst, ⊎_elim}
-use Rattle.std.specs.Prelude.{Contains}
+use Rattle.std.{proofs.Common.{◌≡◌, ℕ, suc, take, drop, ◌<◌, List, [], ◌∷◌, ◌++◌, length, map, refl, sym, ◌∙◌, arith, subst, ⊎_elim}, specs.Prelude.{Contains}}
 use Rattle.std.proofs.lemmas.List.{get_or_append_left, get_or_push, length_push, map-append, append-nil, take_all, drop_all}
-use Rattle.std.proofs.lemmas.List.Elements.{Contains-append_left, Contains-push}
-use Rattle.std.proofs.lemmas.Bool.{cases_lt}
+use Rattle.std.proofs.lemmas.{List.Elements.{Contains-append_left, Contains-push}, Bool.{cases_lt}}
 use Rattle.board_face.specs.declared.views.app.AppSide.{AppSide}
-use Rattle.ref_words.specs.declared.view.View.{View}
-use Rattle.ref_words.specs.Seated.{both_sides, app_view}
+use Rattle.ref_words.specs.{declared.view.View.{View}, Seated.{both_sides, app_view}}
 use Rattle.word_board.specs.Board.{TheBoard}
-use Rattle.board_race.specs.declared.lanes.Lane.{Lane}
-use Rattle.board_race.specs.Lanes.{AreAt, SayLeft, HaveRun, AreBackFrom}
+use Rattle.board_race.specs.{declared.lanes.Lane.{Lane}, Lanes.{AreAt, SayLeft, HaveRun, AreBackFrom}}
 
 -- a list of lanes with one more behind it, of the next application
 pub AreAt-push : (b : TheBoard) (xs : List Lane) (x : Lane) → AreAt b xs → x.seat.board ≡ b → x.seat.side.view.app ≡ length xs

@@ -1,7 +1,6 @@
 //! The lanes of the applications, each with its seat, its half of the stream and room for a text.
 ghost use Rattle.std.specs.Prelude.{◌≡◌, All, IfOk, IfSome};
-ghost use Rattle.board_face.specs.NicCalls.{apps_of};
-ghost use Rattle.board_face.specs.Opened.{new_app};
+ghost use Rattle.board_face.specs.{NicCalls.{apps_of}, Opened.{new_app}};
 ghost use Rattle.note_stream.specs.Halves.{IsReceiver};
 ghost use Rattle.board_race.specs.Lanes.{AreReady, HasRun, HaveRun};
 

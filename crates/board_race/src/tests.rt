@@ -1,6 +1,5 @@
 ghost use Rattle.std.specs.Prelude.{◌≡◌, ◌≤◌};
-ghost use Rattle.face_table.specs.CardHand.{IsCardHand};
-ghost use Rattle.face_table.specs.AppHand.{IsAppHand};
+ghost use Rattle.face_table.specs.{CardHand.{IsCardHand}, AppHand.{IsAppHand}};
 
 mod entries;
 mod spares;

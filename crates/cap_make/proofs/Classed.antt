@@ -1,16 +1,11 @@
 -- The class of a frame whose headers have no options.
 use Rattle.std.proofs.Common.{◌≡◌, ℕ, ◌+◌, ◌-◌, ◌*◌, ◌/◌, ◌%◌, ◌^◌, ◌<◌, ◌≤◌, Bool, true, false}
-use Rattle.std.proofs.Common.{if◌then◌else◌, ◌&&◌, nat_lt, List, [], ◌∷◌, length, take, drop, take_all, refl}
-use Rattle.std.proofs.Common.{◌∙◌, arith}
-use Rattle.std.proofs.lemmas.Bool.{le-ltb}
+use Rattle.std.proofs.{Common.{if◌then◌else◌, ◌&&◌, nat_lt, List, [], ◌∷◌, length, take, drop, take_all, refl, ◌∙◌, arith}, lemmas.Bool.{le-ltb}}
 use Rattle.std.specs.Prelude.{slice_range}
 use Rattle.byteorder.specs.Endian.{big_number}
-use Rattle.frame_headers.specs.declared.segment.Addr.{Addr}
-use Rattle.frame_headers.specs.declared.segment.Addr.TheVariants.{V4}
+use Rattle.frame_headers.specs.declared.segment.Addr.{Addr, TheVariants.{V4}}
 use Rattle.frame_headers.specs.FrameClass.{FrameClass, Tcp, class_of, packet_class, ipv4_class, tcp_class, half_at, byte_at}
-use Rattle.cap_make.specs.declared.piece.Piece.{Piece}
-use Rattle.cap_make.specs.GeneratedCapture.{base, swapped, frame_of, payload_of, piece_of}
-use Rattle.cap_make.specs.Carried.{segment_with}
+use Rattle.cap_make.specs.{declared.piece.Piece.{Piece}, GeneratedCapture.{base, swapped, frame_of, payload_of, piece_of}, Carried.{segment_with}}
 use Rattle.cap_make.proofs.Payload.{length-bytes_from, length-frame_of}
 
 -- a TCP header of 20 bytes, and behind it payload up to the frame's end

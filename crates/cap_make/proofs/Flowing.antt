@@ -1,16 +1,9 @@
 -- The flows of a generated capture: the first four frames begin one each, and each later frame goes to one of them.
-use Rattle.std.proofs.Common.{◌≡◌, ℕ, zero, suc, ◌+◌, ◌/◌, ◌%◌, ◌^◌, ◌<◌}
-use Rattle.std.proofs.Common.{List, [], ◌∷◌, length, take, take_all, Some, refl, ap}
-use Rattle.std.proofs.Common.{◌∙◌, arith}
-use Rattle.std.proofs.lemmas.List.{map-append}
-use Rattle.frame_headers.specs.FrameClass.{TcpSegment, class_of}
-use Rattle.frame_headers.specs.Seen.{segment_of}
-use Rattle.frame_headers.specs.declared.segment.Addr.TheVariants.{V4}
-use Rattle.flow_table.specs.Steered.{SteeredTcp, segments_of, steered_of, steered_from}
-use Rattle.flow_table.specs.Flows.{Flow, flows_of, flows_after, flows_with, number_of_flow}
+use Rattle.std.proofs.{Common.{◌≡◌, ℕ, zero, suc, ◌+◌, ◌/◌, ◌%◌, ◌^◌, ◌<◌, List, [], ◌∷◌, length, take, take_all, Some, refl, ap, ◌∙◌, arith}, lemmas.List.{map-append}}
+use Rattle.frame_headers.specs.{FrameClass.{TcpSegment, class_of}, Seen.{segment_of}, declared.segment.Addr.TheVariants.{V4}}
+use Rattle.flow_table.specs.{Steered.{SteeredTcp, segments_of, steered_of, steered_from}, Flows.{Flow, flows_of, flows_after, flows_with, number_of_flow}}
 use Rattle.flow_table.proofs.Laws.{steered_from-append, flows_after-append}
-use Rattle.cap_make.specs.GeneratedCapture.{base, drawn, frame_of, payload_of, piece_of}
-use Rattle.cap_make.specs.Carried.{frames_of, four_flows, ports}
+use Rattle.cap_make.specs.{GeneratedCapture.{base, drawn, frame_of, payload_of, piece_of}, Carried.{frames_of, four_flows, ports}}
 use Rattle.cap_make.proofs.Classed.{class_of-frame_of, few_flows, few_bytes}
 
 -- a segment of this flow, from this sequence number on, as the frames have them

@@ -1,8 +1,6 @@
 -- The bytes of a flow from a position on, and a frame's length.
-use Rattle.std.proofs.Common.{◌≡◌, ℕ, zero, suc, ◌+◌, ◌*◌, ◌%◌, [], ◌∷◌, ◌++◌, length, refl, ap, ◌∙◌, add-one}
-use Rattle.std.proofs.Common.{arith}
-use Rattle.cap_make.specs.declared.piece.Piece.{Piece}
-use Rattle.cap_make.specs.GeneratedCapture.{bytes_from, frame_of}
+use Rattle.std.proofs.Common.{◌≡◌, ℕ, zero, suc, ◌+◌, ◌*◌, ◌%◌, [], ◌∷◌, ◌++◌, length, refl, ap, ◌∙◌, add-one, arith}
+use Rattle.cap_make.specs.{declared.piece.Piece.{Piece}, GeneratedCapture.{bytes_from, frame_of}}
 
 pub length-bytes_from : (shift p n : ℕ) → length (bytes_from shift p n) ≡ n
 length-bytes_from shift p zero = refl

@@ -1,11 +1,8 @@
 -- What the frames of a generated capture carry, as a reader of frames sees them.
 use Rattle.std.specs.Prelude.{ℕ, zero, suc, ◌+◌, ◌%◌, ◌^◌, List, [], ◌∷◌, ◌++◌}
-use Rattle.frame_headers.specs.FrameClass.{TcpSegment}
-use Rattle.frame_headers.specs.declared.segment.Addr.TheVariants.{V4}
-use Rattle.flow_table.specs.CountedPart.{not_closed}
-use Rattle.flow_table.specs.Flows.{Flow}
-use Rattle.cap_make.specs.declared.piece.Piece.{Piece}
-use Rattle.cap_make.specs.GeneratedCapture.{base, drawn, frame_of, payload_of, piece_of}
+use Rattle.frame_headers.specs.{FrameClass.{TcpSegment}, declared.segment.Addr.TheVariants.{V4}}
+use Rattle.flow_table.specs.{CountedPart.{not_closed}, Flows.{Flow}}
+use Rattle.cap_make.specs.{declared.piece.Piece.{Piece}, GeneratedCapture.{base, drawn, frame_of, payload_of, piece_of}}
 
 -- a segment with PSH and ACK from 10.0.0.1 to 10.0.0.2, to the port of the piece's flow, at the piece's place in the flow
 abbrev pub segment_with : ℕ → Piece → TcpSegment

@@ -1,7 +1,6 @@
 -- The capture of a seed and a number of frames: a classic pcap capture of TCP frames over IPv4 over Ethernet. Four flows
 -- take turns; each sends pieces of 1,000 bytes, of which every second pair is swapped and some begin 100 bytes early.
-use Rattle.std.specs.Prelude.{ℕ, zero, suc, ◌+◌, ◌-◌, ◌*◌, ◌/◌, ◌%◌, ◌^◌, ◌==◌, ◌&&◌, if◌then◌else◌, nat_lt, List, []}
-use Rattle.std.specs.Prelude.{◌∷◌, ◌++◌, length}
+use Rattle.std.specs.Prelude.{ℕ, zero, suc, ◌+◌, ◌-◌, ◌*◌, ◌/◌, ◌%◌, ◌^◌, ◌==◌, ◌&&◌, if◌then◌else◌, nat_lt, List, [], ◌∷◌, ◌++◌, length}
 use Rattle.byteorder.specs.Endian.{big_bytes, little_bytes}
 use Rattle.cap_make.specs.declared.piece.Piece.{Piece}
 

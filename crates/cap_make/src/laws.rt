@@ -1,10 +1,8 @@
 //! What the frames of a generated capture carry.
 ghost use Rattle.std.specs.Prelude.{◌≡◌, ℕ, take};
 ghost use Rattle.frame_headers.specs.FrameClass.{class_of, Tcp};
-ghost use Rattle.flow_table.specs.Steered.{segments_of, steered_of};
-ghost use Rattle.flow_table.specs.Flows.{flows_of};
-ghost use Rattle.cap_make.specs.GeneratedCapture.{piece_of, frame_of};
-ghost use Rattle.cap_make.specs.Carried.{segment_with, frames_of, four_flows, ports};
+ghost use Rattle.flow_table.specs.{Steered.{segments_of, steered_of}, Flows.{flows_of}};
+ghost use Rattle.cap_make.specs.{GeneratedCapture.{piece_of, frame_of}, Carried.{segment_with, frames_of, four_flows, ports}};
 
 /// Each frame is a whole TCP segment, to its flow's port, with the bytes of its piece at their place in the flow.
 pub fn frames_are_segments()

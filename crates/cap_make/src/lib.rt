@@ -5,8 +5,6 @@ mod frame;
 mod generator;
 mod laws;
 mod piece;
-#[cfg(test)]
-mod tests;
 
 pub use generator::make;
 pub use laws::{flows_are_four, frames_are_segments};

@@ -1,23 +1,13 @@
 -- The stream of a flow, without the frames that are left out, by the frames that were offered.
 use Rattle.std.proofs.Common.{◌≡◌, ℕ, suc, ◌+◌, ◌^◌, List, [], ◌∷◌, ◌++◌, length, map, filter, append_assoc, length-append, refl}
-use Rattle.std.proofs.Common.{sym, ap, subst, ◌∙◌, ⊎_elim, arith, Bool, true, false, not, nat_lt, if◌then◌else◌, ◌==◌, Option, Some, None}
-use Rattle.std.proofs.Common.{option_map}
-use Rattle.std.proofs.lemmas.List.{map-id}
-use Rattle.std.specs.Prelude.{All}
-use Rattle.std.specs.List.{list_any, slice_get}
-use Rattle.std.proofs.lemmas.Bool.{eqb-true, eqb-false, ne_eqb, cases_Bool, true≢false}
+use Rattle.std.proofs.Common.{sym, ap, subst, ◌∙◌, ⊎_elim, arith, Bool, true, false, not, nat_lt, if◌then◌else◌, ◌==◌, Option, Some, None, option_map}
+use Rattle.std.{proofs.lemmas.{List.{map-id}, Bool.{eqb-true, eqb-false, ne_eqb, cases_Bool, true≢false}}, specs.{Prelude.{All}, List.{list_any, slice_get}}}
 use Rattle.zr_kinds.specs.CopyingReceiver.{Placed, nothing_placed, next_missing, lead, accepts, brought, first_of, filled, received, front_of}
-use Rattle.zr_kinds.proofs.InOrder.{first_of-nothing}
-use Rattle.zr_kinds.proofs.LeastMissing.{IsBounded-nothing}
-use Rattle.zr_kinds.proofs.Mapped.{MapsPlaced, received-map, front_of-map}
-use Rattle.board_face.specs.declared.views.nic.SentNote.{SentNote}
-use Rattle.flow_table.specs.Steered.{SteeredTcp, first_byte}
-use Rattle.flow_table.specs.CountedPart.{FlowClose, not_closed, closed_by, counted_part}
-use Rattle.flow_table.specs.Flows.{Flow, flows_of, flows_with, number_of_flow, of_flow_after}
-use Rattle.flow_table.specs.Stream.{received_all, stream_of}
+use Rattle.zr_kinds.proofs.{InOrder.{first_of-nothing}, LeastMissing.{IsBounded-nothing}, Mapped.{MapsPlaced, received-map, front_of-map}}
+use Rattle.board_face.specs.{declared.views.{nic.SentNote.{SentNote}, app.AppView.{AppView}}, Relay.{as_taken, IsAsSent}}
+use Rattle.flow_table.specs.{Steered.{SteeredTcp, first_byte}, CountedPart.{FlowClose, not_closed, closed_by, counted_part}}
+use Rattle.flow_table.specs.{Flows.{Flow, flows_of, flows_with, number_of_flow, of_flow_after}, Stream.{received_all, stream_of}}
 use Rattle.flow_table.proofs.Closes.{close_or, flows_with-close}
-use Rattle.board_face.specs.Relay.{as_taken, IsAsSent}
-use Rattle.board_face.specs.declared.views.app.AppView.{AppView}
 use Rattle.app_worker.specs.Marks.{base_of, marks_of}
 use Rattle.page_pool.specs.Frames.{Offered, ShowFrames}
 use Rattle.flow_queues.specs.Streams.{IsFront}

@@ -1,7 +1,5 @@
 -- A new feed has read nothing, and nothing was offered of it.
-use Rattle.std.proofs.Common.{ℕ, List, [], Option, inl, refl, arith}
-use Rattle.std.proofs.lemmas.List.Elements.{All-nil}
-use Rattle.std.specs.Prelude.{AllPairs, ◌<◌}
+use Rattle.std.{proofs.{Common.{ℕ, List, [], Option, inl, refl, arith}, lemmas.List.Elements.{All-nil}}, specs.Prelude.{AllPairs, ◌<◌}}
 use Rattle.frames_read.proofs.Framing.{steered-nothing}
 use Rattle.card_feed.specs.Feed.{NewFeedsStand}
 

@@ -1,17 +1,13 @@
 -- A board that accounts for a run gives each flow its stream.
-use Rattle.std.proofs.Common.{◌≡◌, ℕ, ◌<◌, List, [], ◌∷◌, ◌++◌, length, filter, Bool, true, false, not, ◌==◌, Option, ⊎_elim, sym}
-use Rattle.std.proofs.Common.{ap, ◌∙◌, append-nil, arith}
+use Rattle.std.proofs.Common.{◌≡◌, ℕ, ◌<◌, List, [], ◌∷◌, ◌++◌, length, filter, Bool, true, false, not, ◌==◌, Option, ⊎_elim, sym, ap, ◌∙◌, append-nil, arith}
 use Rattle.std.proofs.lemmas.Bool.{cases_Bool, true≢false}
 use Rattle.zr_io.proofs.Moved.{Gained-weaker}
 use Rattle.flow_table.specs.Stream.{stream_of}
 use Rattle.frames_read.specs.Ending.{steered_in}
 use Rattle.board_face.specs.Holders.{sent_to}
 use Rattle.page_pool.specs.Frames.{Offered}
-use Rattle.card_feed.specs.Offered.{offered_after, offers_of, has_payload, without}
-use Rattle.card_feed.specs.Account.{offered_to, IsFlowRead, IsStreamedTo, AccountsGiveStreams, kept_in}
-use Rattle.card_feed.proofs.OffersRise.{RiseFrom, rise-filter, offers-rise}
-use Rattle.card_feed.proofs.NotesShown.{AreAbove, Ascend, HaveBytes}
-use Rattle.card_feed.proofs.Accounted.{stream_accounted}
+use Rattle.card_feed.specs.{Offered.{offered_after, offers_of, has_payload, without}, Account.{offered_to, IsFlowRead, IsStreamedTo, AccountsGiveStreams, kept_in}}
+use Rattle.card_feed.proofs.{OffersRise.{RiseFrom, rise-filter, offers-rise}, NotesShown.{AreAbove, Ascend, HaveBytes}, Accounted.{stream_accounted}}
 use Rattle.card_feed.proofs.OfFlow.{AreOfFlow, AreOfFlow-filter, flow-frames, app-filter, first-base}
 
 above-from : (n m : ℕ) (os : List Offered) → n < m → RiseFrom m os → AreAbove n os

@@ -1,21 +1,13 @@
 -- What the pool's counts say after a turn.
 use Rattle.std.proofs.Common.{◌≡◌, ◌≢◌, inl, ℕ, ◌+◌, ◌-◌, ◌^◌, ◌<◌, ◌≤◌, nat_le, cond, true, false}
-use Rattle.std.proofs.Common.{List, [], ◌∷◌, ◌++◌, length, Option, Some, None, option_to_list, ⊎_elim, refl, sym, ap, subst}
-use Rattle.std.proofs.Common.{◌∙◌, append-nil, length-append, arith}
-use Rattle.std.proofs.lemmas.Bool.{cases_Bool, leb-false, lt-ltb}
-use Rattle.std.proofs.lemmas.List.Sums.{sum_by-append}
+use Rattle.std.proofs.Common.{List, [], ◌∷◌, ◌++◌, length, Option, Some, None, option_to_list, ⊎_elim, refl, sym, ap, subst, ◌∙◌, append-nil, length-append, arith}
+use Rattle.std.proofs.lemmas.{Bool.{cases_Bool, leb-false, lt-ltb}, List.Sums.{sum_by-append}}
 use Rattle.zr_kinds.specs.declared.outcome.PoolStats.{PoolStats}
-use Rattle.board_face.specs.declared.views.parts.Filling.{Filling}
-use Rattle.board_face.specs.declared.views.nic.Dealt.{Dealt}
-use Rattle.board_face.specs.declared.views.nic.NicView.{NicView}
-use Rattle.page_pool.specs.declared.offer.Offer.{Offer}
-use Rattle.page_pool.specs.Frames.{Offered, offered}
-use Rattle.page_pool.specs.Dealing.{IsRaised, is_stray, strays_in, DrainsRings}
-use Rattle.page_pool.specs.Searching.{SearchEnd, fast, refill, slow, empty, CountsEnd, LooksAhead}
-use Rattle.page_pool.specs.Pool.{PoolState, Closes}
+use Rattle.board_face.specs.declared.views.{parts.Filling.{Filling}, nic.{Dealt.{Dealt}, NicView.{NicView}}}
+use Rattle.page_pool.specs.{declared.offer.Offer.{Offer}, Frames.{Offered, offered}, Dealing.{IsRaised, is_stray, strays_in, DrainsRings}}
+use Rattle.page_pool.specs.{Searching.{SearchEnd, fast, refill, slow, empty, CountsEnd, LooksAhead}, Pool.{PoolState, Closes}}
 use Rattle.page_pool.specs.Offer.{payload_of, needed_for, LooksFor, not_needed, searched, Accepts, Refuses}
-use Rattle.card_feed.specs.Counts.{capped, is_long, long_in, searches_in, AreCounted}
-use Rattle.card_feed.proofs.PlayLemmas.{closed-dealt}
+use Rattle.card_feed.{specs.Counts.{capped, is_long, long_in, searches_in, AreCounted}, proofs.PlayLemmas.{closed-dealt}}
 
 -- each count fits its type
 pub record AreInType (stats : PoolStats) : Type 0 where

@@ -1,27 +1,15 @@
 -- Each search that found enough shows in the notes of its frame, which begin in a fresh buffer.
 use Rattle.std.proofs.Common.{◌≡◌, ◌≢◌, ◌⊎◌, inl, inr, ℕ, zero, suc, ◌+◌, ◌-◌, ◌^◌, ◌<◌, ◌≤◌, ◌==◌, nat_le, min, cond, true, false}
-use Rattle.std.proofs.Common.{List, [], ◌∷◌, ◌++◌, length, map, Option, Some, None, ⊎_elim, refl, ap, subst, ◌∙◌, arith}
-use Rattle.std.specs.Prelude.{count_by, IfSome}
-use Rattle.std.proofs.lemmas.Bool.{cases_Bool, leb-false, ne_eqb}
-use Rattle.std.proofs.lemmas.List.Sums.{sum_by-append, sum_by-cons}
-use Rattle.zr_kinds.specs.declared.outcome.PoolStats.{PoolStats}
-use Rattle.zr_kinds.specs.declared.place.Place.{Place}
+use Rattle.std.{proofs.Common.{List, [], ◌∷◌, ◌++◌, length, map, Option, Some, None, ⊎_elim, refl, ap, subst, ◌∙◌, arith}, specs.Prelude.{count_by, IfSome}}
+use Rattle.std.proofs.lemmas.{Bool.{cases_Bool, leb-false, ne_eqb}, List.Sums.{sum_by-append, sum_by-cons}}
+use Rattle.zr_kinds.specs.declared.{outcome.PoolStats.{PoolStats}, place.Place.{Place}}
 use Rattle.area_layout.specs.Layout.{size_of}
-use Rattle.board_face.specs.Tokens.{next_start, filled_by}
-use Rattle.board_face.specs.declared.views.parts.Setting.{Setting}
-use Rattle.board_face.specs.declared.views.parts.Filling.{Filling}
-use Rattle.board_face.specs.declared.views.nic.Dealt.{Dealt}
-use Rattle.board_face.specs.declared.views.nic.SentNote.{SentNote}
+use Rattle.board_face.specs.{Tokens.{next_start, filled_by}, declared.views.{parts.{Setting.{Setting}, Filling.{Filling}}, nic.{Dealt.{Dealt}, SentNote.{SentNote}}}}
 use Rattle.board_face.specs.declared.views.nic.NicView.{NicView}
-use Rattle.page_pool.specs.declared.offer.Offer.{Offer}
-use Rattle.page_pool.specs.Frames.{offered, ShowRest}
-use Rattle.page_pool.specs.Packing.{fits, fresh_parts, fresh as in_fresh}
-use Rattle.page_pool.specs.Searching.{SearchEnd, fast, refill, slow, empty, CountsEnd}
-use Rattle.page_pool.specs.Pool.{PoolState, all_notes}
+use Rattle.page_pool.specs.{declared.offer.Offer.{Offer}, Frames.{offered, ShowRest}, Packing.{fits, fresh_parts, fresh as in_fresh}}
+use Rattle.page_pool.specs.{Searching.{SearchEnd, fast, refill, slow, empty, CountsEnd}, Pool.{PoolState, all_notes}}
 use Rattle.page_pool.specs.Offer.{payload_of, frame_notes, split_notes, packed, place_of, places_for, needed_for, last_of}
-use Rattle.page_pool.specs.Offer.{LooksFor, not_needed, searched, Accepts, Refuses}
-use Rattle.page_pool.proofs.Offering.{packed_into-fresh}
-use Rattle.page_pool.proofs.PlacedParts.{next_note}
+use Rattle.page_pool.{specs.Offer.{LooksFor, not_needed, searched, Accepts, Refuses}, proofs.{Offering.{packed_into-fresh}, PlacedParts.{next_note}}}
 use Rattle.card_feed.specs.Counts.{found_in, begins_fresh, AreFound}
 
 -- ---- the notes of a frame

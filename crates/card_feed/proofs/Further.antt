@@ -1,15 +1,9 @@
 -- What a read takes of its source, and the bytes that it brings, whatever came before it.
-use Rattle.std.proofs.Common.{◌≡◌, ℕ, ◌≤◌, List, [], ◌++◌, length, Option, Some, None, Result, Ok, Err, refl, sym, subst, arith}
-use Rattle.std.specs.Prelude.{IfOk, IfSome}
-use Rattle.zr_kinds.specs.Limits.{longest_record}
-use Rattle.zr_kinds.specs.declared.fault.Fault.{Fault}
-use Rattle.zr_io.specs.Moved.{Took}
-use Rattle.zr_io.proofs.Moved.{Took-then, Took-weaker}
-use Rattle.pcap_reader.specs.declared.capture.Record.{Record}
-use Rattle.pcap_reader.specs.Records.{no_record, with_record}
-use Rattle.pcap_reader.specs.Capture.{HasReadCause, TakenShows, TakenHeaderShows}
-use Rattle.pcapng_reader.specs.Records.{Going, records_from, records_of, opening_fault}
-use Rattle.pcapng_reader.specs.Capture.{Reading, Opens, Gives}
+use Rattle.std.{proofs.Common.{◌≡◌, ℕ, ◌≤◌, List, [], ◌++◌, length, Option, Some, None, Result, Ok, Err, refl, sym, subst, arith}, specs.Prelude.{IfOk, IfSome}}
+use Rattle.zr_kinds.specs.{Limits.{longest_record}, declared.fault.Fault.{Fault}}
+use Rattle.zr_io.{specs.Moved.{Took}, proofs.Moved.{Took-then, Took-weaker}}
+use Rattle.pcap_reader.specs.{declared.capture.Record.{Record}, Records.{no_record, with_record}, Capture.{HasReadCause, TakenShows, TakenHeaderShows}}
+use Rattle.pcapng_reader.specs.{Records.{Going, records_from, records_of, opening_fault}, Capture.{Reading, Opens, Gives}}
 use Rattle.card_feed.specs.Coming.{TookBytes}
 
 -- ---- what was taken

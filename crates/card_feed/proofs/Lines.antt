@@ -1,17 +1,11 @@
 -- The lines of the flows, one after another.
 use Rattle.std.proofs.Common.{◌≡◌, ⊎_elim, ℕ, zero, suc, ◌+◌, ◌<◌, ◌≤◌, List, [], ◌∷◌, ◌++◌, length, map, get_or, Option}
-use Rattle.std.proofs.Common.{Some, None, option_map, refl, sym, ap, ◌∙◌, length-append, arith, ◌==◌}
-use Rattle.std.specs.List.{slice_get}
-use Rattle.std.proofs.lemmas.Bool.{cases_lt, eqb-true}
+use Rattle.std.{proofs.{Common.{Some, None, option_map, refl, sym, ap, ◌∙◌, length-append, arith, ◌==◌}, lemmas.Bool.{cases_lt, eqb-true}}, specs.List.{slice_get}}
 use Rattle.std.proofs.lemmas.List.Quantifiers.{position-Some}
 use Rattle.zr_kinds.specs.declared.behaviour.Stopped.TheVariants as stop
-use Rattle.zr_kinds.specs.declared.outcome.AppLine.{AppLine}
-use Rattle.zr_kinds.specs.declared.outcome.FlowLine.{FlowLine}
-use Rattle.flow_table.specs.Flows.{Flow}
-use Rattle.flow_table.specs.Placing.{info_of}
-use Rattle.flow_table.specs.declared.placed.FlowInfo.{FlowInfo}
-use Rattle.card_feed.specs.Hand.{HaveApps}
-use Rattle.card_feed.specs.Outcomes.{HavePorts, line_of, AreLinesOf}
+use Rattle.zr_kinds.specs.declared.outcome.{AppLine.{AppLine}, FlowLine.{FlowLine}}
+use Rattle.flow_table.specs.{Flows.{Flow}, Placing.{info_of}, declared.placed.FlowInfo.{FlowInfo}}
+use Rattle.card_feed.specs.{Hand.{HaveApps}, Outcomes.{HavePorts, line_of, AreLinesOf}}
 
 -- stands where there is no line
 abbrev pub none_line : AppLine

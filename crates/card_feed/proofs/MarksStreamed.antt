@@ -1,26 +1,14 @@
 -- What stands at a flow's marks is what the copying receiver has of the flow's frames.
 use Rattle.std.proofs.Common.{◌≡◌, ℕ, zero, suc, ◌+◌, ◌-◌, ◌<◌, List, [], ◌∷◌, ◌++◌, length, map, filter, take, drop}
-use Rattle.std.proofs.Common.{length-append, get_or, refl, sym, ap, subst, ◌∙◌, ⊎_elim, arith, true, false, ◌==◌, Some, None}
-use Rattle.std.specs.Prelude.{All}
-use Rattle.std.specs.List.{slice_get}
-use Rattle.std.proofs.lemmas.Bool.{cases_Bool}
-use Rattle.std.proofs.lemmas.List.{map-append, length-map}
-use Rattle.std.proofs.lemmas.List.Elements.{All-head, All-tail}
-use Rattle.std.proofs.lemmas.Option.{slice_get_within, get_or_from_slice_get}
-use Rattle.zr_kinds.specs.CopyingReceiver.{Placed, nothing_placed, value_at, received, front_of}
-use Rattle.board_face.specs.Shown.{bytes_sent, origin_bytes}
-use Rattle.board_face.specs.Relay.{as_taken, IsAsSent}
-use Rattle.board_face.specs.declared.views.nic.SentNote.{SentNote}
-use Rattle.board_face.specs.declared.views.app.TakenNote.{TakenNote}
-use Rattle.board_face.specs.declared.views.app.Reading.{Reading}
-use Rattle.board_face.specs.declared.views.app.AppView.{AppView}
-use Rattle.app_worker.specs.Marks.{Mark, Frame, received_frame, received_frames, base_of, marks_of}
-use Rattle.app_worker.specs.Core.{IsReadAt, IsIn, IsByteAt, AreReadAt}
-use Rattle.flow_queues.specs.Streams.{IsFront}
-use Rattle.flow_queues.proofs.ReadLemmas.{are-many}
-use Rattle.page_pool.specs.Frames.{Offered, ShowFrames}
-use Rattle.zr_kinds.proofs.LeastMissing.{IsBounded-nothing}
+use Rattle.std.{proofs.Common.{length-append, get_or, refl, sym, ap, subst, ◌∙◌, ⊎_elim, arith, true, false, ◌==◌, Some, None}, specs.{Prelude.{All}, List.{slice_get}}}
+use Rattle.std.proofs.lemmas.{Bool.{cases_Bool}, List.{map-append, length-map, Elements.{All-head, All-tail}}, Option.{slice_get_within, get_or_from_slice_get}}
+use Rattle.zr_kinds.{specs.CopyingReceiver.{Placed, nothing_placed, value_at, received, front_of}, proofs.LeastMissing.{IsBounded-nothing}}
 use Rattle.zr_kinds.proofs.Mapped.{MapsPlaced, received-map, front_of-map}
+use Rattle.board_face.specs.{Shown.{bytes_sent, origin_bytes}, Relay.{as_taken, IsAsSent}, declared.views.{nic.SentNote.{SentNote}, app.TakenNote.{TakenNote}}}
+use Rattle.board_face.specs.declared.views.app.{Reading.{Reading}, AppView.{AppView}}
+use Rattle.app_worker.specs.{Marks.{Mark, Frame, received_frame, received_frames, base_of, marks_of}, Core.{IsReadAt, IsIn, IsByteAt, AreReadAt}}
+use Rattle.flow_queues.{specs.Streams.{IsFront}, proofs.ReadLemmas.{are-many}}
+use Rattle.page_pool.specs.Frames.{Offered, ShowFrames}
 use Rattle.card_feed.proofs.NotesShown.{byte_or, byte_at, Shown, shown_by, shown_of, flow_notes, frames_shown, Ascend, HaveBytes}
 
 -- what the copying receiver has of these frames

@@ -1,31 +1,15 @@
 -- What frames use is within their need, and a frame is refused only where the need with it is above the number of buffers.
 use Rattle.std.proofs.Common.{◌≡◌, ℕ, ◌+◌, ◌<◌, ◌≤◌, nat_le, nat_lt, List, [], ◌∷◌, ◌++◌, length, map, filter, Bool, true, false, ◌==◌}
-use Rattle.std.proofs.Common.{Option, Some, None, option_to_list, ⊎_elim, refl, sym, ap, subst, ◌∙◌, length-append, append-nil, arith, All}
-use Rattle.std.specs.List.{list_any}
+use Rattle.std.{proofs.Common.{Option, Some, None, option_to_list, ⊎_elim, refl, sym, ap, subst, ◌∙◌, length-append, append-nil, arith, All}, specs.List.{list_any}}
 use Rattle.std.proofs.lemmas.Bool.{cases_Bool, eq-eqb, eqb-true, lt-ltb, le-ltb, leb-true, leb-false}
-use Rattle.std.proofs.lemmas.List.Elements.{All-nil, All-push, All-head, All-tail, All-cons, All-filter, filter-append}
-use Rattle.std.proofs.lemmas.List.Sums.{sum_by-append, sum_by-cons}
-use Rattle.std.proofs.lemmas.List.{map-append}
-use Rattle.board_face.specs.Texts.{unsplit_bytes}
+use Rattle.std.proofs.lemmas.List.{Elements.{All-nil, All-push, All-head, All-tail, All-cons, All-filter, filter-append}, Sums.{sum_by-append, sum_by-cons}, map-append}
+use Rattle.board_face.specs.{Texts.{unsplit_bytes}, declared.views.{parts.{Filling.{Filling}, Setting.{Setting}}, nic.{SentNote.{SentNote}, NicView.{NicView}}}}
 use Rattle.area_layout.specs.Layout.{Shape, pool_buffers, least_size}
 use Rattle.zr_kinds.specs.declared.place.Place.{Place}
-use Rattle.board_face.specs.declared.views.parts.Filling.{Filling}
-use Rattle.board_face.specs.declared.views.parts.Setting.{Setting}
-use Rattle.board_face.specs.declared.views.nic.SentNote.{SentNote}
-use Rattle.board_face.specs.declared.views.nic.NicView.{NicView}
-use Rattle.page_pool.specs.declared.offer.Offer.{Offer}
-use Rattle.page_pool.specs.declared.offer.Verdict.{Verdict}
-use Rattle.page_pool.specs.declared.offer.Verdict.TheVariants.{NoRoom}
-use Rattle.page_pool.specs.Frames.{Offered, offered}
-use Rattle.page_pool.specs.Dealing.{DrainsRings}
-use Rattle.page_pool.specs.Packing.{Current, buffers_for, fits, needed}
-use Rattle.page_pool.specs.Pool.{PoolState, all_notes, OnlySends, Closes}
-use Rattle.page_pool.specs.Offer.{payload_of, frame_notes, split_notes, packed, needed_for, places_for, Accepts, Refuses, Offers}
-use Rattle.page_pool.proofs.Accepting.{Offers-keep}
-use Rattle.card_feed.specs.Offered.{without}
-use Rattle.card_feed.specs.declared.plan.Plan.{Plan}
-use Rattle.card_feed.specs.Need.{need_for, need_of, need_with, bytes_in, AreNeeded, RefusesByNeed}
-use Rattle.card_feed.specs.Plan.{layout_of}
+use Rattle.page_pool.specs.{declared.offer.{Offer.{Offer}, Verdict.{Verdict, TheVariants.{NoRoom}}}, Frames.{Offered, offered}, Dealing.{DrainsRings}}
+use Rattle.page_pool.specs.{Packing.{Current, buffers_for, fits, needed}, Pool.{PoolState, all_notes, OnlySends, Closes}}
+use Rattle.page_pool.{specs.Offer.{payload_of, frame_notes, split_notes, packed, needed_for, places_for, Accepts, Refuses, Offers}, proofs.Accepting.{Offers-keep}}
+use Rattle.card_feed.specs.{Offered.{without}, declared.plan.Plan.{Plan}, Need.{need_for, need_of, need_with, bytes_in, AreNeeded, RefusesByNeed}, Plan.{layout_of}}
 use Rattle.card_feed.proofs.Settling.{without-last, without-refused}
 
 -- ---- what nothing was used by

@@ -1,17 +1,10 @@
 -- What the next record of a source is to the reading.
-use Rattle.std.proofs.Common.{◌≡◌, ℕ, List, [], ◌∷◌, ◌++◌, Option, Some, None, Result, Ok, Err, refl, sym, ap, ◌∙◌}
-use Rattle.std.specs.Prelude.{MatchResult, IsErrOf}
-use Rattle.zr_kinds.specs.declared.fault.Fault.{Fault}
-use Rattle.zr_kinds.specs.declared.fault.Fault.TheVariants.{Memory}
+use Rattle.std.{proofs.Common.{◌≡◌, ℕ, List, [], ◌∷◌, ◌++◌, Option, Some, None, Result, Ok, Err, refl, sym, ap, ◌∙◌}, specs.Prelude.{MatchResult, IsErrOf}}
+use Rattle.zr_kinds.specs.declared.fault.Fault.{Fault, TheVariants.{Memory}}
 use Rattle.zr_io.specs.Moved.{Took}
-use Rattle.pcap_reader.specs.Capture.{HasReadCause}
-use Rattle.pcap_reader.specs.Records.{Captured}
+use Rattle.pcap_reader.specs.{Capture.{HasReadCause}, Records.{Captured}, declared.capture.Record.{Record}}
 use Rattle.pcapng_reader.specs.Capture.{Reading, Gives, WantsMemory}
-use Rattle.pcap_reader.specs.declared.capture.Record.{Record}
-use Rattle.frames_read.specs.Ending.{frames_of}
-use Rattle.frames_read.specs.Reading.{HasRead, HasEnded}
-use Rattle.frames_read.proofs.Reading.{frames-append}
-use Rattle.frames_read.proofs.Endings.{ends-without, ends-by, ends-frame, goes_on}
+use Rattle.frames_read.{specs.{Ending.{frames_of}, Reading.{HasRead, HasEnded}}, proofs.{Reading.{frames-append}, Endings.{ends-without, ends-by, ends-frame, goes_on}}}
 use Rattle.card_feed.specs.declared.intake.Stage.TheVariants as stage
 use Rattle.card_feed.specs.Coming.{NextGives}
 

@@ -1,13 +1,9 @@
 -- Notes that show frames have these frames' marks.
 use Rattle.std.proofs.Common.{◌≡◌, ◌≢◌, ℕ, zero, suc, ◌+◌, ◌<◌, ◌≤◌, List, [], ◌∷◌, ◌++◌, length, map, filter, take}
-use Rattle.std.proofs.Common.{drop, append_assoc, length-append, refl, sym, ap, subst, ◌∙◌, ⊎_elim, arith, Bool, true, false, ◌==◌, Option, Some}
-use Rattle.std.proofs.Common.{None}
+use Rattle.std.proofs.Common.{drop, append_assoc, length-append, refl, sym, ap, subst, ◌∙◌, ⊎_elim, arith, Bool, true, false, ◌==◌, Option, Some, None}
 use Rattle.std.proofs.lemmas.Bool.{eq-eqb, ne_eqb, eqb-true, eqb-false, cases_Bool, cases_lt}
-use Rattle.std.proofs.lemmas.List.{append-nil, map-append, take-append-drop, length-take, length-drop}
-use Rattle.std.proofs.Math.Seq.{drop-nil, drop-length}
-use Rattle.board_face.specs.Shown.{bytes_sent}
-use Rattle.board_face.specs.Relay.{as_taken}
-use Rattle.board_face.specs.declared.views.nic.SentNote.{SentNote}
+use Rattle.std.proofs.{lemmas.List.{append-nil, map-append, take-append-drop, length-take, length-drop}, Math.Seq.{drop-nil, drop-length}}
+use Rattle.board_face.specs.{Shown.{bytes_sent}, Relay.{as_taken}, declared.views.nic.SentNote.{SentNote}}
 use Rattle.zr_kinds.specs.CopyingReceiver.{value_at}
 use Rattle.app_worker.specs.Marks.{Mark, Frame, Numbered, marks_from, numbered, of_flow, with_note, frames_of}
 use Rattle.page_pool.specs.Frames.{Offered, IsNoteOf, ShowRest, ShowsWhole, ShowsFrame, ShowFrames}

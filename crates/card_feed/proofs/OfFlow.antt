@@ -1,8 +1,6 @@
 -- A flow's frames go to its application and have its base.
 use Rattle.std.proofs.Common.{◌≡◌, ℕ, zero, suc, ◌<◌, List, [], ◌∷◌, ◌++◌, length, filter, Bool, true, false, ◌==◌, Option, Some}
-use Rattle.std.proofs.Common.{None, option_to_list, ⊎_elim, refl, sym, ap, subst, ◌∙◌, arith}
-use Rattle.std.specs.List.{slice_get}
-use Rattle.std.proofs.lemmas.Bool.{cases_Bool, eq-eqb, eqb-true}
+use Rattle.std.{proofs.{Common.{None, option_to_list, ⊎_elim, refl, sym, ap, subst, ◌∙◌, arith}, lemmas.Bool.{cases_Bool, eq-eqb, eqb-true}}, specs.List.{slice_get}}
 use Rattle.frame_headers.specs.FrameClass.{TcpSegment}
 use Rattle.flow_table.specs.Steered.{SteeredTcp, app_of, steer, steer_to, steered_from, steered_of, segments_of}
 use Rattle.flow_table.specs.Flows.{Flow, flows_of, flows_with, flows_after, number_of_flow}

@@ -1,14 +1,11 @@
 -- The frames that are offered rise, and what one more frame adds to them.
 use Rattle.std.proofs.Common.{◌≡◌, ℕ, suc, ◌<◌, ◌≤◌, List, [], ◌∷◌, ◌++◌, filter, Bool, true, false, if◌then◌else◌, Option}
-use Rattle.std.proofs.Common.{Some, None, option_to_list, ⊎_elim, refl, sym, ap, subst, ◌∙◌, arith, All}
-use Rattle.std.proofs.lemmas.Bool.{cases_Bool}
+use Rattle.std.proofs.{Common.{Some, None, option_to_list, ⊎_elim, refl, sym, ap, subst, ◌∙◌, arith, All}, lemmas.Bool.{cases_Bool}}
 use Rattle.std.proofs.lemmas.List.Elements.{All-nil, All-cons, filter-append}
 use Rattle.frame_headers.specs.FrameClass.{TcpSegment}
-use Rattle.flow_table.specs.Steered.{SteeredTcp, app_of, steer, steer_to, steered_from, steered_of, segments_of}
-use Rattle.flow_table.specs.Flows.{Flow, flows_of, flows_with, flows_after}
+use Rattle.flow_table.specs.{Steered.{SteeredTcp, app_of, steer, steer_to, steered_from, steered_of, segments_of}, Flows.{Flow, flows_of, flows_with, flows_after}}
 use Rattle.page_pool.specs.Frames.{Offered}
-use Rattle.frames_read.specs.Ending.{steered_in, steered_next}
-use Rattle.frames_read.proofs.Framing.{steered-more}
+use Rattle.frames_read.{specs.Ending.{steered_in, steered_next}, proofs.Framing.{steered-more}}
 use Rattle.card_feed.specs.Offered.{offered_one, offered_after, has_payload, offer_one, offer_next, offers_of}
 
 -- ---- the numbers rise

@@ -1,22 +1,14 @@
 -- The notes that show an application's frames are of its own flows.
-use Rattle.std.proofs.Common.{◌≡◌, ◌≢◌, ℕ, suc, ◌<◌, ◌≤◌, List, [], ◌∷◌, length, map, filter, Bool, true, false}
-use Rattle.std.proofs.Common.{◌==◌, Some, refl, sym, ap, subst, ◌∙◌, ⊎_elim, All}
-use Rattle.std.specs.List.{slice_get}
-use Rattle.std.proofs.lemmas.Bool.{cases_Bool, cases_lt, eqb-true, ne_eqb}
-use Rattle.std.proofs.lemmas.List.Elements.{All-nil, All-cons, All-append, All-head, All-tail}
-use Rattle.std.proofs.lemmas.List.Quantifiers.{position-Some}
+use Rattle.std.proofs.Common.{◌≡◌, ◌≢◌, ℕ, suc, ◌<◌, ◌≤◌, List, [], ◌∷◌, length, map, filter, Bool, true, false, ◌==◌, Some, refl, sym, ap, subst, ◌∙◌, ⊎_elim, All}
+use Rattle.std.{specs.List.{slice_get}, proofs.lemmas.Bool.{cases_Bool, cases_lt, eqb-true, ne_eqb}}
+use Rattle.std.proofs.lemmas.List.{Elements.{All-nil, All-cons, All-append, All-head, All-tail}, Quantifiers.{position-Some}}
 use Rattle.zr_kinds.specs.CopyingReceiver.{nothing_placed, next_missing, front_of}
-use Rattle.board_face.specs.Relay.{as_taken}
-use Rattle.board_face.specs.declared.views.nic.SentNote.{SentNote}
-use Rattle.flow_table.specs.Steered.{SteeredTcp}
-use Rattle.flow_table.specs.Flows.{Flow, flows_with, flows_after, number_of_flow}
+use Rattle.board_face.specs.{Relay.{as_taken}, declared.views.nic.SentNote.{SentNote}}
+use Rattle.flow_table.specs.{Steered.{SteeredTcp}, Flows.{Flow, flows_with, flows_after, number_of_flow}}
 use Rattle.flow_table.proofs.FlowLaws.{HaveApps, flows_with-keeps, flows_with-grow, flows_with-app, flows_with-apps}
 use Rattle.app_worker.specs.Marks.{Mark, Numbered, numbered, of_flow, frames_of, received_frames, base_of}
 use Rattle.page_pool.specs.Frames.{Offered, ShowsFrame, ShowFrames}
-use Rattle.card_feed.specs.Offered.{offered_after}
-use Rattle.card_feed.specs.Sent.{IsOfOwnFlow, OwnNotesMarkNoOther}
-use Rattle.card_feed.proofs.NotesShown.{AreOf, rest-of}
-use Rattle.card_feed.proofs.OfFlow.{AreSteered, there}
+use Rattle.card_feed.{specs.{Offered.{offered_after}, Sent.{IsOfOwnFlow, OwnNotesMarkNoOther}}, proofs.{NotesShown.{AreOf, rest-of}, OfFlow.{AreSteered, there}}}
 
 -- ---- a frame's flow is one of its application
 

@@ -1,30 +1,15 @@
 -- What the parts of a turn do at the face: how far they come, and that they do nothing where they say so.
 use Rattle.std.proofs.Common.{◌≡◌, inl, inr, ℕ, ◌+◌, ◌<◌, ◌≤◌, Bool, true, false, List, [], ◌∷◌, ◌++◌, length, Option, Some}
-use Rattle.std.proofs.Common.{None, option_to_list, ◌⊎◌, ⊎_elim, refl, sym, ap, subst, ◌∙◌, length-append, arith}
-use Rattle.std.specs.Prelude.{MatchBool}
-use Rattle.std.proofs.lemmas.List.{length-map}
-use Rattle.std.proofs.lemmas.List.Elements.{All-head}
+use Rattle.std.{proofs.Common.{None, option_to_list, ◌⊎◌, ⊎_elim, refl, sym, ap, subst, ◌∙◌, length-append, arith}, specs.Prelude.{MatchBool}}
+use Rattle.std.proofs.lemmas.List.{length-map, Elements.{All-head}}
 use Rattle.zr_kinds.specs.declared.outcome.PoolStats.{PoolStats}
-use Rattle.board_face.specs.Looks.{NicRose}
-use Rattle.board_face.specs.NicCalls.{apps_of}
-use Rattle.board_face.specs.NicEvents.{nic_gist}
-use Rattle.board_face.specs.declared.views.parts.Filling.{Filling}
-use Rattle.board_face.specs.declared.views.nic.NicLook.{NicLook}
-use Rattle.board_face.specs.declared.views.nic.NicLook.TheVariants.{RingEmpty, NoteInUse}
-use Rattle.board_face.specs.declared.views.nic.PlacedText.{PlacedText}
-use Rattle.board_face.specs.declared.views.nic.NicView.{NicView}
+use Rattle.board_face.specs.{Looks.{NicRose}, NicCalls.{apps_of}, NicEvents.{nic_gist}, declared.views.{parts.Filling.{Filling}, nic.NicLook.{NicLook}}}
+use Rattle.board_face.specs.declared.views.nic.{NicLook.TheVariants.{RingEmpty, NoteInUse}, PlacedText.{PlacedText}, NicView.{NicView}}
 use Rattle.board_face.proofs.LookLemmas.{NicRose-later, NicRose-before}
-use Rattle.page_pool.specs.declared.offer.Offer.{Offer}
-use Rattle.page_pool.specs.declared.pool.Pending.{Pending}
-use Rattle.page_pool.specs.declared.pool.Short.{Short}
-use Rattle.page_pool.specs.Searching.{SearchEnd}
-use Rattle.page_pool.specs.Dealing.{DrainsRings, CountsStrays}
+use Rattle.page_pool.specs.{declared.{offer.Offer.{Offer}, pool.{Pending.{Pending}, Short.{Short}}}, Searching.{SearchEnd}, Dealing.{DrainsRings, CountsStrays}}
 use Rattle.page_pool.specs.Pool.{PoolState, PoolStands, HasNonePending, OnlySends, IsNextApp, is_short, is_piece, pending_count, all_notes, short_note, piece_notes}
 use Rattle.page_pool.specs.Offer.{ClosesCurrent, LooksFor, not_needed, searched, Accepts, Refuses}
-use Rattle.card_feed.specs.declared.intake.Intake.{Intake}
-use Rattle.card_feed.specs.Feed.{card_steps}
-use Rattle.card_feed.specs.Turns.{HasLooked, IsIdle}
-use Rattle.card_feed.specs.Parts.{feed_of}
+use Rattle.card_feed.specs.{declared.intake.Intake.{Intake}, Feed.{card_steps}, Turns.{HasLooked, IsIdle}, Parts.{feed_of}}
 
 -- ---- pending notes
 

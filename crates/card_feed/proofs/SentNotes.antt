@@ -1,26 +1,15 @@
 -- What was sent to an application, at any time of a run: whole frames, of its own flows.
-use Rattle.std.proofs.Common.{◌≡◌, ℕ, suc, ◌<◌, List, [], ◌∷◌, ◌++◌, length, map, filter, ◌==◌, Option, Some, None, sym}
-use Rattle.std.proofs.Common.{subst, ◌∙◌, append-nil, All}
-use Rattle.std.proofs.lemmas.List.{map-append}
-use Rattle.std.proofs.lemmas.List.Elements.{All-nil, All-cons, All-head, All-tail, All-filter, filter-append}
-use Rattle.board_face.specs.Holders.{sent_to}
-use Rattle.board_face.specs.Relay.{as_taken, IsProper}
-use Rattle.board_face.specs.declared.views.nic.SentNote.{SentNote}
-use Rattle.board_face.specs.declared.views.nic.NicSide.{NicSide}
+use Rattle.std.proofs.Common.{◌≡◌, ℕ, suc, ◌<◌, List, [], ◌∷◌, ◌++◌, length, map, filter, ◌==◌, Option, Some, None, sym, subst, ◌∙◌, append-nil, All}
+use Rattle.std.proofs.lemmas.List.{map-append, Elements.{All-nil, All-cons, All-head, All-tail, All-filter, filter-append}}
+use Rattle.board_face.specs.{Holders.{sent_to}, Relay.{as_taken, IsProper}, declared.views.nic.{SentNote.{SentNote}, NicSide.{NicSide}}}
 use Rattle.flow_table.specs.Flows.{Flow, flows_of}
 use Rattle.frames_read.specs.Ending.{steered_in}
-use Rattle.page_pool.specs.Frames.{Offered, ShowFrames}
-use Rattle.page_pool.specs.Pool.{PoolState, short_note, piece_notes, all_notes}
+use Rattle.page_pool.specs.{Frames.{Offered, ShowFrames}, Pool.{PoolState, short_note, piece_notes, all_notes}}
 use Rattle.app_worker.specs.Marks.{numbered}
-use Rattle.card_feed.specs.Offered.{offered_after, offers_of, has_payload, without, Awaits, AreSettled}
-use Rattle.card_feed.specs.Account.{offered_to}
+use Rattle.card_feed.specs.{Offered.{offered_after, offers_of, has_payload, without, Awaits, AreSettled}, Account.{offered_to}}
 use Rattle.card_feed.specs.Sent.{IsOfOwnFlow, ShownNotesAreWhole, FeedsSendWhole, ShownNotesAreOwn, FeedsSendOwn, OffersHaveApps}
-use Rattle.card_feed.proofs.OffersRise.{RiseFrom, rise-filter, offers-rise}
-use Rattle.card_feed.proofs.NotesShown.{Ascend, HaveBytes}
-use Rattle.card_feed.proofs.OfFlow.{are-steered, no_apps}
-use Rattle.card_feed.proofs.Bridge.{ascends, HaveBytes-filter, payloads}
-use Rattle.card_feed.proofs.Sharing.{shown-to}
-use Rattle.card_feed.proofs.WholeNotes.{LinkTogether, shown-linked, first-linked, proper-whole}
+use Rattle.card_feed.proofs.{OffersRise.{RiseFrom, rise-filter, offers-rise}, NotesShown.{Ascend, HaveBytes}, OfFlow.{are-steered, no_apps}}
+use Rattle.card_feed.proofs.{Bridge.{ascends, HaveBytes-filter, payloads}, Sharing.{shown-to}, WholeNotes.{LinkTogether, shown-linked, first-linked, proper-whole}}
 use Rattle.card_feed.proofs.OwnFlows.{HaveFlows, have-flows, HaveFlows-filter, HaveOwn, own-filter, shown-own, steered-within}
 
 -- ---- the first of the frames

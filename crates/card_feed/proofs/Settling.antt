@@ -1,22 +1,13 @@
 -- What becomes of the frame at hand: all notes show what was offered and not refused.
 use Rattle.std.proofs.Common.{◌≡◌, ◌≢◌, ℕ, ◌<◌, List, [], ◌∷◌, ◌++◌, length, true, false, not, ◌||◌, nat_le}
-use Rattle.std.proofs.Common.{if◌then◌else◌, ◌==◌, Option, Some, None, option_to_list, ⊎_elim, refl, sym, ap, subst, ◌∙◌, append-nil, arith}
-use Rattle.std.proofs.Common.{All}
-use Rattle.std.specs.List.{list_any}
-use Rattle.std.proofs.lemmas.Bool.{cases_Bool, eq-eqb, ne_eqb, leb-false}
-use Rattle.std.proofs.lemmas.List.Elements.{All-push, All-head, All-tail, All-weaker, All-contains, All-get_or, filter-append, Contains-append_left}
-use Rattle.std.proofs.lemmas.List.Elements.{Contains-push}
+use Rattle.std.proofs.Common.{if◌then◌else◌, ◌==◌, Option, Some, None, option_to_list, ⊎_elim, refl, sym, ap, subst, ◌∙◌, append-nil, arith, All}
+use Rattle.std.{specs.List.{list_any}, proofs.lemmas.Bool.{cases_Bool, eq-eqb, ne_eqb, leb-false}}
+use Rattle.std.proofs.lemmas.List.Elements.{All-push, All-head, All-tail, All-weaker, All-contains, All-get_or, filter-append, Contains-append_left, Contains-push}
 use Rattle.std.proofs.lemmas.List.Quantifiers.{all_pairs_push}
-use Rattle.board_face.specs.declared.views.nic.SentNote.{SentNote}
-use Rattle.board_face.specs.declared.views.nic.NicView.{NicView}
-use Rattle.page_pool.specs.declared.offer.Offer.{Offer}
-use Rattle.page_pool.specs.declared.offer.Verdict.TheVariants.{Accepted}
-use Rattle.page_pool.specs.Frames.{Offered, offered, ShowFrames}
-use Rattle.page_pool.specs.Pool.{PoolState, all_notes}
-use Rattle.page_pool.specs.Offer.{payload_of, Accepts, Refuses}
-use Rattle.page_pool.proofs.OffersShown.{offer_shown}
-use Rattle.card_feed.specs.Offered.{without, IsLongIn, AreRefused, AreSettled}
-use Rattle.card_feed.proofs.OffersRise.{RiseFrom, below-last}
+use Rattle.board_face.specs.declared.views.nic.{SentNote.{SentNote}, NicView.{NicView}}
+use Rattle.page_pool.specs.{declared.offer.{Offer.{Offer}, Verdict.TheVariants.{Accepted}}, Frames.{Offered, offered, ShowFrames}, Pool.{PoolState, all_notes}}
+use Rattle.page_pool.{specs.Offer.{payload_of, Accepts, Refuses}, proofs.OffersShown.{offer_shown}}
+use Rattle.card_feed.{specs.Offered.{without, IsLongIn, AreRefused, AreSettled}, proofs.OffersRise.{RiseFrom, below-last}}
 
 -- ---- numbers that are left out
 

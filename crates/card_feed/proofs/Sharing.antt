@@ -1,15 +1,10 @@
 -- The notes to one application show its frames.
-use Rattle.std.proofs.Common.{◌≡◌, ℕ, ◌+◌, ◌<◌, ◌≤◌, List, [], ◌∷◌, ◌++◌, length, filter, true, false, ◌==◌, Option, None}
-use Rattle.std.proofs.Common.{⊎_elim, refl, sym, ap, subst, ◌∙◌}
-use Rattle.std.proofs.lemmas.Bool.{cases_Bool, cases_lt, eq-eqb, ne_eqb, eqb-true, eqb-false}
-use Rattle.std.proofs.lemmas.List.{append-nil}
-use Rattle.std.proofs.lemmas.List.Elements.{filter-append}
+use Rattle.std.proofs.Common.{◌≡◌, ℕ, ◌+◌, ◌<◌, ◌≤◌, List, [], ◌∷◌, ◌++◌, length, filter, true, false, ◌==◌, Option, None, ⊎_elim, refl, sym, ap, subst, ◌∙◌}
+use Rattle.std.proofs.lemmas.{Bool.{cases_Bool, cases_lt, eq-eqb, ne_eqb, eqb-true, eqb-false}, List.{append-nil, Elements.{filter-append}}}
 use Rattle.board_face.specs.declared.views.nic.SentNote.{SentNote}
-use Rattle.page_pool.specs.Frames.{Offered, ShowRest, ShowsFrame, ShowFrames}
-use Rattle.page_pool.specs.Pool.{all_notes}
+use Rattle.page_pool.specs.{Frames.{Offered, ShowRest, ShowsFrame, ShowFrames}, Pool.{all_notes}}
 use Rattle.frames_read.specs.Ending.{steered_in}
-use Rattle.card_feed.specs.Offered.{without, offers_of, AreSettled}
-use Rattle.card_feed.specs.Account.{ClosedFeedsShow}
+use Rattle.card_feed.specs.{Offered.{without, offers_of, AreSettled}, Account.{ClosedFeedsShow}}
 
 -- all of these go to the frame's application
 abbrev AreFor : ℕ → List SentNote → Type 0

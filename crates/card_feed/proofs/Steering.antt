@@ -1,24 +1,15 @@
 -- Where a segment goes, and what keeps it from there.
 use Rattle.std.proofs.Common.{◌≡◌, ◌≢◌, inl, inr, ℕ, ◌-◌, ◌^◌, ◌<◌, ◌≤◌, List, length, Bool, true, false, not, Option, Some, None}
-use Rattle.std.proofs.Common.{option_map, Ok, Err, refl, sym, ap, ◌∙◌, arith, if◌then◌else◌}
-use Rattle.std.specs.List.{slice_get}
-use Rattle.std.proofs.lemmas.Bool.{eq-eqb, ne_eqb}
-use Rattle.std.proofs.lemmas.List.{length-take-le}
-use Rattle.std.proofs.Math.Nat.{min-le_left}
-use Rattle.zr_kinds.specs.declared.fault.Fault.TheVariants.{Memory, TooManyFlows}
+use Rattle.std.{proofs.{Common.{option_map, Ok, Err, refl, sym, ap, ◌∙◌, arith, if◌then◌else◌}, lemmas.Bool.{eq-eqb, ne_eqb}}, specs.List.{slice_get}}
+use Rattle.std.proofs.{lemmas.List.{length-take-le}, Math.Nat.{min-le_left}}
+use Rattle.zr_kinds.specs.{declared.fault.Fault.TheVariants.{Memory, TooManyFlows}, CopyingReceiver.{lead}}
 use Rattle.frame_headers.specs.FrameClass.{TcpSegment}
-use Rattle.zr_kinds.specs.CopyingReceiver.{lead}
 use Rattle.page_pool.specs.Frames.{Offered}
-use Rattle.flow_table.specs.Steered.{SteeredTcp, app_of, steer_to, first_byte}
-use Rattle.flow_table.specs.CountedPart.{FlowClose, before_fin, counted_len, counted_part}
-use Rattle.flow_table.specs.Flows.{Flow, number_of_flow, flows_with}
-use Rattle.flow_table.specs.KnownFlows.{KnownFlows}
-use Rattle.flow_table.specs.Placing.{steered_to, number_for, counted_at, counted_for, IsPlaced}
+use Rattle.flow_table.specs.{Steered.{SteeredTcp, app_of, steer_to, first_byte}, CountedPart.{FlowClose, before_fin, counted_len, counted_part}}
+use Rattle.flow_table.specs.{Flows.{Flow, number_of_flow, flows_with}, KnownFlows.{KnownFlows}, Placing.{steered_to, number_for, counted_at, counted_for, IsPlaced}}
 use Rattle.flow_table.proofs.FlowLaws.{HaveApps, flows_with-apps}
 use Rattle.frames_read.specs.Ending.{flow_ending}
-use Rattle.card_feed.specs.Offered.{base_of, close_of, offered_one, has_payload, IsLong}
-use Rattle.card_feed.specs.declared.intake.Route.{Route}
-use Rattle.card_feed.specs.Intake.{Steers}
+use Rattle.card_feed.specs.{Offered.{base_of, close_of, offered_one, has_payload, IsLong}, declared.intake.Route.{Route}, Intake.{Steers}}
 
 -- ---- how many bytes count
 

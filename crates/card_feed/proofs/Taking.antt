@@ -2,29 +2,16 @@
 use Rattle.std.proofs.Common.{◌≡◌, ◌≢◌, ℕ, suc, ◌+◌, ◌<◌, List, [], ◌∷◌, ◌++◌, length, take, nat_lt, Bool, true, false, not, Option}
 use Rattle.std.proofs.Common.{Some, None, is_some, option_to_list, Ok, Err, refl, sym, ap, subst, ◌∙◌, append-nil, arith, ◌==◌, if◌then◌else◌}
 use Rattle.std.proofs.lemmas.Bool.{ne_eqb, lt-ltb}
-use Rattle.zr_kinds.specs.Limits.{most_records}
-use Rattle.zr_kinds.specs.declared.fault.Fault.{Fault}
+use Rattle.zr_kinds.specs.{Limits.{most_records}, declared.fault.Fault.{Fault}}
 use Rattle.zr_kinds.specs.declared.fault.Fault.TheVariants.{Memory, Usage, NotPcap, Version, LinkType, Cut, LongRecord, Read, Write, TooManyFlows}
-use Rattle.zr_kinds.specs.declared.fault.Fault.TheVariants.{TooManyFrames, BadBlock, BadRun}
-use Rattle.zr_kinds.specs.declared.outcome.Tally.{Tally}
-use Rattle.frame_headers.specs.FrameClass.{TcpSegment, class_of}
-use Rattle.frame_headers.specs.Seen.{class_seen, segment_seen, segment_of}
-use Rattle.frame_headers.specs.declared.segment.Seen.{Seen}
-use Rattle.flow_table.specs.Steered.{SteeredTcp, app_of, steer, steer_to}
-use Rattle.flow_table.specs.Flows.{flows_of}
-use Rattle.flow_table.specs.KnownFlows.{KnownFlows}
-use Rattle.flow_table.proofs.FlowLaws.{flows_of-push}
-use Rattle.frames_read.specs.Ending.{steered_in, steered_next, flow_ending, ending_at}
-use Rattle.frames_read.specs.Reading.{EndsAt}
-use Rattle.frames_read.specs.Tally.{tally_of, counted}
-use Rattle.frames_read.proofs.Framing.{steered-more, ending-flow, ending-limit, seen-segment}
-use Rattle.frames_read.proofs.Tallies.{tally-more}
+use Rattle.zr_kinds.specs.declared.{fault.Fault.TheVariants.{TooManyFrames, BadBlock, BadRun}, outcome.Tally.{Tally}}
+use Rattle.frame_headers.specs.{FrameClass.{TcpSegment, class_of}, Seen.{class_seen, segment_seen, segment_of}, declared.segment.Seen.{Seen}}
+use Rattle.flow_table.{specs.{Steered.{SteeredTcp, app_of, steer, steer_to}, Flows.{flows_of}, KnownFlows.{KnownFlows}}, proofs.FlowLaws.{flows_of-push}}
+use Rattle.frames_read.specs.{Ending.{steered_in, steered_next, flow_ending, ending_at}, Reading.{EndsAt}, Tally.{tally_of, counted}}
+use Rattle.frames_read.proofs.{Framing.{steered-more, ending-flow, ending-limit, seen-segment}, Tallies.{tally-more}}
 use Rattle.page_pool.specs.Frames.{Offered}
-use Rattle.card_feed.specs.Offered.{offered_one, offer_one, offer_next, has_payload, payload_in, WantsRoom}
-use Rattle.card_feed.specs.declared.intake.Route.{Route}
-use Rattle.card_feed.specs.declared.intake.Intake.{Intake}
-use Rattle.card_feed.specs.Hand.{offered_by, at_hand, with_payload}
-use Rattle.card_feed.specs.Intake.{RoutesTo, Steers, Knows}
+use Rattle.card_feed.specs.{Offered.{offered_one, offer_one, offer_next, has_payload, payload_in, WantsRoom}, declared.intake.{Route.{Route}, Intake.{Intake}}}
+use Rattle.card_feed.specs.{Hand.{offered_by, at_hand, with_payload}, Intake.{RoutesTo, Steers, Knows}}
 
 -- ---- the segment of a frame
 

@@ -1,42 +1,22 @@
 -- A turn keeps what holds between turns.
 use Rattle.std.proofs.Common.{◌≡◌, ◌≢◌, ◌⊎◌, inl, inr, ℕ, List, [], ◌∷◌, ◌++◌, Bool, true, false, Option, Some, None, Ok, Err, refl, sym, ap}
-use Rattle.std.proofs.Common.{subst, ◌∙◌, ⊎_elim, option_to_list}
-use Rattle.std.specs.Prelude.{MatchBool}
-use Rattle.std.proofs.lemmas.Bool.{true≢false}
-use Rattle.flow_table.specs.Flows.{Flow, flows_of}
-use Rattle.flow_table.specs.KnownFlows.{KnownFlows}
-use Rattle.board_face.specs.declared.views.parts.Filling.{Filling}
-use Rattle.board_face.specs.declared.views.nic.NicLook.{NicLook}
-use Rattle.board_face.specs.declared.views.nic.NicView.{NicView}
-use Rattle.page_pool.specs.declared.offer.Offer.{Offer}
-use Rattle.page_pool.specs.declared.offer.Verdict.{Verdict}
-use Rattle.page_pool.specs.declared.offer.Verdict.TheVariants.{Accepted, NoRoom, Busy}
-use Rattle.page_pool.specs.Frames.{offered}
-use Rattle.page_pool.specs.Dealing.{DrainsRings}
-use Rattle.page_pool.specs.Searching.{LooksAhead}
-use Rattle.page_pool.specs.Pool.{PoolState, all_notes, OnlySends, Closes}
-use Rattle.frames_read.specs.Ending.{steered_in}
-use Rattle.frames_read.specs.Reading.{EndsAt}
-use Rattle.card_feed.specs.declared.intake.Intake.{Intake}
-use Rattle.card_feed.specs.declared.arrived.Arrived.{Arrived}
-use Rattle.card_feed.specs.declared.arrived.Arrived.TheVariants as arrived
-use Rattle.card_feed.specs.Coming.{Arrives, ComesTo, is_over}
-use Rattle.card_feed.specs.Offered.{offers_of, offer_next, AreSettled, WantsRoom}
-use Rattle.card_feed.specs.Hand.{at_hand}
-use Rattle.card_feed.specs.declared.intake.Route.{Route}
-use Rattle.card_feed.specs.Intake.{Knows, OnlyOpens, TakesIn, IsReadable, IsTimely, counts_as}
-use Rattle.card_feed.specs.Feed.{FeedState, FeedKnows, FeedStands, WantsRecord}
+use Rattle.std.{proofs.{Common.{subst, ◌∙◌, ⊎_elim, option_to_list}, lemmas.Bool.{true≢false}}, specs.Prelude.{MatchBool}}
+use Rattle.flow_table.specs.{Flows.{Flow, flows_of}, KnownFlows.{KnownFlows}}
+use Rattle.board_face.specs.declared.views.{parts.Filling.{Filling}, nic.{NicLook.{NicLook}, NicView.{NicView}}}
+use Rattle.page_pool.specs.{declared.offer.{Offer.{Offer}, Verdict.{Verdict, TheVariants.{Accepted, NoRoom, Busy}}}, Frames.{offered}, Dealing.{DrainsRings}}
+use Rattle.page_pool.specs.{Searching.{LooksAhead}, Pool.{PoolState, all_notes, OnlySends, Closes}}
+use Rattle.frames_read.specs.{Ending.{steered_in}, Reading.{EndsAt}}
+use Rattle.card_feed.specs.{declared.{intake.Intake.{Intake}, arrived.Arrived.{Arrived}}, Coming.{Arrives, ComesTo, is_over}}
+use Rattle.card_feed.specs.{Offered.{offers_of, offer_next, AreSettled, WantsRoom}, Hand.{at_hand}, declared.intake.Route.{Route}}
+use Rattle.card_feed.specs.{Intake.{Knows, OnlyOpens, TakesIn, IsReadable, IsTimely, counts_as}, Feed.{FeedState, FeedKnows, FeedStands, WantsRecord}}
 use Rattle.card_feed.specs.Turns.{ReadsOne, OnlyReads, MayArrive, Receives, Settles, FeedPlays, drains, offers, finishes, rests, KeepsUp, IsAwaiting}
-use Rattle.card_feed.specs.Turns.{FeedSteps, FeedTurns, HasLooked}
-use Rattle.card_feed.specs.Parts.{feed_of}
-use Rattle.card_feed.specs.Counts.{AreCounted, AreFound, found_in}
-use Rattle.card_feed.specs.Need.{AreNeeded}
+use Rattle.card_feed.specs.{Turns.{FeedSteps, FeedTurns, HasLooked}, Parts.{feed_of}, Counts.{AreCounted, AreFound, found_in}, Need.{AreNeeded}}
 use Rattle.card_feed.proofs.OffersRise.{RiseFrom, offers-rise, offers-more}
 use Rattle.card_feed.proofs.Needing.{AreUnused, unused-trans, sends-unused, drains-unused, closes-unused, needed-read, needed-accepted}
-use Rattle.card_feed.proofs.Needing.{needed-refused, needed-same, keeps-setting}
-use Rattle.card_feed.proofs.Settling.{hand-last, next-last, settled-read, settled-accepted, settled-refused}
+use Rattle.card_feed.proofs.{Needing.{needed-refused, needed-same, keeps-setting}, Settling.{hand-last, next-last, settled-read, settled-accepted, settled-refused}}
 use Rattle.card_feed.proofs.Finding.{found-same, found-closed, found-accepted, found-refused}
 use Rattle.card_feed.proofs.Counting.{AreInType, counted-read, counted-same, counted-drained, counted-looked, counted-accepted, counted-refused, closes-dealt}
+use Rattle.card_feed.specs.declared.arrived.Arrived.TheVariants as arrived
 
 known_is : (k : KnownFlows) (known_ports : List ℕ) (flows : List Flow) → k.ports ≡ known_ports → k.flows ≡ flows
     → k ≡ record { ports = known_ports; flows = flows }

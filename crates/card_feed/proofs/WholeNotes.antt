@@ -1,16 +1,11 @@
 -- Notes that show frames are taken as whole frames.
-use Rattle.std.proofs.Common.{◌≡◌, ◌≢◌, ℕ, suc, ◌+◌, ◌<◌, ◌≤◌, List, [], ◌∷◌, ◌++◌, length, map, true, false, refl, sym, ap}
-use Rattle.std.proofs.Common.{subst, ◌∙◌, ⊎_elim, arith, All}
-use Rattle.std.proofs.lemmas.Bool.{cases_Bool, cases_lt, cases_eq}
-use Rattle.std.proofs.lemmas.List.Elements.{All-head, All-tail}
+use Rattle.std.proofs.Common.{◌≡◌, ◌≢◌, ℕ, suc, ◌+◌, ◌<◌, ◌≤◌, List, [], ◌∷◌, ◌++◌, length, map, true, false, refl, sym, ap, subst, ◌∙◌, ⊎_elim, arith, All}
+use Rattle.std.proofs.lemmas.{Bool.{cases_Bool, cases_lt, cases_eq}, List.Elements.{All-head, All-tail}}
 use Rattle.zr_kinds.specs.declared.place.Place.{Place}
-use Rattle.board_face.specs.Relay.{as_taken, IsProper}
-use Rattle.board_face.specs.declared.views.nic.SentNote.{SentNote}
-use Rattle.board_face.specs.declared.views.app.TakenNote.{TakenNote}
+use Rattle.board_face.specs.{Relay.{as_taken, IsProper}, declared.views.{nic.SentNote.{SentNote}, app.TakenNote.{TakenNote}}}
 use Rattle.flow_queues.specs.Marks.{Numbered, numbered, AreOfOthers, Follows, LiesInFrame, AllStand, FramesStandTogether}
 use Rattle.page_pool.specs.Frames.{Offered, IsNoteOf, ShowRest, ShowsFrame, ShowFrames}
-use Rattle.card_feed.specs.Sent.{FirstFramesStandTogether}
-use Rattle.card_feed.proofs.NotesShown.{AreAbove, Ascend, HaveBytes}
+use Rattle.card_feed.{specs.Sent.{FirstFramesStandTogether}, proofs.NotesShown.{AreAbove, Ascend, HaveBytes}}
 
 -- ---- each note follows the one before it
 

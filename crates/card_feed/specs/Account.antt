@@ -1,35 +1,19 @@
 -- The account of a run: what the roles of a board did, read off once the card has ended and all have left, says where each
 -- byte of each stream came from. It is over the sides of the roles alone, so it is the same for every board.
-use Rattle.std.specs.Prelude.{◌≡◌, ℕ, ◌==◌, true, List, ◌++◌, length, map, filter, All, Option, Some}
-use Rattle.std.specs.Prelude.{◌≢◌, ◌<◌, ◌≤◌, option_and_then}
-use Rattle.std.specs.List.{slice_get}
+use Rattle.std.specs.{Prelude.{◌≡◌, ℕ, ◌==◌, true, List, ◌++◌, length, map, filter, All, Option, Some, ◌≢◌, ◌<◌, ◌≤◌, option_and_then}, List.{slice_get}}
 use Rattle.std.specs.Io.KnownBytes.{Keeps}
-use Rattle.zr_kinds.specs.declared.behaviour.Behaviour.{Behaviour}
-use Rattle.zr_kinds.specs.declared.behaviour.Stopped.{Stopped}
+use Rattle.zr_kinds.specs.declared.{behaviour.{Behaviour.{Behaviour}, Stopped.{Stopped}}, outcome.AppLine.{AppLine}}
 use Rattle.zr_kinds.specs.declared.behaviour.Stopped.TheVariants as stop
-use Rattle.zr_kinds.specs.declared.outcome.AppLine.{AppLine}
 use Rattle.zr_io.specs.Moved.{Gained}
-use Rattle.flow_table.specs.Steered.{SteeredTcp}
-use Rattle.flow_table.specs.Flows.{Flow, flows_of}
-use Rattle.flow_table.specs.Stream.{stream_of}
+use Rattle.flow_table.specs.{Steered.{SteeredTcp}, Flows.{Flow, flows_of}, Stream.{stream_of}}
 use Rattle.frames_read.specs.Ending.{steered_in}
-use Rattle.board_face.specs.Sides.{IsApp, AreNumbered, HaveOneSetting}
-use Rattle.board_face.specs.Holders.{sent_to}
-use Rattle.board_face.specs.Relay.{as_taken, IsAsSent, HasNoLoanStray}
-use Rattle.board_face.specs.declared.views.nic.NicSide.{NicSide}
-use Rattle.board_face.specs.declared.views.app.AppSide.{AppSide}
-use Rattle.page_pool.specs.Frames.{Offered, ShowFrames}
-use Rattle.page_pool.specs.Dealing.{strays_in}
-use Rattle.app_worker.specs.Core.{total}
-use Rattle.app_worker.specs.Marks.{marks_of}
-use Rattle.flow_queues.specs.Totals.{lent_len}
-use Rattle.flow_queues.specs.Streams.{IsFront}
-use Rattle.flow_queues.specs.Returned.{HasReturned}
-use Rattle.card_feed.specs.Offered.{offers_of, without}
+use Rattle.board_face.specs.{Sides.{IsApp, AreNumbered, HaveOneSetting}, Holders.{sent_to}, Relay.{as_taken, IsAsSent, HasNoLoanStray}}
+use Rattle.board_face.specs.declared.views.{nic.NicSide.{NicSide}, app.AppSide.{AppSide}}
+use Rattle.page_pool.specs.{Frames.{Offered, ShowFrames}, Dealing.{strays_in}}
+use Rattle.app_worker.specs.{Core.{total}, Marks.{marks_of}}
+use Rattle.flow_queues.specs.{Totals.{lent_len}, Streams.{IsFront}, Returned.{HasReturned}}
+use Rattle.card_feed.specs.{Offered.{offers_of, without}, Feed.{FeedState, FeedStands, IsReady}, declared.plan.Plan.{Plan}, Plan.{layout_of, how_of}}
 pub use Rattle.card_feed.specs.Counts.{capped}
-use Rattle.card_feed.specs.Feed.{FeedState, FeedStands, IsReady}
-use Rattle.card_feed.specs.declared.plan.Plan.{Plan}
-use Rattle.card_feed.specs.Plan.{layout_of, how_of}
 
 -- ---- the account
 

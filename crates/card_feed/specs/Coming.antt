@@ -1,15 +1,11 @@
 -- How far the reading of a source has come.
 use Rattle.std.specs.Prelude.{◌≡◌, ℕ, ◌≤◌, List, [], ◌∷◌, ◌++◌, length, Option, Some, None, Bool, true, false, Result, Ok, Err}
-use Rattle.zr_kinds.specs.Limits.{longest_record}
-use Rattle.zr_kinds.specs.declared.fault.Fault.{Fault}
+use Rattle.zr_kinds.specs.{Limits.{longest_record}, declared.fault.Fault.{Fault}}
 use Rattle.zr_io.specs.Moved.{Took}
-use Rattle.pcap_reader.specs.Records.{Captured}
-use Rattle.pcap_reader.specs.declared.capture.Record.{Record}
-use Rattle.frames_read.specs.Ending.{ending_at, frames_of}
-use Rattle.frames_read.specs.Reading.{HasRead, HasEnded, EndsAt}
-use Rattle.card_feed.specs.declared.intake.Stage.{Stage}
+use Rattle.pcap_reader.specs.{Records.{Captured}, declared.capture.Record.{Record}}
+use Rattle.frames_read.specs.{Ending.{ending_at, frames_of}, Reading.{HasRead, HasEnded, EndsAt}}
+use Rattle.card_feed.specs.declared.{intake.Stage.{Stage}, arrived.Arrived.{Arrived}}
 use Rattle.card_feed.specs.declared.intake.Stage.TheVariants as stage
-use Rattle.card_feed.specs.declared.arrived.Arrived.{Arrived}
 use Rattle.card_feed.specs.declared.arrived.Arrived.TheVariants as arrived
 
 -- Nothing was read yet; or these frames were, and the reading goes on; or it ended after them.

@@ -1,12 +1,8 @@
 -- What the pool's counts say of the frames that were offered and of the entries that were dealt with.
-use Rattle.std.specs.Prelude.{◌≡◌, ℕ, ◌+◌, ◌-◌, ◌^◌, ◌<◌, ◌≤◌, ◌⊎◌, ◌==◌, ◌&&◌, nat_lt, min, Bool, List, length, count_by}
-use Rattle.std.specs.Prelude.{Option, option_to_list, IfSome}
+use Rattle.std.specs.Prelude.{◌≡◌, ℕ, ◌+◌, ◌-◌, ◌^◌, ◌<◌, ◌≤◌, ◌⊎◌, ◌==◌, ◌&&◌, nat_lt, min, Bool, List, length, count_by, Option, option_to_list, IfSome}
 use Rattle.zr_kinds.specs.declared.outcome.PoolStats.{PoolStats}
-use Rattle.board_face.specs.declared.views.nic.Dealt.{Dealt}
-use Rattle.board_face.specs.declared.views.nic.SentNote.{SentNote}
-use Rattle.page_pool.specs.Dealing.{strays_in}
-use Rattle.page_pool.specs.Frames.{Offered}
-use Rattle.page_pool.specs.Pool.{PoolState}
+use Rattle.board_face.specs.declared.views.nic.{Dealt.{Dealt}, SentNote.{SentNote}}
+use Rattle.page_pool.specs.{Dealing.{strays_in}, Frames.{Offered}, Pool.{PoolState}}
 
 -- a count that stays at the end of its type
 abbrev pub capped : ℕ → ℕ

@@ -1,20 +1,13 @@
 -- What the card keeps between its turns, and how that stands to the source and to what its face has seen.
 use Rattle.std.specs.Prelude.{◌≡◌, ◌≢◌, ℕ, ◌+◌, ◌<◌, Bool, true, false, if◌then◌else◌, List, [], length, Option, None}
-use Rattle.zr_kinds.specs.declared.fault.Fault.{Fault}
-use Rattle.zr_kinds.specs.declared.outcome.Tally.{Tally}
+use Rattle.zr_kinds.specs.declared.{fault.Fault.{Fault}, outcome.Tally.{Tally}}
 use Rattle.flow_table.specs.Flows.{Flow, flows_of}
-use Rattle.board_face.specs.NicCalls.{apps_of, IsOpen}
-use Rattle.board_face.specs.declared.views.nic.NicView.{NicView}
-use Rattle.page_pool.specs.Frames.{Offered}
-use Rattle.page_pool.specs.Pool.{PoolState, PoolStands, HasNonePending, pending_count, all_notes, new_pool}
-use Rattle.frames_read.specs.Ending.{steered_in}
-use Rattle.frames_read.specs.Tally.{tally_of, no_tally}
-use Rattle.card_feed.specs.declared.intake.Stage.{Stage}
-use Rattle.card_feed.specs.declared.intake.Stage.TheVariants as stage
-use Rattle.card_feed.specs.Coming.{ComesTo, is_over}
-use Rattle.card_feed.specs.Offered.{offers_of, AreSettled, WantsRoom}
-use Rattle.card_feed.specs.Counts.{AreCounted, AreFound}
+use Rattle.board_face.specs.{NicCalls.{apps_of, IsOpen}, declared.views.nic.NicView.{NicView}}
+use Rattle.page_pool.specs.{Frames.{Offered}, Pool.{PoolState, PoolStands, HasNonePending, pending_count, all_notes, new_pool}}
+use Rattle.frames_read.specs.{Ending.{steered_in}, Tally.{tally_of, no_tally}}
+use Rattle.card_feed.specs.{declared.intake.Stage.{Stage}, Coming.{ComesTo, is_over}, Offered.{offers_of, AreSettled, WantsRoom}, Counts.{AreCounted, AreFound}}
 use Rattle.card_feed.specs.Need.{AreNeeded}
+use Rattle.card_feed.specs.declared.intake.Stage.TheVariants as stage
 
 pub record FeedState : Type 0 where
   pub ports : List ℕ

@@ -1,12 +1,9 @@
 -- The frame that is at hand, and what always holds of it.
-use Rattle.std.specs.Prelude.{◌≡◌, ℕ, ◌<◌, ◌≤◌, nat_lt, if◌then◌else◌, List, length, take, Option, Some, None}
-use Rattle.std.specs.List.{slice_get}
+use Rattle.std.specs.{Prelude.{◌≡◌, ℕ, ◌<◌, ◌≤◌, nat_lt, if◌then◌else◌, List, length, take, Option, Some, None}, List.{slice_get}}
 use Rattle.zr_kinds.specs.Limits.{longest_payload}
-use Rattle.flow_table.specs.Steered.{app_of}
-use Rattle.flow_table.specs.Flows.{Flow}
+use Rattle.flow_table.specs.{Steered.{app_of}, Flows.{Flow}}
 use Rattle.page_pool.specs.Frames.{Offered}
-use Rattle.card_feed.specs.declared.intake.Route.{Route}
-use Rattle.card_feed.specs.Offered.{payload_in}
+use Rattle.card_feed.specs.{declared.intake.Route.{Route}, Offered.{payload_in}}
 
 -- ---- what always holds
 

@@ -1,22 +1,12 @@
 -- What the card keeps of what it reads.
 use Rattle.std.specs.Prelude.{◌≡◌, ℕ, ◌⊎◌, false, List, [], ◌∷◌, ◌++◌, length, take, Option, Some, None, Result, Ok, Err}
-use Rattle.zr_kinds.specs.declared.fault.Fault.{Fault}
-use Rattle.zr_kinds.specs.declared.fault.Fault.TheVariants.{Memory}
-use Rattle.flow_table.specs.Steered.{SteeredTcp}
-use Rattle.flow_table.specs.Flows.{flows_of, flows_with}
-use Rattle.flow_table.specs.KnownFlows.{KnownFlows}
-use Rattle.frames_read.specs.Ending.{steered_in, flow_ending, BeginsFlow, ending_at}
-use Rattle.frames_read.specs.Reading.{EndsAt}
-use Rattle.frames_read.specs.Tally.{tally_of}
-use Rattle.card_feed.specs.declared.intake.Route.{Route}
-use Rattle.card_feed.specs.declared.intake.Intake.{Intake}
-use Rattle.card_feed.specs.declared.intake.Stage.{Stage}
+use Rattle.zr_kinds.specs.declared.fault.Fault.{Fault, TheVariants.{Memory}}
+use Rattle.flow_table.specs.{Steered.{SteeredTcp}, Flows.{flows_of, flows_with}, KnownFlows.{KnownFlows}}
+use Rattle.frames_read.specs.{Ending.{steered_in, flow_ending, BeginsFlow, ending_at}, Reading.{EndsAt}, Tally.{tally_of}}
+use Rattle.card_feed.specs.{declared.{intake.{Route.{Route}, Intake.{Intake}, Stage.{Stage}}, arrived.Arrived.{Arrived}}, Coming.{is_over}}
+use Rattle.card_feed.specs.{Offered.{offered_one, offer_one, offer_next, WantsRoom, IsLong}, Hand.{offered_by, at_hand}}
 use Rattle.card_feed.specs.declared.intake.Stage.TheVariants as stage
-use Rattle.card_feed.specs.declared.arrived.Arrived.{Arrived}
 use Rattle.card_feed.specs.declared.arrived.Arrived.TheVariants as arrived
-use Rattle.card_feed.specs.Coming.{is_over}
-use Rattle.card_feed.specs.Offered.{offered_one, offer_one, offer_next, WantsRoom, IsLong}
-use Rattle.card_feed.specs.Hand.{offered_by, at_hand}
 
 -- the segment goes where the definition says, and its flow has seen it
 pub record IsRouteOf (old new : KnownFlows) (s : SteeredTcp) (r : Route) : Type 0 where

@@ -1,14 +1,9 @@
 -- The need of a capture: how many buffers its frames may use, and that no frame is refused where there are as many.
 use Rattle.std.specs.Prelude.{◌≡◌, ℕ, ◌+◌, ◌<◌, ◌≤◌, nat_lt, ◌==◌, if◌then◌else◌, List, [], length, map, filter, sum_by, All, Option, option_to_list}
 use Rattle.area_layout.specs.Layout.{Shape, pool_buffers, least_size}
-use Rattle.board_face.specs.Texts.{unsplit_bytes}
-use Rattle.board_face.specs.declared.views.nic.SentNote.{SentNote}
-use Rattle.page_pool.specs.Frames.{Offered}
-use Rattle.page_pool.specs.Packing.{buffers_for}
-use Rattle.card_feed.specs.Counts.{is_long}
-use Rattle.card_feed.specs.declared.plan.Plan.{Plan}
-use Rattle.card_feed.specs.Offered.{without}
-use Rattle.card_feed.specs.Plan.{layout_of}
+use Rattle.board_face.specs.{Texts.{unsplit_bytes}, declared.views.nic.SentNote.{SentNote}}
+use Rattle.page_pool.specs.{Frames.{Offered}, Packing.{buffers_for}}
+use Rattle.card_feed.specs.{Counts.{is_long}, declared.plan.Plan.{Plan}, Offered.{without}, Plan.{layout_of}}
 
 -- How many buffers a payload may use, where none has fewer than `least` bytes. One that is longer than `split` fills so many. A
 -- shorter one travels in its note; bytes that came before may cut it, into no more pieces than it has bytes, and each of these is

@@ -1,17 +1,12 @@
 -- The frames that are offered: the steered ones of whose payload some bytes count, each with its flow and these bytes.
-use Rattle.std.specs.Prelude.{◌≡◌, ℕ, ◌<◌, ◌⊎◌, Bool, not, ◌==◌, if◌then◌else◌, List, [], ◌∷◌, ◌++◌, length, filter}
-use Rattle.std.specs.Prelude.{Option, Some, None}
-use Rattle.std.specs.Prelude.{All, AllPairs, Contains}
+use Rattle.std.specs.Prelude.{◌≡◌, ℕ, ◌<◌, ◌⊎◌, Bool, not, ◌==◌, if◌then◌else◌, List, [], ◌∷◌, ◌++◌, length, filter, Option, Some, None, All, AllPairs, Contains}
 use Rattle.std.specs.List.{list_any, slice_get}
-use Rattle.frame_headers.specs.FrameClass.{TcpSegment, class_of}
-use Rattle.frame_headers.specs.Seen.{segment_of}
-use Rattle.flow_table.specs.Steered.{SteeredTcp, first_byte, has_fin}
-use Rattle.flow_table.specs.CountedPart.{FlowClose, not_closed, counted_part}
+use Rattle.frame_headers.specs.{FrameClass.{TcpSegment, class_of}, Seen.{segment_of}}
+use Rattle.flow_table.specs.{Steered.{SteeredTcp, first_byte, has_fin}, CountedPart.{FlowClose, not_closed, counted_part}}
 use Rattle.flow_table.specs.Flows.{Flow, flows_of, flows_with, number_of_flow}
 use Rattle.page_pool.specs.Frames.{Offered, ShowFrames}
 use Rattle.board_face.specs.declared.views.nic.SentNote.{SentNote}
-use Rattle.frames_read.specs.Ending.{steered_in, steered_next}
-use Rattle.frames_read.specs.Reading.{BeginsFlowAt}
+use Rattle.frames_read.specs.{Ending.{steered_in, steered_next}, Reading.{BeginsFlowAt}}
 
 -- ---- one frame
 

@@ -1,15 +1,9 @@
 -- What an outcome tells of a feed.
-use Rattle.std.specs.Prelude.{◌≡◌, ℕ, ◌%◌, ◌^◌, ◌==◌, if◌then◌else◌, List, length, map, Option, Some, None}
-use Rattle.std.specs.List.{slice_get}
-use Rattle.std.specs.Option.{is_some}
-use Rattle.zr_kinds.specs.declared.outcome.AppLine.{AppLine}
-use Rattle.zr_kinds.specs.declared.outcome.FlowLine.{FlowLine}
-use Rattle.zr_kinds.specs.declared.outcome.FlowEnd.{FlowEnd}
-use Rattle.zr_kinds.specs.declared.outcome.FlowEnd.TheVariants.{Going, Whole, Short, Reset}
+use Rattle.std.specs.{Prelude.{◌≡◌, ℕ, ◌%◌, ◌^◌, ◌==◌, if◌then◌else◌, List, length, map, Option, Some, None}, List.{slice_get}, Option.{is_some}}
+use Rattle.zr_kinds.specs.declared.outcome.{AppLine.{AppLine}, FlowLine.{FlowLine}, FlowEnd.{FlowEnd, TheVariants.{Going, Whole, Short, Reset}}}
 use Rattle.zr_kinds.specs.ReceiverLaws.{distance}
 use Rattle.flow_table.specs.Flows.{Flow}
-use Rattle.card_feed.specs.declared.outcome.Outcome.{Outcome}
-use Rattle.card_feed.specs.Feed.{FeedState, end_of}
+use Rattle.card_feed.specs.{declared.outcome.Outcome.{Outcome}, Feed.{FeedState, end_of}}
 
 -- there is one application for each port, in their order
 abbrev pub HavePorts : List ℕ → List AppLine → Type 0

@@ -1,9 +1,7 @@
 -- A feed by its parts.
 use Rattle.std.specs.Prelude.{Bool}
 use Rattle.page_pool.specs.Pool.{PoolState}
-use Rattle.card_feed.specs.declared.intake.Intake.{Intake}
-use Rattle.card_feed.specs.Hand.{at_hand}
-use Rattle.card_feed.specs.Feed.{FeedState}
+use Rattle.card_feed.specs.{declared.intake.Intake.{Intake}, Hand.{at_hand}, Feed.{FeedState}}
 
 abbrev pub feed_of : Intake → PoolState → Bool → FeedState
 feed_of intake pool closed = record {

@@ -1,7 +1,5 @@
 -- What a plan asks for, and which plans can be run.
-use Rattle.std.specs.Prelude.{◌≡◌, ◌<◌, ◌≤◌, ◌↔◌, ◌||◌, true, false, if◌then◌else◌, length, nat_eq, Option, None, IsSome, IfSome}
-use Rattle.std.specs.Option.{is_some}
-use Rattle.std.specs.List.{IsDistinct}
+use Rattle.std.specs.{Prelude.{◌≡◌, ◌<◌, ◌≤◌, ◌↔◌, ◌||◌, true, false, if◌then◌else◌, length, nat_eq, Option, None, IsSome, IfSome}, Option.{is_some}, List.{IsDistinct}}
 use Rattle.area_layout.specs.Layout.{Shape, MakeLayout, shape_of_areas}
 use Rattle.zr_kinds.specs.declared.behaviour.Behaviour.{Behaviour}
 use Rattle.card_feed.specs.declared.plan.Plan.{Plan}

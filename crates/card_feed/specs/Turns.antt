@@ -1,27 +1,14 @@
 -- What a turn of the card does.
 use Rattle.std.specs.Prelude.{◌≡◌, ℕ, ◌<◌, ◌⊎◌, true, false, List, [], ◌∷◌, ◌++◌, Option, Some, None}
 use Rattle.zr_kinds.specs.declared.fault.Fault.{Fault}
-use Rattle.board_face.specs.Looks.{NicRose}
-use Rattle.board_face.specs.NicCalls.{apps_of}
-use Rattle.board_face.specs.NicEvents.{nic_gist}
-use Rattle.board_face.specs.declared.views.nic.NicLook.{NicLook}
-use Rattle.board_face.specs.declared.views.nic.NicLook.TheVariants.{RingEmpty, NoteInUse}
+use Rattle.board_face.specs.{Looks.{NicRose}, NicCalls.{apps_of}, NicEvents.{nic_gist}, declared.views.nic.NicLook.{NicLook, TheVariants.{RingEmpty, NoteInUse}}}
 use Rattle.board_face.specs.declared.views.nic.NicView.{NicView}
-use Rattle.page_pool.specs.declared.offer.Offer.{Offer}
-use Rattle.page_pool.specs.declared.offer.Verdict.{Verdict}
-use Rattle.page_pool.specs.declared.offer.Verdict.TheVariants.{Accepted, NoRoom, Busy}
-use Rattle.page_pool.specs.Frames.{Offered, offered}
-use Rattle.page_pool.specs.Dealing.{DrainsRings, CountsStrays}
-use Rattle.page_pool.specs.Pool.{PoolState, HasNonePending, IsNextApp, OnlySends, Closes}
-use Rattle.page_pool.specs.Offer.{Offers}
-use Rattle.frames_read.specs.Ending.{ending_at}
-use Rattle.frames_read.specs.Reading.{EndsAt}
-use Rattle.card_feed.specs.declared.arrived.Arrived.{Arrived}
+use Rattle.page_pool.specs.{declared.offer.{Offer.{Offer}, Verdict.{Verdict, TheVariants.{Accepted, NoRoom, Busy}}}, Frames.{Offered, offered}}
+use Rattle.page_pool.specs.{Dealing.{DrainsRings, CountsStrays}, Pool.{PoolState, HasNonePending, IsNextApp, OnlySends, Closes}, Offer.{Offers}}
+use Rattle.frames_read.specs.{Ending.{ending_at}, Reading.{EndsAt}}
+use Rattle.card_feed.specs.{declared.arrived.Arrived.{Arrived}, Coming.{is_over}, Offered.{WantsRoom, offer_next}, Feed.{FeedState, FeedKnows, FeedStands, WantsRecord}}
 use Rattle.card_feed.specs.declared.arrived.Arrived.TheVariants as arrived
 use Rattle.card_feed.specs.declared.intake.Stage.TheVariants as stage
-use Rattle.card_feed.specs.Coming.{is_over}
-use Rattle.card_feed.specs.Offered.{WantsRoom, offer_next}
-use Rattle.card_feed.specs.Feed.{FeedState, FeedKnows, FeedStands, WantsRecord}
 
 -- ---- reading
 

@@ -1,17 +1,10 @@
 //! The card's part of a replay: what it keeps from turn to turn.
 
-ghost use Rattle.std.specs.Prelude.{◌≡◌, ◌<◌, ◌≤◌, true, length, get_or, is_some, IfOk, None, Some, option_map, vec_len};
-ghost use Rattle.std.specs.List.{slice_get};
+ghost use Rattle.std.specs.{Prelude.{◌≡◌, ◌<◌, ◌≤◌, true, length, get_or, is_some, IfOk, None, Some, option_map, vec_len}, List.{slice_get}};
 ghost use Rattle.zr_kinds.specs.Limits.{most_records};
-ghost use Rattle.flow_table.specs.Flows.{Flow};
-ghost use Rattle.flow_table.specs.Placing.{info_of};
-ghost use Rattle.card_feed.specs.Plan.{IsPlan};
-ghost use Rattle.board_face.specs.NicCalls.{apps_of, IsOpen, HasNoToken};
-ghost use Rattle.board_face.specs.declared.views.nic.NicView.{NicView};
-ghost use Rattle.card_feed.specs.Feed.{IsReady, new_feed, end_of};
-ghost use Rattle.card_feed.specs.Coming.{is_over};
-ghost use Rattle.card_feed.specs.Hand.{HaveApps};
-ghost use Rattle.card_feed.specs.Outcomes.{AreLinesOf, HavePorts, IsOutcomeOf, flow_end, line_of};
+ghost use Rattle.flow_table.specs.{Flows.{Flow}, Placing.{info_of}};
+ghost use Rattle.card_feed.specs.{Plan.{IsPlan}, Feed.{IsReady, new_feed, end_of}, Coming.{is_over}, Hand.{HaveApps}, Outcomes.{AreLinesOf, HavePorts, IsOutcomeOf, flow_end, line_of}};
+ghost use Rattle.board_face.specs.{NicCalls.{apps_of, IsOpen, HasNoToken}, declared.views.nic.NicView.{NicView}};
 
 use crate::intake::{Intake, Stage};
 use crate::{Outcome, Plan};
@@ -34,8 +27,7 @@ pub struct Feed {
 
 impl Model for Feed {
     ghost use Rattle.std.specs.Prelude.{◌≡◌};
-    ghost use Rattle.card_feed.specs.Feed.{FeedState};
-    ghost use Rattle.card_feed.specs.Parts.{feed_of};
+    ghost use Rattle.card_feed.specs.{Feed.{FeedState}, Parts.{feed_of}};
 
     ghost Value = { FeedState };
 

@@ -1,7 +1,6 @@
 //! What the card keeps of what it reads.
 
-ghost use Rattle.std.specs.Prelude.{vec_capacity};
-ghost use Rattle.std.specs.Option.{ForSome};
+ghost use Rattle.std.specs.{Prelude.{vec_capacity}, Option.{ForSome}};
 ghost use Rattle.card_feed.specs.Hand.{HaveApps, HandFits, HasRoom};
 
 use flow_table::FlowTable;

@@ -1,7 +1,4 @@
-ghost use Rattle.card_feed.specs.Account.{AccountsGiveStreams, ClosedFeedsShow};
-ghost use Rattle.card_feed.specs.Feed.{NewFeedsStand};
-ghost use Rattle.card_feed.specs.Sent.{ShownNotesAreWhole, FirstFramesStandTogether, FeedsSendWhole};
-ghost use Rattle.card_feed.specs.Sent.{ShownNotesAreOwn, FeedsSendOwn, OwnNotesMarkNoOther, OffersHaveApps};
+ghost use Rattle.card_feed.specs.{Account.{AccountsGiveStreams, ClosedFeedsShow}, Feed.{NewFeedsStand}, Sent.{ShownNotesAreWhole, FirstFramesStandTogether, FeedsSendWhole, ShownNotesAreOwn, FeedsSendOwn, OwnNotesMarkNoOther, OffersHaveApps}};
 
 use zr_io::{Shelf, Source};
 

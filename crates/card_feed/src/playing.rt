@@ -2,21 +2,9 @@
 
 ghost use Rattle.std.specs.Prelude.{◌≡◌, ◌≢◌, ◌⊎◌, ℕ, ◌<◌, ◌≤◌, Bool, length, take, true, false, Some, None};
 ghost use Rattle.zr_kinds.specs.Limits.{longest_payload};
-ghost use Rattle.board_face.specs.Looks.{NicRose};
-ghost use Rattle.board_face.specs.NicCalls.{apps_of, IsOpen};
-ghost use Rattle.board_face.specs.NicEvents.{nic_gist};
-ghost use Rattle.board_face.specs.declared.views.nic.NicLook.TheVariants.{NoteInUse};
-ghost use Rattle.page_pool.specs.declared.offer.Offer.{Offer as TheOffer};
-ghost use Rattle.page_pool.specs.Frames.{offered};
-ghost use Rattle.page_pool.specs.Offer.{Offers, KeepsRest};
-ghost use Rattle.page_pool.specs.Pool.{PoolStands, HasNonePending, IsNextApp, pending_count};
-ghost use Rattle.card_feed.specs.Offered.{payload_in};
-ghost use Rattle.card_feed.specs.Hand.{offered_by};
-ghost use Rattle.card_feed.specs.Coming.{is_over};
-ghost use Rattle.card_feed.specs.Feed.{FeedFits, card_steps};
-ghost use Rattle.card_feed.specs.Turns.{OffersHand, Finishes, KeepsUp, FeedPlays, HasLooked, IsIdle};
-ghost use Rattle.card_feed.specs.Parts.{feed_of};
-ghost use Rattle.card_feed.specs.declared.intake.Intake.{Intake as TheIntake};
+ghost use Rattle.board_face.specs.{Looks.{NicRose}, NicCalls.{apps_of, IsOpen}, NicEvents.{nic_gist}, declared.views.nic.NicLook.TheVariants.{NoteInUse}};
+ghost use Rattle.page_pool.specs.{declared.offer.Offer.{Offer as TheOffer}, Frames.{offered}, Offer.{Offers, KeepsRest}, Pool.{PoolStands, HasNonePending, IsNextApp, pending_count}};
+ghost use Rattle.card_feed.specs.{Offered.{payload_in}, Hand.{offered_by}, Coming.{is_over}, Feed.{FeedFits, card_steps}, Turns.{OffersHand, Finishes, KeepsUp, FeedPlays, HasLooked, IsIdle}, Parts.{feed_of}, declared.intake.Intake.{Intake as TheIntake}};
 
 use crate::intake::{Intake, Route};
 use board_face::NicFace;

@@ -2,11 +2,8 @@
 
 ghost use Rattle.std.specs.Prelude.{◌≡◌, ℕ, ◌<◌, ◌≤◌, List, length, MatchBool};
 ghost use Rattle.area_layout.specs.Layout.{least_size};
-ghost use Rattle.page_pool.specs.Offer.{fresh_for};
-ghost use Rattle.page_pool.specs.Pool.{pending_count};
-ghost use Rattle.page_pool.specs.Searching.{LooksAhead};
-ghost use Rattle.card_feed.specs.Feed.{IsReady, FeedKnows};
-ghost use Rattle.card_feed.specs.Offered.{payload_in};
+ghost use Rattle.page_pool.specs.{Offer.{fresh_for}, Pool.{pending_count}, Searching.{LooksAhead}};
+ghost use Rattle.card_feed.specs.{Feed.{IsReady, FeedKnows}, Offered.{payload_in}};
 
 use crate::Feed;
 use crate::playing::payload_in;

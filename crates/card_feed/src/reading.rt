@@ -2,9 +2,7 @@
 
 ghost use Rattle.std.specs.Prelude.{◌≡◌, ◌≢◌, ℕ, ◌≤◌, List, length, true, false, IfOk, OnOk, IfSome};
 ghost use Rattle.zr_kinds.specs.Limits.{longest_record};
-ghost use Rattle.card_feed.specs.Offered.{WantsRoom};
-ghost use Rattle.card_feed.specs.Coming.{ComesTo, NextGives, OpenGives, Arrives, HasItsBytes, TookBytes, is_over, is_open};
-ghost use Rattle.card_feed.specs.declared.arrived.Arrived.TheVariants.{Nothing};
+ghost use Rattle.card_feed.specs.{Offered.{WantsRoom}, Coming.{ComesTo, NextGives, OpenGives, Arrives, HasItsBytes, TookBytes, is_over, is_open}, declared.arrived.Arrived.TheVariants.{Nothing}};
 
 use crate::arrived::Arrived;
 use crate::intake::Stage;

@@ -1,18 +1,10 @@
 //! What arrives is taken: its frame is counted, steered to its flow, and at hand where it is offered.
 
-ghost use Rattle.std.specs.Prelude.{◌≡◌, ◌≢◌, ℕ, ◌+◌, ◌<◌, ◌≤◌, ◌↔◌, List, length, true, false, None, Some, Err, IfOk, IfSome, IsTrue};
-ghost use Rattle.std.specs.Prelude.{vec_capacity, MatchResult};
-ghost use Rattle.zr_kinds.specs.Limits.{longest_payload};
+ghost use Rattle.std.specs.Prelude.{◌≡◌, ◌≢◌, ℕ, ◌+◌, ◌<◌, ◌≤◌, ◌↔◌, List, length, true, false, None, Some, Err, IfOk, IfSome, IsTrue, vec_capacity, MatchResult};
+ghost use Rattle.zr_kinds.specs.{Limits.{longest_payload}, declared.fault.Fault.TheVariants.{Memory}};
 ghost use Rattle.frame_headers.specs.Seen.{shown, segment_seen};
-ghost use Rattle.zr_kinds.specs.declared.fault.Fault.TheVariants.{Memory};
-ghost use Rattle.flow_table.specs.Steered.{steer as steered};
-ghost use Rattle.flow_table.specs.Placing.{number_for, counted_for};
-ghost use Rattle.card_feed.specs.Hand.{HaveApps, HasRoom, RouteFits, with_payload};
-ghost use Rattle.card_feed.specs.Offered.{WantsRoom, payload_of};
-ghost use Rattle.card_feed.specs.Coming.{Arrives, ComesTo, is_over};
-ghost use Rattle.card_feed.specs.Feed.{one_if};
-ghost use Rattle.card_feed.specs.Intake.{OnlyOpens, Steers, TakesFrame, TakesIn, IsReadable, IsTimely, Knows, counts_as};
-ghost use Rattle.card_feed.specs.declared.arrived.Arrived.TheVariants.{Nothing};
+ghost use Rattle.flow_table.specs.{Steered.{steer as steered}, Placing.{number_for, counted_for}};
+ghost use Rattle.card_feed.specs.{Hand.{HaveApps, HasRoom, RouteFits, with_payload}, Offered.{WantsRoom, payload_of}, Coming.{Arrives, ComesTo, is_over}, Feed.{one_if}, Intake.{OnlyOpens, Steers, TakesFrame, TakesIn, IsReadable, IsTimely, Knows, counts_as}, declared.arrived.Arrived.TheVariants.{Nothing}};
 
 use crate::arrived::Arrived;
 use crate::intake::{Intake, Route, Stage};

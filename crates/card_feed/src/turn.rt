@@ -1,9 +1,7 @@
 //! A turn of the card.
 
 ghost use Rattle.std.specs.Prelude.{◌≡◌, ◌≢◌, ℕ, ◌<◌, List, MatchBool, true};
-ghost use Rattle.card_feed.specs.Feed.{IsReady, FeedKnows, FeedStands, WantsRecord, feed_steps};
-ghost use Rattle.card_feed.specs.declared.arrived.Arrived.TheVariants.{Nothing};
-ghost use Rattle.card_feed.specs.Turns.{FeedSteps, FeedTurns, HasLooked, HasRested, IsIdle, MayArrive};
+ghost use Rattle.card_feed.specs.{Feed.{IsReady, FeedKnows, FeedStands, WantsRecord, feed_steps}, declared.arrived.Arrived.TheVariants.{Nothing}, Turns.{FeedSteps, FeedTurns, HasLooked, HasRested, IsIdle, MayArrive}};
 
 use crate::playing::{keep_up, play};
 use crate::{Arrived, Feed};

@@ -1,11 +1,8 @@
 -- The rules of a command to which its arguments are added one by one.
-use Rattle.std.proofs.Common.{◌≡◌, ◌∙◌, ◌<◌, ◌+◌, ℕ, refl, ap, arith, add-one, append_assoc, zero, suc, List, [], ◌∷◌, ◌++◌, map, take}
-use Rattle.std.proofs.Common.{length, get_or}
+use Rattle.std.proofs.Common.{◌≡◌, ◌∙◌, ◌<◌, ◌+◌, ℕ, refl, ap, arith, add-one, append_assoc, zero, suc, List, [], ◌∷◌, ◌++◌, map, take, length, get_or}
 use Rattle.std.specs.Borrow.{Bor}
-use Rattle.clap.specs.Walk.{Rule}
-use Rattle.clap.specs.Simple.{App, with_rule}
-use Rattle.command_words.specs.Assigned.{Text}
-use Rattle.command_words.specs.Asking.{app_for, app_with, flag_rules, option_rules, raw_port}
+use Rattle.clap.specs.{Walk.{Rule}, Simple.{App, with_rule}}
+use Rattle.command_words.specs.{Assigned.{Text}, Asking.{app_for, app_with, flag_rules, option_rules, raw_port}}
 
 abbrev pub texts : List (Bor Text) → List Text
 texts = map (λ name. name.now)

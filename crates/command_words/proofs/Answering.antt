@@ -1,29 +1,11 @@
 -- What clap answers, by what the words say.
-use Rattle.std.proofs.Common.{◌≡◌, ◌∙◌, true, false, refl, ap, subst, arith, inl, inr, List, [], ◌∷◌, drop, Option, Some, None, option_map}
-use Rattle.std.proofs.Common.{All, suc, Bool, codes}
-use Rattle.std.specs.Prelude.{option_and_then, slice_get}
-use Rattle.std.specs.Borrow.{Bor}
-use Rattle.std.specs.Str.{IsUtf8, bytes_eq}
-use Rattle.clap.specs.Matches.{found_of, first_value}
-use Rattle.clap.specs.Walk.{Row, rows_of}
-use Rattle.clap.specs.Kinds.{HasKind, IsAmong, Kinds}
-use Rattle.clap.specs.Values.{kind_of}
-use Rattle.clap.specs.Simple.{App, HasMatchesOf, matches_of}
-use Rattle.clap.specs.Faults.{fault_of, is_simple_and_free}
-use Rattle.clap.specs.declared.error.Error.{Error}
-use Rattle.clap.specs.declared.error.kind.ErrorKind.TheVariants.{OutOfMemory}
-use Rattle.clap.specs.declared.error.kind.ErrorKind.{ErrorKind}
-use Rattle.clap.specs.declared.parser.matches.ArgMatches.{ArgMatches}
-use Rattle.clap.proofs.WalkLemmas.{first_value-rows, raw_values-rows}
-use Rattle.command_words.specs.Assigned.{Text, Said, is_among, sorted, value_said}
-use Rattle.command_words.specs.Asking.{Answers, AreApart, app_for, is_true, port_id}
-use Rattle.command_words.proofs.Adding.{texts}
-use Rattle.command_words.proofs.Lookups.{simple_app}
-use Rattle.command_words.proofs.Matching.{first_of-all_of}
-use Rattle.command_words.proofs.Asked.{Comes, parsed}
-use Rattle.command_words.proofs.Defaults.{flag_value}
-use Rattle.command_words.proofs.Walking.{AllText, nothing_refused}
-use Rattle.std.proofs.lemmas.Bool.{and_parts}
+use Rattle.std.proofs.Common.{◌≡◌, ◌∙◌, true, false, refl, ap, subst, arith, inl, inr, List, [], ◌∷◌, drop, Option, Some, None, option_map, All, suc, Bool, codes}
+use Rattle.std.{specs.{Prelude.{option_and_then, slice_get}, Borrow.{Bor}, Str.{IsUtf8, bytes_eq}}, proofs.lemmas.Bool.{and_parts}}
+use Rattle.clap.specs.{Matches.{found_of, first_value}, Walk.{Row, rows_of}, Kinds.{HasKind, IsAmong, Kinds}, Values.{kind_of}, Simple.{App, HasMatchesOf, matches_of}}
+use Rattle.clap.specs.{Faults.{fault_of, is_simple_and_free}, declared.error.{Error.{Error}, kind.ErrorKind.{TheVariants.{OutOfMemory}, ErrorKind}}}
+use Rattle.clap.{specs.declared.parser.matches.ArgMatches.{ArgMatches}, proofs.WalkLemmas.{first_value-rows, raw_values-rows}}
+use Rattle.command_words.{specs.{Assigned.{Text, Said, is_among, sorted, value_said}, Asking.{Answers, AreApart, app_for, is_true, port_id}}, proofs.Adding.{texts}}
+use Rattle.command_words.proofs.{Lookups.{simple_app}, Matching.{first_of-all_of}, Asked.{Comes, parsed}, Defaults.{flag_value}, Walking.{AllText, nothing_refused}}
 
 pub texts_are_text : (words : List (Bor Text)) → All (λ word. IsUtf8 word.now) words → AllText (texts words)
 texts_are_text [] h = tt

@@ -1,15 +1,9 @@
 -- The areas of a text, one part after another.
 use Rattle.std.proofs.Common.{◌≡◌, ◌≢◌, ◌<◌, ◌≤◌, ◌++◌, ◌∙◌, ℕ, Bool, true, false, List, [], ◌∷◌, length, get_or, refl, sym, ap, arith}
-use Rattle.std.proofs.Common.{Option, Some, None, option_map, All, append_assoc, append-nil}
-use Rattle.std.specs.Prelude.{option_and_then, nat_le, if◌then◌else◌}
-use Rattle.std.specs.List.{slice_split}
-use Rattle.std.proofs.lemmas.Bool.{ne_eqb}
-use Rattle.std.proofs.lemmas.Bool.Decides.{nat_tests}
-use Rattle.std.proofs.lemmas.List.{get_or_default, length-append}
+use Rattle.std.{proofs.Common.{Option, Some, None, option_map, All, append_assoc, append-nil}, specs.Prelude.{option_and_then, nat_le, if◌then◌else◌}}
+use Rattle.std.{specs.List.{slice_split}, proofs.lemmas.{Bool.{ne_eqb, Decides.{nat_tests}}, List.{get_or_default, length-append}}}
 use Rattle.std.proofs.lemmas.List.Splits.{slice_split_at, slice_split_none}
-use Rattle.command_words.specs.Assigned.{Text}
-use Rattle.command_words.specs.Areas.{is_comma, area_of, all_areas, few_areas}
-use Rattle.command_words.proofs.AreaRanges.{all-made}
+use Rattle.command_words.{specs.{Assigned.{Text}, Areas.{is_comma, area_of, all_areas, few_areas}}, proofs.AreaRanges.{all-made}}
 
 free_of : (xs : Text) → ((i : ℕ) → i < length xs → get_or xs i 0 ≢ 44) → All (λ x. is_comma x ≡ false) xs
 free_of xs none = λ k d lt. ne_eqb (get_or xs k d) 44 (λ e. none k lt (get_or_default xs k 0 d lt ∙ e))

@@ -1,18 +1,12 @@
 -- The areas that are read, with some reserves, make a layout; and those that make one are read.
 use Rattle.std.proofs.Common.{◌≡◌, ◌≤◌, ◌*◌, ℕ, Bool, true, false, zero, suc, refl, subst, ap, ◌∙◌, arith}
-use Rattle.std.proofs.Common.{List, [], ◌∷◌, length, Option, Some, None, option_map, All, codes}
-use Rattle.std.specs.Prelude.{◌↔◌, nat_le, sum_by, if◌then◌else◌}
-use Rattle.std.specs.List.{list_any, before_first, after_first, slice_split}
-use Rattle.std.proofs.lemmas.List.Splits.{length-slice_split}
-use Rattle.std.proofs.lemmas.Option.{option_and_then_some, same_Some}
-use Rattle.std.proofs.lemmas.Bool.Decides.{nat_tests}
+use Rattle.std.{proofs.Common.{List, [], ◌∷◌, length, Option, Some, None, option_map, All, codes}, specs.Prelude.{◌↔◌, nat_le, sum_by, if◌then◌else◌}}
+use Rattle.std.{specs.List.{list_any, before_first, after_first, slice_split}, proofs.lemmas.List.Splits.{length-slice_split}}
+use Rattle.std.proofs.lemmas.{Option.{option_and_then_some, same_Some}, Bool.{Decides.{nat_tests}, and_parts}}
 use Rattle.area_layout.specs.Layout.{IsArea, MakeLayout}
-use Rattle.command_words.specs.Assigned.{Text}
-use Rattle.command_words.specs.Numbers.{in_range, value_of}
-use Rattle.command_words.specs.Options.{number_or, size_of}
+use Rattle.command_words.specs.{Assigned.{Text}, Numbers.{in_range, value_of}, Options.{number_or, size_of}}
 use Rattle.command_words.specs.Areas.{is_colon, is_comma, area_of, all_areas, few_areas, fit_together, areas_of, one_area, areas_or, pool_of}
 use Rattle.command_words.proofs.Ranges.{IsSize, passed, read-within, number_or-within, size_of-sized}
-use Rattle.std.proofs.lemmas.Bool.{and_parts}
 
 -- what a test lets through, where there may be nothing
 chosen : {A : Type 0} (test : Bool) (o : Option A) (y : A) → (if test then o else None) ≡ Some y → o ≡ Some y

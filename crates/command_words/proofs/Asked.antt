@@ -1,17 +1,10 @@
 -- The whole parse, by what the words say.
-use Rattle.std.proofs.Common.{◌≡◌, ◌∙◌, false, refl, ap, inl, List, [], ◌∷◌, drop, Option, Some, None}
-use Rattle.std.specs.Prelude.{fold, option_map}
-use Rattle.clap.specs.Walk.{Row, nothing_held, rows_after, settled, walk, walk_from, with_default}
-use Rattle.clap.specs.Kinds.{Kinds, or_else}
-use Rattle.clap.specs.Simple.{App, matches_of, names_of}
-use Rattle.clap.specs.Faults.{built_fault, fault_of, level_fault, settle_fault, walk_fault}
-use Rattle.clap.proofs.FaultLemmas.{leaf_fault}
-use Rattle.command_words.specs.Assigned.{Text, Said, nothing_said, sorted}
-use Rattle.command_words.specs.Asking.{AreApart, app_for}
+use Rattle.std.{proofs.Common.{◌≡◌, ◌∙◌, false, refl, ap, inl, List, [], ◌∷◌, drop, Option, Some, None}, specs.Prelude.{fold, option_map}}
+use Rattle.clap.specs.{Walk.{Row, nothing_held, rows_after, settled, walk, walk_from, with_default}, Kinds.{Kinds, or_else}, Simple.{App, matches_of, names_of}}
+use Rattle.clap.{specs.Faults.{built_fault, fault_of, level_fault, settle_fault, walk_fault}, proofs.FaultLemmas.{leaf_fault}}
+use Rattle.command_words.specs.{Assigned.{Text, Said, nothing_said, sorted}, Asking.{AreApart, app_for}}
 use Rattle.command_words.proofs.Lookups.{built_app, default_faults, defaults_of_flags, none_required, rules, shape_for, with_flags}
-use Rattle.command_words.proofs.Matching.{joined, once_nothing, shows_nothing}
-use Rattle.command_words.proofs.Walking.{AllText, Ends, IsRefused, both}
-use Rattle.command_words.proofs.Defaults.{TellsOptions, tells}
+use Rattle.command_words.proofs.{Matching.{joined, once_nothing, shows_nothing}, Walking.{AllText, Ends, IsRefused, both}, Defaults.{TellsOptions, tells}}
 
 or_nothing : (kinds : Kinds) → or_else kinds [] ≡ kinds
 or_nothing [] = refl

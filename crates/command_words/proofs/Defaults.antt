@@ -1,11 +1,8 @@
 -- What stands for flags that aren't said, and what the rows show with it.
 use Rattle.std.proofs.Common.{◌≡◌, ◌∙◌, Bool, true, false, cond, refl, sym, ap, List, [], ◌∷◌, Option, Some, None, is_some, codes}
-use Rattle.std.specs.Prelude.{option_map, unwrap_or}
-use Rattle.std.specs.Str.{bytes_eq}
+use Rattle.std.specs.{Prelude.{option_map, unwrap_or}, Str.{bytes_eq}}
 use Rattle.clap.specs.Walk.{Row, all_of, has_row, with_default}
-use Rattle.command_words.specs.Assigned.{Text, Said, if_any, is_among, value_said}
-use Rattle.command_words.specs.Asking.{AreApart, port_id}
-use Rattle.command_words.proofs.Lookups.{flag_rule, same_text, with_flags}
+use Rattle.command_words.{specs.{Assigned.{Text, Said, if_any, is_among, value_said}, Asking.{AreApart, port_id}}, proofs.Lookups.{flag_rule, same_text, with_flags}}
 use Rattle.command_words.proofs.Matching.{Shows, all_of-with_values, has_row-all_of, no_option, none_of}
 
 -- what stands for a flag that isn't said

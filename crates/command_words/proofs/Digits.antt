@@ -1,14 +1,8 @@
 -- A word of digits is parsed to its value.
-use Rattle.std.proofs.Common.{◌≡◌, ℕ, ◌<◌, ◌≤◌, ◌^◌, List, [], ◌∷◌, length, true, refl, ap, subst, sym, Result, Ok}
-use Rattle.std.proofs.Common.{arith}
-use Rattle.std.specs.Char.{is_ascii_digit}
-use Rattle.std.specs.List.{list_all}
-use Rattle.std.specs.Str.{all_ascii_digits}
-use Rattle.std.specs.Str.Parse.{ParsesUnsigned, digits_value}
-use Rattle.std.proofs.lemmas.Str.Parse.{IsNumeralModel, numerals_by_value, tells_all_ascii_digits, parse_gives, digits_value_short}
-use Rattle.std.specs.Prelude.{◌&&◌, nat_le}
-use Rattle.std.proofs.lemmas.Bool.{and_parts}
-use Rattle.std.proofs.lemmas.Bool.Decides.{nat_tests}
+use Rattle.std.{proofs.Common.{◌≡◌, ℕ, ◌<◌, ◌≤◌, ◌^◌, List, [], ◌∷◌, length, true, refl, ap, subst, sym, Result, Ok, arith}, specs.Char.{is_ascii_digit}}
+use Rattle.std.specs.{List.{list_all}, Str.{all_ascii_digits, Parse.{ParsesUnsigned, digits_value}}}
+use Rattle.std.{proofs.lemmas.Str.Parse.{IsNumeralModel, numerals_by_value, tells_all_ascii_digits, parse_gives, digits_value_short}, specs.Prelude.{◌&&◌, nat_le}}
+use Rattle.std.proofs.lemmas.Bool.{and_parts, Decides.{nat_tests}}
 use Rattle.command_words.specs.Numbers.{is_number}
 
 digits_alike : (word : List ℕ) → all_ascii_digits word ≡ list_all is_ascii_digit word

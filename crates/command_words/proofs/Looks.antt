@@ -1,11 +1,6 @@
 -- What clap sees of a word, by how the word looks.
-use Rattle.std.proofs.Common.{◌≡◌, ◌∙◌, ◌<◌, ℕ, Bool, true, false, refl, sym, ap, subst, arith, List, [], ◌∷◌, length, Some, None}
-use Rattle.std.proofs.Common.{◌==◌}
-use Rattle.std.specs.Prelude.{slice_get}
-use Rattle.std.specs.Char.{encode_utf8}
-use Rattle.std.specs.Str.{bytes_eq, chars, IsUtf8, encode_utf8_all}
-use Rattle.std.proofs.lemmas.Bool.Decides.{Decides-eqb}
-use Rattle.std.proofs.lemmas.Str.{encodes-chars}
+use Rattle.std.{proofs.Common.{◌≡◌, ◌∙◌, ◌<◌, ℕ, Bool, true, false, refl, sym, ap, subst, arith, List, [], ◌∷◌, length, Some, None, ◌==◌}, specs.Prelude.{slice_get}}
+use Rattle.std.{specs.{Char.{encode_utf8}, Str.{bytes_eq, chars, IsUtf8, encode_utf8_all}}, proofs.lemmas.{Bool.Decides.{Decides-eqb}, Str.{encodes-chars}}}
 use Rattle.clap.specs.Lexer.{long_of, short_of}
 use Rattle.command_words.specs.Assigned.{Text, Look, closing, named, dashed, plain, look_of, after_dash, after_dashes}
 

@@ -1,19 +1,11 @@
 -- The command that clap is given for lists of names of options and of flags, as clap sees it: its rules, and what looking one
 -- up finds.
-use Rattle.std.proofs.Common.{◌≡◌, ◌∙◌, ℕ, Bool, true, false, not, ◌&&◌, ◌||◌, cond, refl, ap, List, [], ◌∷◌, ◌++◌, map, Some, None, codes}
-use Rattle.std.proofs.Common.{is_some}
-use Rattle.std.specs.Prelude.{find, fold, count_by}
-use Rattle.std.specs.List.{list_all, list_any}
-use Rattle.std.specs.Str.{bytes_eq}
-use Rattle.std.proofs.lemmas.Slice.Eq.{bytes_eq-Decides}
+use Rattle.std.proofs.Common.{◌≡◌, ◌∙◌, ℕ, Bool, true, false, not, ◌&&◌, ◌||◌, cond, refl, ap, List, [], ◌∷◌, ◌++◌, map, Some, None, codes, is_some}
+use Rattle.std.{specs.{Prelude.{find, fold, count_by}, List.{list_all, list_any}, Str.{bytes_eq}}, proofs.lemmas.{Slice.Eq.{bytes_eq-Decides}, Bool.{or_right}}}
 use Rattle.clap.specs.Walk.{Rule, Row, Text, arg_by_id, arg_by_index, arg_by_long, arg_by_short, has_row, is_early_multiple, with_default}
-use Rattle.clap.specs.Simple.{Shape, new_shape, built, filled_from}
-use Rattle.clap.specs.Faults.{defaults_fault, is_simple_and_free}
-use Rattle.clap.specs.Takes.{is_given}
+use Rattle.clap.specs.{Simple.{Shape, new_shape, built, filled_from}, Faults.{defaults_fault, is_simple_and_free}, Takes.{is_given}}
 use Rattle.clap.specs.declared.builder.value_parser.ValueParser.TheVariants as vp
-use Rattle.command_words.specs.Assigned.{is_among}
-use Rattle.command_words.specs.Asking.{app_for, port_id, raw_flag, raw_option, raw_port, raw_rules}
-use Rattle.std.proofs.lemmas.Bool.{or_right}
+use Rattle.command_words.specs.{Assigned.{is_among}, Asking.{app_for, port_id, raw_flag, raw_option, raw_port, raw_rules}}
 
 -- ---- texts
 

@@ -1,21 +1,12 @@
 -- What clap's rows show of what was said, and how one more option, flag or word changes both.
 use Rattle.std.proofs.Common.{◌≡◌, ◌∙◌, Bool, true, false, not, cond, refl, sym, ap, List, [], ◌∷◌, ◌++◌, map, codes}
-use Rattle.std.proofs.Common.{Option, Some, None, is_some, append-nil, append_assoc}
-use Rattle.std.specs.Prelude.{find, option_map, option_and_then, slice_get, unwrap_or}
-use Rattle.std.specs.List.{list_any}
-use Rattle.std.specs.Str.{bytes_eq}
-use Rattle.std.proofs.lemmas.List.{map-append}
-use Rattle.std.proofs.lemmas.List.Folds.{list_any-append}
-use Rattle.clap.specs.Walk.{Row, all_of, first_of, has_row, used, with_values, without}
-use Rattle.clap.specs.declared.builder.value_parser.Reading.{Reading}
-use Rattle.clap.specs.declared.parser.matches.ValueSource.{ValueSource}
-use Rattle.clap.specs.declared.parser.matches.ValueSource.TheVariants.{CommandLine}
-use Rattle.command_words.specs.Numbers.{is_distinct}
-use Rattle.command_words.specs.Assigned.{Text, Said, each_once, if_any, is_among, is_once, names_said, nothing_said, value_said}
-use Rattle.command_words.specs.Assigned.{with_flag, with_option, with_word}
-use Rattle.command_words.specs.Asking.{AreApart, port_id}
+use Rattle.std.{proofs.Common.{Option, Some, None, is_some, append-nil, append_assoc}, specs.Prelude.{find, option_map, option_and_then, slice_get, unwrap_or}}
+use Rattle.std.{specs.{List.{list_any}, Str.{bytes_eq}}, proofs.lemmas.{List.{map-append, Folds.{list_any-append}}, Bool.{and_parts, or_parts, or_right, and_right}}}
+use Rattle.clap.specs.{Walk.{Row, all_of, first_of, has_row, used, with_values, without}, declared.builder.value_parser.Reading.{Reading}}
+use Rattle.clap.specs.declared.parser.matches.ValueSource.{ValueSource, TheVariants.{CommandLine}}
+use Rattle.command_words.specs.{Numbers.{is_distinct}, Assigned.{Text, Said, each_once, if_any, is_among, is_once, names_said, nothing_said, value_said}}
+use Rattle.command_words.specs.{Assigned.{with_flag, with_option, with_word}, Asking.{AreApart, port_id}}
 use Rattle.command_words.proofs.Lookups.{flag_rule, option_rule, port_rule, same_text, or_false}
-use Rattle.std.proofs.lemmas.Bool.{and_parts, or_parts, or_right, and_right}
 
 -- ---- rows
 

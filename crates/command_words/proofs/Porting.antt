@@ -1,18 +1,10 @@
 -- The ports of words, one after another; and what a list of ports that is read is.
 use Rattle.std.proofs.Common.{◌≡◌, ◌∙◌, ◌<◌, ◌≤◌, ◌+◌, ◌++◌, ◌&&◌, ℕ, Bool, true, false, not, refl, sym, ap, subst, arith}
-use Rattle.std.proofs.Common.{add-one, zero, suc, List, [], ◌∷◌, drop, length, get_or, Option, Some, None, option_map, append_assoc, append-nil, nat_eq}
-use Rattle.std.proofs.Common.{All}
-use Rattle.std.proofs.Math.Seq.{drop-cons}
-use Rattle.std.proofs.lemmas.List.{drop_all}
-use Rattle.std.specs.Prelude.{option_and_then, nat_le}
-use Rattle.std.specs.Borrow.{Bor}
-use Rattle.std.specs.List.{AllByRecursion, IsDistinct, list_any}
-use Rattle.std.proofs.lemmas.Bool.Decides.{nat_tests}
-use Rattle.command_words.specs.Numbers.{all_ports, is_distinct, is_port_list, port_of, ports_of, value_of, within}
-use Rattle.command_words.specs.Words.{IsPortList}
-use Rattle.command_words.proofs.Adding.{texts}
+use Rattle.std.proofs.Common.{add-one, zero, suc, List, [], ◌∷◌, drop, length, get_or, Option, Some, None, option_map, append_assoc, append-nil, nat_eq, All}
+use Rattle.std.{proofs.{Math.Seq.{drop-cons}, lemmas.List.{drop_all}}, specs.{Prelude.{option_and_then, nat_le}, Borrow.{Bor}}}
+use Rattle.std.{specs.List.{AllByRecursion, IsDistinct, list_any}, proofs.lemmas.Bool.{Decides.{nat_tests}, and_parts}}
+use Rattle.command_words.{specs.{Numbers.{all_ports, is_distinct, is_port_list, port_of, ports_of, value_of, within}, Words.{IsPortList}}, proofs.Adding.{texts}}
 use Rattle.command_words.proofs.Ranges.{read-within}
-use Rattle.std.proofs.lemmas.Bool.{and_parts}
 
 abbrev pub onto : List ℕ → Option (List ℕ) → Option (List ℕ)
 onto ports = option_map (λ rest. ports ++ rest)

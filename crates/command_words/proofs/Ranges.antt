@@ -1,17 +1,11 @@
 -- The numbers and the text of turns that are read are in their ranges.
-use Rattle.std.proofs.Common.{◌≡◌, ◌≤◌, ◌<◌, ◌+◌, ◌&&◌, ◌||◌, ◌⊎◌, ℕ, Bool, true, false, refl, subst, arith}
-use Rattle.std.proofs.Common.{length, Option, Some, None, All, codes}
-use Rattle.std.specs.Prelude.{IfSome, option_and_then, nat_le, nat_lt, if◌then◌else◌, ◌==◌}
-use Rattle.std.specs.Int.{IsPowerOfTwo}
-use Rattle.std.specs.List.{list_all, list_any}
-use Rattle.std.proofs.lemmas.Option.{option_and_then_some, same_Some}
-use Rattle.std.specs.Bool.{Decides}
-use Rattle.std.proofs.lemmas.Bool.Decides.{nat_tests, Decides-and, Decides-or, Decides-eqb, Decides-ltb, Decides-by_and}
+use Rattle.std.proofs.Common.{◌≡◌, ◌≤◌, ◌<◌, ◌+◌, ◌&&◌, ◌||◌, ◌⊎◌, ℕ, Bool, true, false, refl, subst, arith, length, Option, Some, None, All, codes}
+use Rattle.std.specs.{Prelude.{IfSome, option_and_then, nat_le, nat_lt, if◌then◌else◌, ◌==◌}, Int.{IsPowerOfTwo}, List.{list_all, list_any}}
+use Rattle.std.{proofs.lemmas.Option.{option_and_then_some, same_Some}, specs.Bool.{Decides}}
+use Rattle.std.proofs.lemmas.Bool.{Decides.{nat_tests, Decides-and, Decides-or, Decides-eqb, Decides-ltb, Decides-by_and}, and_parts}
 use Rattle.zr_kinds.specs.declared.behaviour.Behaviour.{Behaviour}
-use Rattle.command_words.specs.Assigned.{Text}
-use Rattle.command_words.specs.Numbers.{value_of, within}
+use Rattle.command_words.specs.{Assigned.{Text}, Numbers.{value_of, within}}
 use Rattle.command_words.specs.Options.{AreTurns, are_turns, behaviour_of, is_turn, number_or, quit_of, size_of, sizes, turns_of}
-use Rattle.std.proofs.lemmas.Bool.{and_parts}
 
 abbrev Within : ℕ → ℕ → ℕ → Type 0
 Within least most n = (least ≤ n) × (n ≤ most)

@@ -1,11 +1,7 @@
 -- The reading at words whose reading was worked out by hand, without options and with some.
-use Rattle.std.specs.Prelude.{◌≡◌, ℕ, true, false, List, [], ◌∷◌, Option, Some, None, codes}
-use Rattle.std.proofs.Common.{refl}
-use Rattle.command_words.specs.Assigned.{Text, assigned, sorted}
-use Rattle.command_words.specs.Options.{behaviour_of, options_of, stand_together}
-use Rattle.command_words.specs.Areas.{pool_of}
-use Rattle.command_words.specs.Words.{Shown, make, reading_of, replay}
-use Rattle.command_words.specs.declared.options.Options.{Options}
+use Rattle.std.{specs.Prelude.{◌≡◌, ℕ, true, false, List, [], ◌∷◌, Option, Some, None, codes}, proofs.Common.{refl}}
+use Rattle.command_words.specs.{Assigned.{Text, assigned, sorted}, Options.{behaviour_of, options_of, stand_together}, Areas.{pool_of}}
+use Rattle.command_words.specs.{Words.{Shown, make, reading_of, replay}, declared.options.Options.{Options}}
 
 -- what stands for options that aren't said
 abbrev usual : Options

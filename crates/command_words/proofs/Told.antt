@@ -1,21 +1,11 @@
 -- What is read as a replay may be told to one; and its options are those that were said.
 use Rattle.std.proofs.Common.{ℕ, ◌≡◌, ◌∙◌, true, false, refl, sym, ap, List, length, Option, Some, None, option_map, codes}
-use Rattle.std.specs.Prelude.{IfSome, IsSome, Bool, option_and_then, is_some, if◌then◌else◌}
-use Rattle.std.specs.Borrow.{Bor}
-use Rattle.std.proofs.lemmas.Option.{option_and_then_some, same_Some}
-use Rattle.clap.specs.Matches.{found_of, first_value, matched_of, raw_values}
-use Rattle.clap.specs.declared.parser.matches.ArgMatches.{ArgMatches}
-use Rattle.command_words.specs.Asking.{Answers, flag_in, port_id}
-use Rattle.command_words.specs.Assigned.{Text, Said, if_any, is_among, value_said}
-use Rattle.command_words.specs.Numbers.{ports_of}
-use Rattle.command_words.specs.Options.{AreTurns, are_turns, behaviour_of, flag_names, option_names, options_of, stand_together, turns_of}
-use Rattle.command_words.specs.Areas.{pool_of}
-use Rattle.command_words.specs.Words.{IsReplay, ReplayShown, replay_of, replay_shown, told_of, told_with}
-use Rattle.command_words.specs.declared.reading.Replay.{Replay as Told}
-use Rattle.command_words.proofs.Porting.{ports_read}
-use Rattle.command_words.proofs.AreaRanges.{pool-makes}
-use Rattle.command_words.proofs.Ranges.{turns_of-turns}
-use Rattle.command_words.proofs.Ways.{logged-turns, options_of-in_range, own-turns}
+use Rattle.std.{specs.{Prelude.{IfSome, IsSome, Bool, option_and_then, is_some, if◌then◌else◌}, Borrow.{Bor}}, proofs.lemmas.Option.{option_and_then_some, same_Some}}
+use Rattle.clap.specs.{Matches.{found_of, first_value, matched_of, raw_values}, declared.parser.matches.ArgMatches.{ArgMatches}}
+use Rattle.command_words.specs.{Asking.{Answers, flag_in, port_id}, Assigned.{Text, Said, if_any, is_among, value_said}, Numbers.{ports_of}}
+use Rattle.command_words.specs.{Options.{AreTurns, are_turns, behaviour_of, flag_names, option_names, options_of, stand_together, turns_of}, Areas.{pool_of}}
+use Rattle.command_words.specs.{Words.{IsReplay, ReplayShown, replay_of, replay_shown, told_of, told_with}, declared.reading.Replay.{Replay as Told}}
+use Rattle.command_words.proofs.{Porting.{ports_read}, AreaRanges.{pool-makes}, Ranges.{turns_of-turns}, Ways.{logged-turns, options_of-in_range, own-turns}}
 
 its_turns : (apps : ℕ) (turns : Option (Bor Text)) → IfSome (option_map (λ text. text.now) turns) (AreTurns apps)
     → IfSome turns (λ text. AreTurns apps text.now)

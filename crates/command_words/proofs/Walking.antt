@@ -1,24 +1,17 @@
 -- clap's walk over the words gives what the words say: it refuses them exactly where they say nothing, and else its rows
 -- show what they say.
 use Rattle.std.proofs.Common.{◌≡◌, ◌∙◌, ◌⊎◌, ◌<◌, ℕ, Bool, true, false, ◌||◌, cond, refl, sym, ap, subst, arith, inl, inr, List, []}
-use Rattle.std.proofs.Common.{◌∷◌, length, Option, Some, None, is_some, zero, suc}
-use Rattle.std.specs.Prelude.{fold, option_map, slice_get}
-use Rattle.std.specs.Str.{chars, IsUtf8}
-use Rattle.clap.specs.Walk.{Held, Row, Walk, Waiting, subcommand_met, has_row, idle, option, positional, value, settled_rows, used, walked, word_met}
-use Rattle.clap.specs.Walk.{is_pending}
-use Rattle.clap.specs.Kinds.{Kinds, or_else}
-use Rattle.clap.specs.declared.error.kind.ErrorKind.{ErrorKind}
-use Rattle.clap.specs.Faults.{settle_fault, turn_fault, walk_fault, word_fault, flags_fault}
+use Rattle.std.{proofs.Common.{◌∷◌, length, Option, Some, None, is_some, zero, suc}, specs.{Prelude.{fold, option_map, slice_get}, Str.{chars, IsUtf8}}}
+use Rattle.std.proofs.lemmas.Bool.{and_right}
+use Rattle.clap.specs.Walk.{Held, Row, Walk, Waiting, subcommand_met, has_row, idle, option, positional, value, settled_rows, used, walked, word_met, is_pending}
+use Rattle.clap.specs.{Kinds.{Kinds, or_else}, declared.error.kind.ErrorKind.{ErrorKind}, Faults.{settle_fault, turn_fault, walk_fault, word_fault, flags_fault}}
 use Rattle.command_words.specs.Assigned.{Text, Look, closing, named, dashed, plain, Said, assigned, each_once, is_among, look_of, nothing_said, said_by}
-use Rattle.command_words.specs.Assigned.{value_said, with_flag, with_option, with_word}
-use Rattle.command_words.specs.Asking.{AreApart, port_id}
-use Rattle.command_words.proofs.Lookups.{by_id, by_index, by_long, by_port_id, by_short, text_is_itself, flag_rule, option_rule, port_rule, rules}
-use Rattle.command_words.proofs.Lookups.{shape_for}
+use Rattle.command_words.specs.{Assigned.{value_said, with_flag, with_option, with_word}, Asking.{AreApart, port_id}}
+use Rattle.command_words.proofs.Lookups.{by_id, by_index, by_long, by_port_id, by_short, text_is_itself, flag_rule, option_rule, port_rule, rules, shape_for}
 use Rattle.command_words.proofs.Looks.{Dashes, IsSeen, seen}
 use Rattle.command_words.proofs.Matching.{IsOnce, IsTwice, Shows, and_flag, and_option, and_word, flag_row, flag_twice, joined, joined_flag}
 use Rattle.command_words.proofs.Matching.{joined_nothing, joined_option, joined_word, once_flag, once_option, once_some, option_row, option_twice}
 use Rattle.command_words.proofs.Matching.{shows_flag, shows_option, shows_word, twice_none}
-use Rattle.std.proofs.lemmas.Bool.{and_right}
 
 -- ---- faults
 

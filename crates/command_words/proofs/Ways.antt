@@ -1,15 +1,9 @@
 -- Applications go by one way: what is said of turns of their own, of polling and of forwarding.
 use Rattle.std.proofs.Common.{ℕ, ◌≡◌, ◌∙◌, ◌≤◌, ◌||◌, not, Bool, true, false, refl, sym, subst, arith, codes, Option, Some, None, is_some, option_map}
-use Rattle.std.specs.Prelude.{IfSome}
-use Rattle.std.specs.List.{list_any}
-use Rattle.std.proofs.lemmas.Option.{option_and_then_some, same_Some}
-use Rattle.command_words.specs.Assigned.{Text}
-use Rattle.command_words.specs.Numbers.{up_to, value_of}
+use Rattle.std.{specs.{Prelude.{IfSome}, List.{list_any}}, proofs.lemmas.{Option.{option_and_then_some, same_Some}, Bool.{and_parts, or_parts}}}
+use Rattle.command_words.specs.{Assigned.{Text}, Numbers.{up_to, value_of}}
 use Rattle.command_words.specs.Options.{AreInRange, GoesByTurns, at_most_one, behaviour_of, delay_of, number_or, options_of, own_names, stand_together}
-use Rattle.command_words.specs.declared.options.Options.{Options}
-use Rattle.command_words.proofs.Matching.{none_of}
-use Rattle.command_words.proofs.Ranges.{AreKept, behaviour_of-kept, number_or-within, read-within}
-use Rattle.std.proofs.lemmas.Bool.{and_parts, or_parts}
+use Rattle.command_words.{specs.declared.options.Options.{Options}, proofs.{Matching.{none_of}, Ranges.{AreKept, behaviour_of-kept, number_or-within, read-within}}}
 
 record IsOneAtMost (a b c : Bool) : Type 0 where
   pub first : a ≡ true → (b ≡ false) × (c ≡ false)

@@ -1,10 +1,7 @@
 -- The areas of a replay's pool, as words tell them: each by its number of buffers and their size.
-use Rattle.std.specs.Prelude.{ℕ, ◌*◌, Bool, List, [], ◌∷◌, length, sum_by, nat_le, ◌==◌, ◌&&◌, if◌then◌else◌}
-use Rattle.std.specs.Prelude.{Option, Some, None, option_map, option_and_then, codes}
+use Rattle.std.specs.Prelude.{ℕ, ◌*◌, Bool, List, [], ◌∷◌, length, sum_by, nat_le, ◌==◌, ◌&&◌, if◌then◌else◌, Option, Some, None, option_map, option_and_then, codes}
 use Rattle.std.specs.List.{list_any, before_first, after_first, slice_split}
-use Rattle.command_words.specs.Assigned.{Text}
-use Rattle.command_words.specs.Numbers.{in_range}
-use Rattle.command_words.specs.Options.{given, number_or, size_of}
+use Rattle.command_words.specs.{Assigned.{Text}, Numbers.{in_range}, Options.{given, number_or, size_of}}
 
 abbrev pub is_colon : ℕ → Bool
 is_colon byte = byte == 58

@@ -1,12 +1,7 @@
 -- What clap is asked, and what its matches answer.
-use Rattle.std.specs.Prelude.{◌≡◌, ⊤, Bool, true, false, List, [], ◌∷◌, ◌++◌, map, Option, Some, None, option_map, codes}
-use Rattle.std.specs.List.{list_any}
-use Rattle.std.specs.Str.{bytes_eq}
-use Rattle.clap.specs.Matches.{found_of, first_value, matched_of, raw_values}
-use Rattle.clap.specs.Walk.{Rule}
-use Rattle.clap.specs.Simple.{App, new_rule, new_shape}
-use Rattle.clap.specs.declared.builder.action.ArgAction.TheVariants.{Set, SetTrue, Append}
-use Rattle.clap.specs.declared.parser.matches.ArgMatches.{ArgMatches}
+use Rattle.std.specs.{Prelude.{◌≡◌, ⊤, Bool, true, false, List, [], ◌∷◌, ◌++◌, map, Option, Some, None, option_map, codes}, List.{list_any}, Str.{bytes_eq}}
+use Rattle.clap.specs.{Matches.{found_of, first_value, matched_of, raw_values}, Walk.{Rule}, Simple.{App, new_rule, new_shape}}
+use Rattle.clap.specs.declared.{builder.action.ArgAction.TheVariants.{Set, SetTrue, Append}, parser.matches.ArgMatches.{ArgMatches}}
 use Rattle.command_words.specs.Assigned.{Text, Said, if_any, is_among, value_said}
 
 abbrev pub port_id : Text

@@ -1,7 +1,6 @@
 -- Which word is an option or a flag, which is an option's value, and which stands for itself. A word is the list of its bytes.
 use Rattle.std.specs.Prelude.{ℕ, Bool, List, [], ◌∷◌, map, if◌then◌else◌, ◌==◌, ◌&&◌, Option, Some, None, option_map, option_and_then}
-use Rattle.std.specs.List.{list_any, before_first, after_first}
-use Rattle.std.specs.Str.{bytes_eq}
+use Rattle.std.specs.{List.{list_any, before_first, after_first}, Str.{bytes_eq}}
 use Rattle.command_words.specs.Numbers.{is_distinct}
 
 abbrev pub Text : Type 0

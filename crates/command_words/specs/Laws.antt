@@ -1,10 +1,7 @@
 -- Laws of the areas that words tell: they are read exactly where they make a layout, with as many reserves as there may be.
-use Rattle.std.specs.Prelude.{◌≡◌, ◌≤◌, ◌↔◌, ℕ, List, [], ◌∷◌, Option, Some}
-use Rattle.std.specs.List.{slice_split}
+use Rattle.std.specs.{Prelude.{◌≡◌, ◌≤◌, ◌↔◌, ℕ, List, [], ◌∷◌, Option, Some}, List.{slice_split}}
 use Rattle.area_layout.specs.Layout.{MakeLayout}
-use Rattle.command_words.specs.Assigned.{Text}
-use Rattle.command_words.specs.Options.{number_or, size_of}
-use Rattle.command_words.specs.Areas.{is_comma, all_areas, areas_of, one_area, pool_of}
+use Rattle.command_words.specs.{Assigned.{Text}, Options.{number_or, size_of}, Areas.{is_comma, all_areas, areas_of, one_area, pool_of}}
 
 -- Where each part between commas tells an area, the text is read exactly where these areas make a layout.
 abbrev pub AreasAreRead : Type 0

@@ -1,9 +1,6 @@
 -- The numbers that words write.
-use Rattle.std.specs.Prelude.{ℕ, Bool, true, List, [], ◌∷◌, length, nat_le, nat_eq, not, if◌then◌else◌, ◌&&◌, Option, Some, None}
-use Rattle.std.specs.Prelude.{option_and_then, option_map}
-use Rattle.std.specs.Char.{is_ascii_digit}
-use Rattle.std.specs.List.{list_all, list_any}
-use Rattle.std.specs.Str.Parse.{digits_value}
+use Rattle.std.specs.Prelude.{ℕ, Bool, true, List, [], ◌∷◌, length, nat_le, nat_eq, not, if◌then◌else◌, ◌&&◌, Option, Some, None, option_and_then, option_map}
+use Rattle.std.specs.{Char.{is_ascii_digit}, List.{list_all, list_any}, Str.Parse.{digits_value}}
 
 -- 1 to 18 ASCII digits, leading zeros allowed
 abbrev pub is_number : List ℕ → Bool

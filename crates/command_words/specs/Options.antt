@@ -1,12 +1,8 @@
 -- The options and flags of `replay`: each option with its range, and what stands for it where it isn't said.
-use Rattle.std.specs.Prelude.{ℕ, ◌≤◌, ◌<◌, ◌≡◌, ◌+◌, ◌⊎◌, Bool, List, [], ◌∷◌, length, nat_le, nat_lt, ◌==◌}
-use Rattle.std.specs.Prelude.{◌&&◌, ◌||◌, true, false, not, is_some, IfSome}
-use Rattle.std.specs.Prelude.{if◌then◌else◌, Option, Some, None, option_map, option_and_then, codes, All}
-use Rattle.std.specs.List.{list_all, list_any}
+use Rattle.std.specs.Prelude.{ℕ, ◌≤◌, ◌<◌, ◌≡◌, ◌+◌, ◌⊎◌, Bool, List, [], ◌∷◌, length, nat_le, nat_lt, ◌==◌, ◌&&◌, ◌||◌, true, false, not, is_some, IfSome}
+use Rattle.std.specs.{Prelude.{if◌then◌else◌, Option, Some, None, option_map, option_and_then, codes, All}, List.{list_all, list_any}}
 use Rattle.zr_kinds.specs.declared.behaviour.Behaviour.{Behaviour}
-use Rattle.command_words.specs.Assigned.{Text}
-use Rattle.command_words.specs.Numbers.{in_range, up_to, value_of}
-use Rattle.command_words.specs.declared.options.Options.{Options}
+use Rattle.command_words.specs.{Assigned.{Text}, Numbers.{in_range, up_to, value_of}, declared.options.Options.{Options}}
 
 -- the options of `replay`, without their dashes
 abbrev pub option_names : List Text

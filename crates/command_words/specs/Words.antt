@@ -1,17 +1,10 @@
 -- What the command's words mean.
 use Rattle.std.specs.Prelude.{ℕ, ◌≡◌, ◌≤◌, ⊤, true, List, [], ◌∷◌, length, nat_eq, if◌then◌else◌, Option, Some, None, option_and_then, option_map}
-use Rattle.std.specs.Prelude.{codes, All, IfSome, IsSome, Bool}
-use Rattle.std.specs.List.{IsDistinct}
-use Rattle.std.specs.Str.{bytes_eq}
+use Rattle.std.specs.{Prelude.{codes, All, IfSome, IsSome, Bool}, List.{IsDistinct}, Str.{bytes_eq}}
 use Rattle.area_layout.specs.Layout.{MakeLayout}
-use Rattle.command_words.specs.declared.reading.Command.{Command}
-use Rattle.command_words.specs.declared.reading.Replay.{Replay}
-use Rattle.command_words.specs.declared.making.Make.{Make}
-use Rattle.command_words.specs.declared.options.Options.{Options}
-use Rattle.command_words.specs.Numbers.{ports_of, up_to}
+use Rattle.command_words.specs.{declared.{reading.{Command.{Command}, Replay.{Replay}}, making.Make.{Make}, options.Options.{Options}}, Numbers.{ports_of, up_to}}
 use Rattle.command_words.specs.Assigned.{Text, Said, is_among, sorted, value_said}
-use Rattle.command_words.specs.Options.{AreInRange, AreTurns, GoesByTurns, flag_names, given, option_names, options_of, stand_together, turns_of}
-use Rattle.command_words.specs.Areas.{pool_of}
+use Rattle.command_words.specs.{Options.{AreInRange, AreTurns, GoesByTurns, flag_names, given, option_names, options_of, stand_together, turns_of}, Areas.{pool_of}}
 
 -- what `replay` is told: its ports, in the order given, its areas, each by its number of buffers and their size, its other
 -- numbers, and whose turns it goes by, if that is said

@@ -1,7 +1,6 @@
 //! The areas of a replay's pool.
 
-ghost use Rattle.std.specs.Prelude.{◌≡◌, IfOk, option_map};
-ghost use Rattle.std.specs.List.{slice_split};
+ghost use Rattle.std.specs.{Prelude.{◌≡◌, IfOk, option_map}, List.{slice_split}};
 ghost use Rattle.clap.specs.Words.{found_of, first_value};
 ghost use Rattle.command_words.specs.Areas.{area_of, areas_of, areas_or, few_areas, fit_together, is_comma, one_area, pool_of};
 

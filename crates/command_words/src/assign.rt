@@ -1,12 +1,8 @@
 //! Words assigned by `clap`.
 
-ghost use Rattle.std.specs.Prelude.{◌≡◌, ◌++◌, IfOk, [], drop, map, option_map};
-ghost use Rattle.std.specs.Str.{IsUtf8};
-ghost use Rattle.std.specs.List.{All};
+ghost use Rattle.std.specs.{Prelude.{◌≡◌, ◌++◌, IfOk, [], drop, map, option_map}, Str.{IsUtf8}, List.{All}};
 ghost use Rattle.clap.specs.Words.{app_of, found_of, matched_of, raw_values, with_rule};
-ghost use Rattle.command_words.specs.Assigned.{sorted};
-ghost use Rattle.command_words.specs.Asking.{Answers, AreApart, app_for, app_with, flag_rules, option_rules, port_id};
-ghost use Rattle.command_words.specs.Asking.{raw_flag, raw_option};
+ghost use Rattle.command_words.specs.{Assigned.{sorted}, Asking.{Answers, AreApart, app_for, app_with, flag_rules, option_rules, port_id, raw_flag, raw_option}};
 
 use clap::error::ErrorKind;
 use clap::{Arg, ArgAction, ArgMatches, Command};

@@ -2,9 +2,7 @@
 
 ghost use Rattle.std.specs.Prelude.{◌≡◌, List, ℕ, [], IfOk, drop, map, option_map};
 ghost use Rattle.clap.specs.Words.{found_of, matched_of, raw_values};
-ghost use Rattle.command_words.specs.Assigned.{if_any, sorted};
-ghost use Rattle.command_words.specs.Asking.{port_id};
-ghost use Rattle.command_words.specs.Words.{make_of, numbers_of};
+ghost use Rattle.command_words.specs.{Assigned.{if_any, sorted}, Asking.{port_id}, Words.{make_of, numbers_of}};
 
 use crate::{assign, numbers};
 use clap::ArgMatches;

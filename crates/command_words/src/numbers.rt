@@ -1,10 +1,7 @@
 //! Numbers that words write.
 
-ghost use Rattle.std.specs.Prelude.{◌≡◌, IfOk, map, nat_eq, option_map};
-ghost use Rattle.std.specs.Char.{is_ascii_digit};
-ghost use Rattle.std.specs.List.{list_all};
-ghost use Rattle.command_words.specs.Numbers.{all_ports, in_range, is_distinct, is_number, is_port_list};
-ghost use Rattle.command_words.specs.Numbers.{port_of, ports_of, up_to, value_of};
+ghost use Rattle.std.specs.{Prelude.{◌≡◌, IfOk, map, nat_eq, option_map}, Char.{is_ascii_digit}, List.{list_all}};
+ghost use Rattle.command_words.specs.Numbers.{all_ports, in_range, is_distinct, is_number, is_port_list, port_of, ports_of, up_to, value_of};
 
 use std::alloc::{AllocError, Global};
 

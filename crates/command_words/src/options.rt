@@ -1,11 +1,8 @@
 //! The options and flags of `replay`.
 
-ghost use Rattle.std.specs.Prelude.{◌≡◌, ◌≤◌, codes, is_some, map, option_map};
-ghost use Rattle.std.specs.List.{list_all, list_any};
+ghost use Rattle.std.specs.{Prelude.{◌≡◌, ◌≤◌, codes, is_some, map, option_map}, List.{list_all, list_any}};
 ghost use Rattle.clap.specs.Words.{found_of, first_value};
-ghost use Rattle.command_words.specs.Asking.{flag_in};
-ghost use Rattle.command_words.specs.Options.{are_turns, behaviour_of, delay_of, is_turn, number_or, options_of, quit_of};
-ghost use Rattle.command_words.specs.Options.{size_of, stand_together, turns_of};
+ghost use Rattle.command_words.specs.{Asking.{flag_in}, Options.{are_turns, behaviour_of, delay_of, is_turn, number_or, options_of, quit_of, size_of, stand_together, turns_of}};
 
 use crate::areas::few_areas;
 use crate::numbers;

@@ -1,13 +1,8 @@
 //! Commands, as words ask for them.
 
-ghost use Rattle.std.specs.Prelude.{◌≡◌, ◌≤◌, List, ℕ, IfOk, IfSome, codes, drop, length, map, option_map};
-ghost use Rattle.std.specs.Str.{bytes_eq};
+ghost use Rattle.std.specs.{Prelude.{◌≡◌, ◌≤◌, List, ℕ, IfOk, IfSome, codes, drop, length, map, option_map}, Str.{bytes_eq}};
 ghost use Rattle.clap.specs.Words.{first_value, found_of, matched_of, raw_values};
-ghost use Rattle.command_words.specs.Numbers.{ports_of};
-ghost use Rattle.command_words.specs.Assigned.{if_any, sorted};
-ghost use Rattle.command_words.specs.Asking.{flag_in, port_id};
-ghost use Rattle.command_words.specs.Options.{flag_names, option_names};
-ghost use Rattle.command_words.specs.Words.{IsCommand, command_shown, reading_of, replay_of, replay_shown, told_of, told_with};
+ghost use Rattle.command_words.specs.{Numbers.{ports_of}, Assigned.{if_any, sorted}, Asking.{flag_in, port_id}, Options.{flag_names, option_names}, Words.{IsCommand, command_shown, reading_of, replay_of, replay_shown, told_of, told_with}};
 
 use crate::areas::read_pool;
 use crate::making::{Make, read_make};

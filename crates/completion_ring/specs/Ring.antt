@@ -1,6 +1,5 @@
 -- What a contract sees of a completion ring.
-use Rattle.std.specs.Prelude.{◌≡◌, ℕ, List, length, refl}
-use Rattle.std.specs.Coded.{Coded, code_by, coded×, coded_list, coded_ℕ}
+use Rattle.std.specs.{Prelude.{◌≡◌, ℕ, List, length, refl}, Coded.{Coded, code_by, coded×, coded_list, coded_ℕ}}
 
 -- the entries, from the oldest on, and how many there may be
 pub record Ring (X : Type 0) : Type 0 where

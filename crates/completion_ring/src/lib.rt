@@ -5,6 +5,3 @@
 mod ring;
 
 pub use ring::CqRing;
-
-#[cfg(test)]
-mod tests;

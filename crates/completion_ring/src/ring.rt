@@ -1,5 +1,4 @@
-ghost use Rattle.std.specs.Prelude.{◌≡◌, ◌≤◌, ◌<◌, ◌↔◌, [], ◌∷◌, ◌++◌, length, IsTrue, IsErr, IsNone, IfOk, OnOk, IfErr};
-ghost use Rattle.std.specs.Prelude.{IfSome, IfNone};
+ghost use Rattle.std.specs.Prelude.{◌≡◌, ◌≤◌, ◌<◌, ◌↔◌, [], ◌∷◌, ◌++◌, length, IsTrue, IsErr, IsNone, IfOk, OnOk, IfErr, IfSome, IfNone};
 ghost use Rattle.completion_ring.specs.Ring.{ring, IsFull};
 
 use circular_buffer::HeapCircularBuffer;

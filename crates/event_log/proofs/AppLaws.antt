@@ -1,45 +1,24 @@
 -- The log goes on to tell of a board after each event of an application.
-use Rattle.std.proofs.Common.{◌≡◌, ◌∙◌, ℕ, ◌+◌, ◌-◌, ◌<◌, Bool, true, false, [], ◌∷◌, length, eqb, ltb}
-use Rattle.std.proofs.Common.{refl, sym, ap, subst, arith, ⊎_elim, if◌then◌else◌}
-use Rattle.std.specs.Prelude.{◌&&◌, ◌||◌}
-use Rattle.std.proofs.lemmas.Bool.{lt-ltb, eq-eqb, or_right}
-use Rattle.std.proofs.lemmas.List.Elements.{All-get_or}
-use Rattle.area_layout.proofs.Words.{words_apart}
-use Rattle.area_layout.specs.Layout.{pool_buffers}
+use Rattle.std.proofs.Common.{◌≡◌, ◌∙◌, ℕ, ◌+◌, ◌-◌, ◌<◌, Bool, true, false, [], ◌∷◌, length, eqb, ltb, refl, sym, ap, subst, arith, ⊎_elim, if◌then◌else◌}
+use Rattle.std.{specs.{Prelude.{◌&&◌, ◌||◌}, List.{flat_map}}, proofs.lemmas.{Bool.{lt-ltb, eq-eqb, or_right}, List.Elements.{All-get_or}}}
+use Rattle.area_layout.{proofs.Words.{words_apart}, specs.Layout.{pool_buffers}}
 use Rattle.run_records.specs.declared.event.Event.TheVariants as event
-use Rattle.run_records.specs.declared.holding.Holding.{Holding}
+use Rattle.run_records.specs.{declared.holding.Holding.{Holding}, Setting.{total_buffers, pool_buffers as run_pool_buffers}}
+use Rattle.run_records.{specs.Holders.{is_pool_buffer, is_reserve_of, is_same}, proofs.Weighing.{one_if}}
 use Rattle.run_records.specs.declared.holding.Holding.TheVariants as holding
-use Rattle.run_records.specs.Setting.{total_buffers}
-use Rattle.run_records.specs.Setting.{pool_buffers as run_pool_buffers}
-use Rattle.run_records.specs.Holders.{is_pool_buffer, is_reserve_of, is_same}
 use Rattle.board_face.specs.AppEvents.{app_saw, took_note, took_linear, told_end, cut, released, lent, has_read, abandoned, gave, pushed_raw, came_to_rest}
-use Rattle.board_face.specs.AppEvents.{got_spare, filled, own_bytes, lent_own, fell_quiet, left_board}
-use Rattle.board_face.specs.Laws.{AllSides, by_app, pool_of, user_of}
-use Rattle.board_face.specs.OwnBuffers.{IsOwnBuffer}
-use Rattle.board_face.specs.Sides.{IsApp, app_at}
-use Rattle.board_face.specs.declared.views.parts.Setting.{Setting as Shared}
-use Rattle.board_face.specs.declared.views.app.AppView.{AppView}
-use Rattle.board_face.specs.declared.views.app.AppSide.{AppSide}
-use Rattle.board_face.proofs.ListLemmas.{not-eqb}
+use Rattle.board_face.specs.{AppEvents.{got_spare, filled, own_bytes, lent_own, fell_quiet, left_board}, Laws.{AllSides, by_app, pool_of, user_of}}
+use Rattle.board_face.specs.{OwnBuffers.{IsOwnBuffer}, Sides.{IsApp, app_at}, declared.views.{parts.Setting.{Setting as Shared}, app.AppView.{AppView}}}
+use Rattle.board_face.{specs.declared.views.app.AppSide.{AppSide}, proofs.{ListLemmas.{not-eqb}, AppLemmas.{SameHoldings}}}
 use Rattle.event_log.specs.AppLaws.{TookNoteLaw, CutLaw, ReleasedLaw, LentLaw, BackLaw, GotSpareLaw, LentOwnLaw, AppUnloggedLaw}
-use Rattle.event_log.specs.IsLogged.{AreSound, KeepsLog, run_of}
-use Rattle.event_log.specs.Plain.{weight}
+use Rattle.event_log.specs.{IsLogged.{AreSound, KeepsLog, run_of}, Plain.{weight}}
 use Rattle.event_log.proofs.AppShifts.{shifts-took_note, same-took_linear, shifts-cut, shifts-released, shifts-lent, shifts-abandoned, shifts-gave}
 use Rattle.event_log.proofs.AppShifts.{shifts-got_spare, same-filled, shifts-lent_own}
 use Rattle.event_log.proofs.AppTallies.{gains-filled, takes-none, tallies-abandoned, tallies-gave, tallies-got_spare, tallies-lent, tallies-lent_own, tallies-none}
-use Rattle.event_log.proofs.AppTallies.{tallies-took_note}
-use Rattle.event_log.proofs.CardLaws.{from-none, no-length}
-use Rattle.event_log.proofs.ShortFills.{own_bytes-short}
+use Rattle.event_log.proofs.{AppTallies.{tallies-took_note}, CardLaws.{from-none, no-length}, ShortFills.{own_bytes-short}}
 use Rattle.event_log.proofs.Following.{Becomes, follows-by, logged-same, logs-by, weights_of}
-use Rattle.event_log.proofs.Needs.{NoneReturns-app, app-there, both-said, one-becomes, pool-said, within-by, within-there}
-use Rattle.event_log.proofs.Parts.{app_weight}
-use Rattle.event_log.proofs.Settings.{pool_buffers-same}
-use Rattle.event_log.proofs.Shifts.{app-shift}
-use Rattle.event_log.proofs.Tallying.{Gains, SameLists, gains-none, keeps-app}
-use Rattle.run_records.proofs.Weighing.{one_if}
-use Rattle.board_face.proofs.AppLemmas.{SameHoldings}
-use Rattle.std.specs.List.{flat_map}
-use Rattle.event_log.specs.Tallies.{taken_as}
+use Rattle.event_log.proofs.{Needs.{NoneReturns-app, app-there, both-said, one-becomes, pool-said, within-by, within-there}, Parts.{app_weight}}
+use Rattle.event_log.{proofs.{Settings.{pool_buffers-same}, Shifts.{app-shift}, Tallying.{Gains, SameLists, gains-none, keeps-app}}, specs.Tallies.{taken_as}}
 
 -- ---- notes
 

@@ -1,39 +1,19 @@
 -- Which holders begin and end with each event of an application.
-use Rattle.std.proofs.Common.{◌≡◌, ◌∙◌, ℕ, ◌+◌, ◌-◌, ◌≤◌, Bool, true, false, cond, List, [], ◌∷◌, ◌++◌, length, drop, if◌then◌else◌}
-use Rattle.std.proofs.Common.{refl, ap, subst, arith}
+use Rattle.std.proofs.Common.{◌≡◌, ◌∙◌, ℕ, ◌+◌, ◌-◌, ◌≤◌, Bool, true, false, cond, List, [], ◌∷◌, ◌++◌, length, drop, if◌then◌else◌, refl, ap, subst, arith}
 use Rattle.std.specs.Prelude.{◌==◌, filter}
-use Rattle.zr_kinds.specs.declared.place.Place.{Place}
-use Rattle.zr_kinds.specs.declared.place.Note.{Note}
+use Rattle.zr_kinds.specs.declared.place.{Place.{Place}, Note.{Note}}
 use Rattle.run_records.specs.declared.holding.Holding.{Holding}
 use Rattle.run_records.specs.declared.holding.Holding.TheVariants as holding
-use Rattle.board_face.specs.Lists.{same_place}
-use Rattle.board_face.specs.Tokens.{filled_by, same_filling}
-use Rattle.board_face.specs.Texts.{further, front_place, rest_place}
-use Rattle.board_face.specs.Holders.{on_way, sent_to, ended_in}
-use Rattle.board_face.specs.Laws.{AllSides, FitTogether, IsNextNote, by_app}
-use Rattle.board_face.specs.AppCalls.{HasHeld, HasLoan, HasSpare}
+use Rattle.board_face.specs.{Lists.{same_place}, Tokens.{filled_by, same_filling}, Texts.{further, front_place, rest_place}, Holders.{on_way, sent_to, ended_in}}
+use Rattle.board_face.specs.{Laws.{AllSides, FitTogether, IsNextNote, by_app}, AppCalls.{HasHeld, HasLoan, HasSpare}}
 use Rattle.board_face.specs.AppEvents.{took_note, took_linear, held_origin, helds_without, cut, released, lent, loan_origin, loans_without, abandoned, gave}
-use Rattle.board_face.specs.AppEvents.{got_spare, owns_without, filled, own_bytes, begin_place, lent_own}
-use Rattle.board_face.specs.NicEvents.{fresh}
-use Rattle.board_face.specs.Sides.{app_at, IsApp}
-use Rattle.board_face.specs.declared.views.parts.Filling.{Filling}
-use Rattle.board_face.specs.declared.views.nic.SentNote.{SentNote}
-use Rattle.board_face.specs.declared.views.app.HeldPiece.{HeldPiece}
-use Rattle.board_face.specs.declared.views.app.LentPiece.{LentPiece}
-use Rattle.board_face.specs.declared.views.app.SpareOwn.{SpareOwn}
-use Rattle.board_face.specs.declared.views.app.TakenNote.{TakenNote}
-use Rattle.board_face.specs.declared.views.app.AppView.{AppView}
-use Rattle.board_face.specs.declared.views.app.AppSide.{AppSide}
-use Rattle.board_face.specs.declared.views.app.Origin.TheVariants.{Note as of_note, Copied as of_copy}
-use Rattle.board_face.proofs.AppLemmas.{after-taken}
-use Rattle.board_face.proofs.ListLemmas.{same_place-refl, same_filling-refl, same_place-is, same_filling-is}
-use Rattle.board_face.proofs.Parts.{came_back_in, owed_count, returned_in-count}
-use Rattle.board_face.proofs.Tallies.{weight as one, total, total-append, tally-push}
-use Rattle.event_log.specs.Plain.{plain_holders, weight}
-use Rattle.event_log.proofs.Following.{Shifts}
-use Rattle.event_log.proofs.Parts.{here, place_here}
-use Rattle.event_log.proofs.Shifts.{here-none, here-one, here-two, app-shift, times-more}
-use Rattle.event_log.proofs.Sums.{total-push, total-without}
+use Rattle.board_face.specs.{AppEvents.{got_spare, owns_without, filled, own_bytes, begin_place, lent_own}, NicEvents.{fresh}, Sides.{app_at, IsApp}}
+use Rattle.board_face.specs.declared.views.{parts.Filling.{Filling}, nic.SentNote.{SentNote}, app.{HeldPiece.{HeldPiece}, LentPiece.{LentPiece}, SpareOwn.{SpareOwn}}}
+use Rattle.board_face.specs.declared.views.app.{TakenNote.{TakenNote}, AppView.{AppView}, AppSide.{AppSide}, Origin.TheVariants.{Note as of_note, Copied as of_copy}}
+use Rattle.board_face.proofs.{AppLemmas.{after-taken}, ListLemmas.{same_place-refl, same_filling-refl, same_place-is, same_filling-is}}
+use Rattle.board_face.proofs.{Parts.{came_back_in, owed_count, returned_in-count}, Tallies.{weight as one, total, total-append, tally-push}}
+use Rattle.event_log.{specs.Plain.{plain_holders, weight}, proofs.{Following.{Shifts}, Parts.{here, place_here}}}
+use Rattle.event_log.proofs.{Shifts.{here-none, here-one, here-two, app-shift, times-more}, Sums.{total-push, total-without}}
 
 -- ---- notes
 

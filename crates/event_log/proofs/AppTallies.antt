@@ -1,31 +1,16 @@
 -- What each event of an application adds to its loans and copies.
 use Rattle.std.proofs.Common.{◌≡◌, ℕ, ◌+◌, List, [], ◌∷◌, length, map, ◌++◌, eqb, true, false, if◌then◌else◌, refl, sym, ap, ◌∙◌, arith, length-append}
-use Rattle.std.specs.List.{sum_by, flat_map}
-use Rattle.std.specs.Prelude.{◌≢◌}
-use Rattle.std.proofs.lemmas.List.{append-nil, flat_map_more, map-append}
-use Rattle.std.proofs.lemmas.List.Sums.{sum_by_push}
-use Rattle.zr_kinds.specs.declared.place.Note.{Note}
-use Rattle.zr_kinds.specs.declared.place.Place.{Place}
+use Rattle.std.{specs.{List.{sum_by, flat_map}, Prelude.{◌≢◌}}, proofs.lemmas.List.{append-nil, flat_map_more, map-append, Sums.{sum_by_push}}}
+use Rattle.zr_kinds.specs.declared.place.{Note.{Note}, Place.{Place}}
 use Rattle.run_records.specs.declared.event.Event.{Event}
 use Rattle.run_records.specs.declared.event.Event.TheVariants as event
 use Rattle.board_face.specs.AppCalls.{HasLoan, HasSpare}
 use Rattle.board_face.specs.AppEvents.{held_origin, lent, loan_origin, loans_without, abandoned, got_spare, owns_without, filled, own_bytes, begin_place}
-use Rattle.board_face.specs.AppEvents.{gave, lent_own, took_note}
-use Rattle.board_face.specs.Laws.{AllSides, by_app}
-use Rattle.board_face.specs.NicEvents.{fresh}
-use Rattle.board_face.specs.Sides.{IsApp, app_at}
-use Rattle.board_face.specs.Tokens.{filled_by}
-use Rattle.board_face.specs.declared.views.parts.Filling.{Filling}
-use Rattle.board_face.specs.declared.views.app.AppView.{AppView}
-use Rattle.board_face.specs.declared.views.app.AppSide.{AppSide}
-use Rattle.board_face.specs.declared.views.app.LentPiece.{LentPiece}
-use Rattle.board_face.specs.declared.views.app.SpareOwn.{SpareOwn}
-use Rattle.board_face.specs.declared.views.app.TakenNote.{TakenNote}
-use Rattle.board_face.specs.declared.views.app.Origin.TheVariants.{Copied as of_copy}
-use Rattle.board_face.proofs.ListLemmas.{eqb_same, not-eqb}
+use Rattle.board_face.specs.{AppEvents.{gave, lent_own, took_note}, Laws.{AllSides, by_app}, NicEvents.{fresh}, Sides.{IsApp, app_at}, Tokens.{filled_by}}
+use Rattle.board_face.specs.declared.views.{parts.Filling.{Filling}, app.{AppView.{AppView}, AppSide.{AppSide}, LentPiece.{LentPiece}, SpareOwn.{SpareOwn}}}
+use Rattle.board_face.{specs.declared.views.app.{TakenNote.{TakenNote}, Origin.TheVariants.{Copied as of_copy}}, proofs.ListLemmas.{eqb_same, not-eqb}}
 use Rattle.board_face.proofs.Tallies.{weight as one, total}
-use Rattle.event_log.specs.Tallies.{len_of, place_of, taken_as}
-use Rattle.event_log.proofs.AppShifts.{loans-less, owns-less}
+use Rattle.event_log.{specs.Tallies.{len_of, place_of, taken_as}, proofs.AppShifts.{loans-less, owns-less}}
 use Rattle.event_log.proofs.Tallying.{Gains, IsNoneOfCard, SameLists, Tallies, TellsNothing, app-stays, gains-none, sum-total, tallies-app}
 
 length-total : {A : Type 0} (xs : List A) → total (λ x. 1) xs ≡ length xs

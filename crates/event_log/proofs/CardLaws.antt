@@ -1,46 +1,23 @@
 -- The log goes on to tell of a board after each event of the card.
-use Rattle.std.proofs.Common.{◌≡◌, ◌∙◌, ℕ, ◌+◌, ◌<◌, ◌≤◌, true, false, List, [], ◌∷◌, ◌++◌, length, eqb, ltb, Some}
-use Rattle.std.proofs.Common.{refl, sym, ap, arith, ⊎_elim, if◌then◌else◌, leb}
-use Rattle.std.specs.Prelude.{◌||◌, ◌%◌, not, count_by}
-use Rattle.std.specs.List.{list_any, list_all, flat_map}
-use Rattle.std.proofs.lemmas.Bool.{lt-ltb, le-leb, eq-eqb, cases_lt, or_right}
-use Rattle.std.proofs.lemmas.List.{append-nil, flat_map_more, map-append}
-use Rattle.std.proofs.lemmas.List.Elements.{All-contains}
+use Rattle.std.proofs.Common.{◌≡◌, ◌∙◌, ℕ, ◌+◌, ◌<◌, ◌≤◌, true, false, List, [], ◌∷◌, ◌++◌, length, eqb, ltb, Some, refl, sym, ap, arith, ⊎_elim, if◌then◌else◌, leb}
+use Rattle.std.{specs.{Prelude.{◌||◌, ◌%◌, not, count_by}, List.{list_any, list_all, flat_map}}, proofs.lemmas.Bool.{lt-ltb, le-leb, eq-eqb, cases_lt, or_right}}
+use Rattle.std.proofs.lemmas.List.{append-nil, flat_map_more, map-append, Elements.{All-contains}}
 use Rattle.area_layout.specs.Layout.{size_of}
-use Rattle.run_records.specs.declared.event.Event.{Event}
+use Rattle.run_records.specs.{declared.{event.Event.{Event}, holding.Holding.{Holding}}, Setting.{Setting, total_buffers, pool_buffers as run_pool_buffers}}
+use Rattle.run_records.{specs.Holders.{Holdings, after, is_app, is_apart, is_buffer, is_same}, proofs.Weighing.{Moves, one_if, weight-append}}
 use Rattle.run_records.specs.declared.event.Event.TheVariants as event
-use Rattle.run_records.specs.declared.holding.Holding.{Holding}
 use Rattle.run_records.specs.declared.holding.Holding.TheVariants as holding
-use Rattle.run_records.specs.Setting.{Setting, total_buffers}
-use Rattle.run_records.specs.Setting.{pool_buffers as run_pool_buffers}
-use Rattle.run_records.specs.Holders.{Holdings, after, is_app, is_apart, is_buffer, is_same}
-use Rattle.board_face.specs.Laws.{AllSides, by_card, pool_of, user_of}
-use Rattle.board_face.specs.NicCalls.{HasOwn}
+use Rattle.board_face.specs.{Laws.{AllSides, by_card, pool_of, user_of}, NicCalls.{HasOwn}}
 use Rattle.board_face.specs.NicEvents.{took, placed, sent, sent_linear, gave_up, shut, passed_over, honoured, swept, nic_saw, saw_leave, nic_ended}
-use Rattle.board_face.specs.Places.{places_of, ends_behind}
-use Rattle.board_face.specs.Sides.{nic_at}
-use Rattle.board_face.specs.Tokens.{FitsBuffer}
-use Rattle.board_face.specs.declared.views.parts.Setting.{Setting as Shared}
-use Rattle.board_face.specs.declared.views.parts.Filling.{Filling}
-use Rattle.board_face.specs.declared.views.nic.Dealt.{Dealt}
-use Rattle.board_face.specs.declared.views.nic.NicView.{NicView}
-use Rattle.board_face.specs.declared.views.nic.SentNote.{SentNote}
-use Rattle.board_face.proofs.Tallies.{weight as one}
-use Rattle.event_log.specs.CardLaws.{TookLaw, PlacedLaw, SentLaw, ShutLaw, HonouredLaw, PassedOverLaw, CardUnloggedLaw}
-use Rattle.event_log.specs.IsLogged.{AreSound, KeepsLog, run_of}
-use Rattle.event_log.specs.Settings.{setting_of}
-use Rattle.event_log.specs.Plain.{SameHoldings, weight}
-use Rattle.event_log.specs.Tallies.{dealt_as, is_stray, sent_as, strays_of, was_stray}
+use Rattle.board_face.specs.{Places.{places_of, ends_behind}, Sides.{nic_at}, Tokens.{FitsBuffer}, declared.views.parts.Setting.{Setting as Shared}}
+use Rattle.board_face.{specs.declared.views.{parts.Filling.{Filling}, nic.{Dealt.{Dealt}, NicView.{NicView}, SentNote.{SentNote}}}, proofs.Tallies.{weight as one}}
+use Rattle.event_log.specs.{CardLaws.{TookLaw, PlacedLaw, SentLaw, ShutLaw, HonouredLaw, PassedOverLaw, CardUnloggedLaw}, IsLogged.{AreSound, KeepsLog, run_of}}
+use Rattle.event_log.specs.{Settings.{setting_of}, Plain.{SameHoldings, weight}, Tallies.{dealt_as, is_stray, sent_as, strays_of, was_stray}}
 use Rattle.event_log.proofs.CardShifts.{shifts-took, shifts-placed, shifts-sent, shifts-shut, shifts-honoured, same-passed_over, same-sent_linear}
-use Rattle.event_log.proofs.Counting.{buffer-there, ends, ends-weight, held-some, length-held}
-use Rattle.event_log.proofs.Following.{Becomes, follows-by, logged-same, logs-by, was-there}
-use Rattle.event_log.proofs.Needs.{NoneReturns-card, app-there, both-said, one-becomes, pool-said, within-by, within-there}
-use Rattle.event_log.proofs.Parts.{card_weight}
-use Rattle.event_log.proofs.Settings.{pool_buffers-same}
-use Rattle.event_log.proofs.Shifts.{card-shift}
-use Rattle.event_log.proofs.Tallying.{CardGains, Tallies, TellsNothing, card-stays, count-push, keeps-card, tallies-card}
-use Rattle.run_records.proofs.Weighing.{Moves, one_if, weight-append}
-use Rattle.event_log.proofs.Weighing.{all-pass, weight-le}
+use Rattle.event_log.proofs.{Counting.{buffer-there, ends, ends-weight, held-some, length-held}, Following.{Becomes, follows-by, logged-same, logs-by, was-there}}
+use Rattle.event_log.proofs.{Needs.{NoneReturns-card, app-there, both-said, one-becomes, pool-said, within-by, within-there}, Parts.{card_weight}}
+use Rattle.event_log.proofs.{Settings.{pool_buffers-same}, Shifts.{card-shift}}
+use Rattle.event_log.proofs.{Tallying.{CardGains, Tallies, TellsNothing, card-stays, count-push, keeps-card, tallies-card}, Weighing.{all-pass, weight-le}}
 use Rattle.zr_kinds.proofs.Booleans.{if-le}
 
 -- an event that tells of no loan, of a card that dealt with no entry

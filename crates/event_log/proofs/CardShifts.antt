@@ -1,39 +1,20 @@
 -- Which holders begin and end with each event of the card.
 use Rattle.std.proofs.Common.{◌≡◌, ◌∙◌, ℕ, ◌+◌, ◌-◌, ◌*◌, ◌≤◌, Bool, true, false, cond, List, [], ◌∷◌, ◌++◌, length, drop, if◌then◌else◌}
-use Rattle.std.proofs.Common.{refl, sym, ap, subst, arith, ⊎_elim}
-use Rattle.std.specs.Prelude.{◌==◌, ◌≢◌, ◌&&◌, filter}
-use Rattle.std.proofs.lemmas.Bool.Decides.{eqb_tells}
-use Rattle.std.proofs.lemmas.List.Elements.{filter-append}
-use Rattle.zr_kinds.specs.declared.place.Place.{Place}
-use Rattle.zr_kinds.specs.declared.place.Note.{Note}
-use Rattle.zr_kinds.specs.declared.ring.Rqe.{Rqe}
+use Rattle.std.{proofs.{Common.{refl, sym, ap, subst, arith, ⊎_elim}, lemmas.Bool.Decides.{eqb_tells}}, specs.Prelude.{◌==◌, ◌≢◌, ◌&&◌, filter}}
+use Rattle.std.proofs.lemmas.{List.{Elements.{filter-append}, map-id}, Bool.{and_right}}
+use Rattle.zr_kinds.specs.declared.{place.{Place.{Place}, Note.{Note}}, ring.Rqe.{Rqe}}
 use Rattle.run_records.specs.declared.holding.Holding.{Holding}
 use Rattle.run_records.specs.declared.holding.Holding.TheVariants as holding
-use Rattle.board_face.specs.Lists.{without, same_place}
-use Rattle.board_face.specs.Tokens.{filled_by, next_place, same_filling}
-use Rattle.board_face.specs.Holders.{on_way, sent_to, owed_in, ended_in}
-use Rattle.board_face.specs.Laws.{AllSides, FitTogether, by_card}
-use Rattle.board_face.specs.NicCalls.{HasOwn, HasPiece}
-use Rattle.board_face.specs.NicEvents.{fresh, took, placed, sent, sent_linear, gave_up, shut, passed_over, honoured, text_at}
-use Rattle.board_face.specs.Sides.{nic_at, IsApp}
-use Rattle.board_face.specs.declared.views.parts.Filling.{Filling}
-use Rattle.board_face.specs.declared.views.nic.SentNote.{SentNote}
-use Rattle.board_face.specs.declared.views.nic.PlacedText.{PlacedText}
-use Rattle.board_face.specs.declared.views.nic.Fate.TheVariants.{Stray}
-use Rattle.board_face.specs.declared.views.nic.NicView.{NicView}
-use Rattle.board_face.specs.declared.views.nic.NicSide.{NicSide}
-use Rattle.board_face.specs.declared.views.app.AppSide.{AppSide}
+use Rattle.board_face.specs.{Lists.{without, same_place}, Tokens.{filled_by, next_place, same_filling}, Holders.{on_way, sent_to, owed_in, ended_in}}
+use Rattle.board_face.specs.{Laws.{AllSides, FitTogether, by_card}, NicCalls.{HasOwn, HasPiece}}
+use Rattle.board_face.specs.{NicEvents.{fresh, took, placed, sent, sent_linear, gave_up, shut, passed_over, honoured, text_at}, Sides.{nic_at, IsApp}}
+use Rattle.board_face.specs.declared.views.{parts.Filling.{Filling}, nic.{SentNote.{SentNote}, PlacedText.{PlacedText}, Fate.TheVariants.{Stray}, NicView.{NicView}}}
+use Rattle.board_face.specs.declared.views.{nic.NicSide.{NicSide}, app.AppSide.{AppSide}}
 use Rattle.board_face.proofs.ListLemmas.{same_place-refl, same_filling-refl, same_place-is, same_filling-is}
 use Rattle.board_face.proofs.NicLemmas.{drop-push, sent_to-other, sent_to-same, honoured-other, honoured-target, ended_in-push}
-use Rattle.board_face.proofs.Parts.{owed_count, owed-count, came_back_in, total-shift}
-use Rattle.board_face.proofs.Tallies.{weight as one, total, total-append, total-agree}
-use Rattle.event_log.specs.Plain.{plain_holders, weight}
-use Rattle.event_log.proofs.Following.{Shifts}
-use Rattle.event_log.proofs.Parts.{here, place_here, app_weight, weight-parts}
-use Rattle.event_log.proofs.Shifts.{here-none, here-one, card-shift, times-more}
-use Rattle.event_log.proofs.Sums.{total-push, total-without}
-use Rattle.std.proofs.lemmas.List.{map-id}
-use Rattle.std.proofs.lemmas.Bool.{and_right}
+use Rattle.board_face.proofs.{Parts.{owed_count, owed-count, came_back_in, total-shift}, Tallies.{weight as one, total, total-append, total-agree}}
+use Rattle.event_log.{specs.Plain.{plain_holders, weight}, proofs.{Following.{Shifts}, Parts.{here, place_here, app_weight, weight-parts}}}
+use Rattle.event_log.proofs.{Shifts.{here-none, here-one, card-shift, times-more}, Sums.{total-push, total-without}}
 
 pub shifts-took : (s : AllSides) (buffer : ℕ) → Shifts buffer [] (holding.Own ∷ []) s (by_card s (took s.nic.view buffer))
 shifts-took s buffer b f =

@@ -1,29 +1,19 @@
 -- The counts of a buffer and its places, from what its holders weigh.
 use Rattle.std.proofs.Common.{◌≡◌, ◌∙◌, ℕ, ◌+◌, ◌<◌, ◌≤◌, Bool, true, false, List, [], ◌∷◌, length, refl, sym, arith, ⊎_elim}
-use Rattle.std.specs.Prelude.{filter, All, ◌==◌, nat_lt, slice_index, None, count_by}
-use Rattle.std.specs.List.{flat_map, list_any}
-use Rattle.std.proofs.lemmas.Bool.{cases_lt, lt-ltb}
+use Rattle.std.{specs.{Prelude.{filter, All, ◌==◌, nat_lt, slice_index, None, count_by}, List.{flat_map, list_any}}, proofs.lemmas.Bool.{cases_lt, lt-ltb}}
 use Rattle.std.proofs.lemmas.List.Elements.{All-head, All-tail}
 use Rattle.zr_kinds.specs.declared.place.Place.{Place}
 use Rattle.area_layout.specs.Layout.{total as all_buffers, size_of}
-use Rattle.run_records.specs.declared.holding.Holding.{Holding}
+use Rattle.run_records.specs.{declared.holding.Holding.{Holding}, Holders.{Holdings, is_same, is_user, is_buffer}, Setting.{total_buffers}}
+use Rattle.run_records.proofs.Weighing.{one_if, weight-length}
 use Rattle.run_records.specs.declared.holding.Holding.TheVariants as holding
-use Rattle.run_records.specs.Holders.{Holdings, is_same, is_user, is_buffer}
-use Rattle.run_records.specs.Setting.{total_buffers}
 use Rattle.board_face.specs.Holders.{Kind, own, piece, sent, held, spare, loan, owed, returning, holders_of, on_way, making_places, returning_count}
-use Rattle.board_face.specs.Counts.{is_user as is_user_kind}
-use Rattle.board_face.specs.Laws.{AllSides, pool_of, user_of}
-use Rattle.board_face.specs.Places.{kind_place, filled_places, places_of, ends_behind}
-use Rattle.board_face.specs.declared.views.nic.NicSide.{NicSide}
-use Rattle.board_face.specs.declared.views.app.AppSide.{AppSide}
+use Rattle.board_face.specs.{Counts.{is_user as is_user_kind}, Laws.{AllSides, pool_of, user_of}, Places.{kind_place, filled_places, places_of, ends_behind}}
+use Rattle.board_face.specs.declared.views.{nic.NicSide.{NicSide}, app.AppSide.{AppSide}}
 use Rattle.board_face.proofs.Tallies.{weight as one, tally, total, tally-append, tally-flat, total-agree, total-le}
 use Rattle.board_face.proofs.Parts.{nic_count, app_count, pool_count-parts, count-tally}
-use Rattle.event_log.specs.IsLogged.{AreSound, NoneReturns, run_of}
-use Rattle.event_log.specs.Plain.{SameHoldings, plain_holders, weight}
-use Rattle.event_log.proofs.Parts.{card_weight, app_weight, kind_weight, weight-kinds, weight-parts}
-use Rattle.event_log.proofs.Settings.{total-same}
-use Rattle.run_records.proofs.Weighing.{one_if, weight-length}
-use Rattle.event_log.proofs.Weighing.{weight-among}
+use Rattle.event_log.specs.{IsLogged.{AreSound, NoneReturns, run_of}, Plain.{SameHoldings, plain_holders, weight}}
+use Rattle.event_log.proofs.{Parts.{card_weight, app_weight, kind_weight, weight-kinds, weight-parts}, Settings.{total-same}, Weighing.{weight-among}}
 
 pub tally-total : {A : Type 0} (test : A → Bool) (xs : List A) → tally test xs ≡ total (λ x. one (test x)) xs
 tally-total test [] = refl

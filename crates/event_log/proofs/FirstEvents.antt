@@ -1,13 +1,7 @@
 -- The first of all events are legal as far as they go.
-use Rattle.std.proofs.Common.{◌≡◌, ◌∙◌, ℕ, zero, suc, List, [], ◌∷◌, take, Some}
-use Rattle.std.proofs.Common.{refl, ap, arith}
-use Rattle.std.specs.Prelude.{option_and_then}
-use Rattle.std.specs.List.{AllByRecursion}
+use Rattle.std.{proofs.Common.{◌≡◌, ◌∙◌, ℕ, zero, suc, List, [], ◌∷◌, take, Some, refl, ap, arith}, specs.{Prelude.{option_and_then}, List.{AllByRecursion}}}
 use Rattle.std.proofs.lemmas.Grind.{common_steps}
-use Rattle.run_records.specs.declared.event.Event.{Event}
-use Rattle.run_records.specs.Setting.{Setting}
-use Rattle.run_records.specs.Holders.{Holdings, after, all_after}
-use Rattle.run_records.specs.LegalRun.{HasSmallNumbers}
+use Rattle.run_records.specs.{declared.event.Event.{Event}, Setting.{Setting}, Holders.{Holdings, after, all_after}, LegalRun.{HasSmallNumbers}}
 use Rattle.run_records.proofs.Following.{some_from}
 use Rattle.event_log.specs.Logs.{FirstEventsLaw}
 

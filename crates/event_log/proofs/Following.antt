@@ -1,28 +1,13 @@
 -- A log goes on to tell of a board where its buffers' holders and its tallies changed as the event says.
-use Rattle.std.proofs.Common.{◌≡◌, ◌∙◌, ℕ, ◌+◌, ◌≤◌, true, false, List, [], ◌∷◌, ◌++◌, length, eqb, Some}
-use Rattle.std.proofs.Common.{refl, sym, ap, subst, arith, ⊎_elim}
-use Rattle.std.specs.Prelude.{count_by}
-use Rattle.std.specs.List.{AllByRecursion, list_any}
-use Rattle.std.proofs.lemmas.Bool.{eq-eqb}
-use Rattle.std.proofs.lemmas.Bool.Decides.{eqb_tells}
-use Rattle.run_records.specs.declared.event.Event.{Event}
-use Rattle.run_records.specs.declared.holding.Holding.{Holding}
-use Rattle.run_records.specs.Setting.{most_events, Setting}
-use Rattle.run_records.specs.Holders.{Holdings, after, all_after, no_holdings, buffer_of, changed, has_counts, is_in_range, is_same, is_user}
-use Rattle.run_records.specs.Holders.{with_holders}
-use Rattle.run_records.specs.LegalRun.{HasSmallNumbers}
+use Rattle.std.proofs.Common.{◌≡◌, ◌∙◌, ℕ, ◌+◌, ◌≤◌, true, false, List, [], ◌∷◌, ◌++◌, length, eqb, Some, refl, sym, ap, subst, arith, ⊎_elim}
+use Rattle.std.{specs.{Prelude.{count_by}, List.{AllByRecursion, list_any}}, proofs.lemmas.Bool.{eq-eqb, Decides.{eqb_tells}}}
+use Rattle.run_records.specs.{declared.{event.Event.{Event}, holding.Holding.{Holding}}, Setting.{most_events, Setting}}
+use Rattle.run_records.specs.Holders.{Holdings, after, all_after, no_holdings, buffer_of, changed, has_counts, is_in_range, is_same, is_user, with_holders}
+use Rattle.run_records.{specs.LegalRun.{HasSmallNumbers}, proofs.{Following.{all_after-more, small-more}, Weighing.{Moves, one_if, weight-count, weight-length}}}
 use Rattle.board_face.specs.Laws.{AllSides, pool_of, user_of}
-use Rattle.event_log.specs.IsLogged.{IsLogged, KeepsLog, Logs, NoneReturns, run_of}
-use Rattle.event_log.specs.Logs.{Kept, log_of, logged}
-use Rattle.event_log.specs.Plain.{SameHoldings, plain_holders, weight}
-use Rattle.event_log.specs.Tallies.{AreTallied}
-use Rattle.run_records.proofs.Following.{all_after-more, small-more}
-use Rattle.event_log.proofs.FirstEvents.{first-events}
-use Rattle.event_log.proofs.Parts.{here}
-use Rattle.event_log.proofs.Counting.{pool-weight, user-weight}
-use Rattle.event_log.proofs.Tallying.{KeepsTallies, Tallies}
-use Rattle.run_records.proofs.Weighing.{Moves, one_if, weight-count, weight-length}
-use Rattle.event_log.proofs.Weighing.{any-some}
+use Rattle.event_log.specs.{IsLogged.{IsLogged, KeepsLog, Logs, NoneReturns, run_of}, Logs.{Kept, log_of, logged}, Plain.{SameHoldings, plain_holders, weight}}
+use Rattle.event_log.{specs.Tallies.{AreTallied}, proofs.{FirstEvents.{first-events}, Parts.{here}, Counting.{pool-weight, user-weight}}}
+use Rattle.event_log.proofs.{Tallying.{KeepsTallies, Tallies}, Weighing.{any-some}}
 
 -- ---- one event more
 

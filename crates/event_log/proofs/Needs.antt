@@ -1,27 +1,15 @@
 -- What an event needs of the holders and of its numbers.
-use Rattle.std.proofs.Common.{◌≡◌, ◌∙◌, ℕ, ◌+◌, ◌≤◌, true, List, [], ◌∷◌, length, ltb, refl, ap, subst, arith, ⊎_elim}
-use Rattle.std.specs.Prelude.{◌&&◌, count_by, slice_index}
-use Rattle.std.proofs.lemmas.Bool.{cases_lt, lt-ltb, le-leb, eq-eqb}
-use Rattle.std.proofs.lemmas.List.Elements.{All-get_or, All-set}
+use Rattle.std.{proofs.Common.{◌≡◌, ◌∙◌, ℕ, ◌+◌, ◌≤◌, true, List, [], ◌∷◌, length, ltb, refl, ap, subst, arith, ⊎_elim}, specs.Prelude.{◌&&◌, count_by, slice_index}}
+use Rattle.std.proofs.lemmas.{Bool.{cases_lt, lt-ltb, le-leb, eq-eqb}, List.Elements.{All-get_or, All-set}}
 use Rattle.area_layout.specs.Layout.{size_of}
-use Rattle.run_records.specs.declared.event.Event.{Event}
-use Rattle.run_records.specs.declared.holding.Holding.{Holding}
-use Rattle.run_records.specs.declared.holding.Holding.TheVariants as holding
-use Rattle.run_records.specs.Setting.{size_of_buffer}
+use Rattle.run_records.specs.{declared.{event.Event.{Event}, holding.Holding.{Holding}}, Setting.{size_of_buffer}}
 use Rattle.run_records.specs.Holders.{becomes, changed, is_app, is_buffer, is_in_range, is_same, is_user, is_user_count, is_pool_count, is_within}
-use Rattle.board_face.specs.Laws.{AllSides, by_card, by_app}
-use Rattle.board_face.specs.Sides.{IsApp, app_at}
-use Rattle.board_face.specs.declared.views.nic.NicView.{NicView}
-use Rattle.board_face.specs.declared.views.app.AppView.{AppView}
-use Rattle.board_face.specs.declared.views.app.AppSide.{AppSide}
-use Rattle.board_face.proofs.ListLemmas.{eqb_same}
-use Rattle.board_face.proofs.Tallies.{weight as one}
-use Rattle.event_log.specs.IsLogged.{AreSound, NoneReturns, run_of}
-use Rattle.event_log.specs.Plain.{weight}
-use Rattle.event_log.proofs.Counting.{buffer-there, ends, held-some, held-within}
-use Rattle.event_log.proofs.Following.{Becomes, Shifts, was-there}
-use Rattle.event_log.proofs.Settings.{size-same}
 use Rattle.run_records.proofs.Weighing.{one_if, some_becomes}
+use Rattle.run_records.specs.declared.holding.Holding.TheVariants as holding
+use Rattle.board_face.specs.{Laws.{AllSides, by_card, by_app}, Sides.{IsApp, app_at}, declared.views.{nic.NicView.{NicView}, app.AppView.{AppView}}}
+use Rattle.board_face.{specs.declared.views.app.AppSide.{AppSide}, proofs.{ListLemmas.{eqb_same}, Tallies.{weight as one}}}
+use Rattle.event_log.{specs.{IsLogged.{AreSound, NoneReturns, run_of}, Plain.{weight}}, proofs.Counting.{buffer-there, ends, held-some, held-within}}
+use Rattle.event_log.proofs.{Following.{Becomes, Shifts, was-there}, Settings.{size-same}}
 
 -- ---- nothing is under way after the event either
 

@@ -1,9 +1,6 @@
 -- The sides after a call of an application.
 use Rattle.std.proofs.Common.{◌≡◌, ℕ, zero, suc, ◌<◌, List, [], ◌∷◌, length, get_or, set, refl, ap, arith}
-use Rattle.board_face.specs.Blank.{blank_app}
-use Rattle.board_face.specs.Laws.{AllSides}
-use Rattle.board_face.specs.declared.views.nic.NicSide.{NicSide}
-use Rattle.board_face.specs.declared.views.app.AppSide.{AppSide}
+use Rattle.board_face.specs.{Blank.{blank_app}, Laws.{AllSides}, declared.views.{nic.NicSide.{NicSide}, app.AppSide.{AppSide}}}
 use Rattle.event_log.specs.SideLaw.{OneSideLaw}
 
 -- lists that are one but for this element

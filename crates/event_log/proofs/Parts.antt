@@ -1,19 +1,13 @@
 -- What the holders of a buffer weigh, as a sum of numbers, one for each kind of holding.
-use Rattle.std.proofs.Common.{◌≡◌, ℕ, ◌+◌, ◌*◌, List, [], ◌∷◌, ◌++◌, length, map, refl, ap, ◌∙◌, arith}
-use Rattle.std.specs.Prelude.{if◌then◌else◌, filter, ◌==◌}
+use Rattle.std.{proofs.Common.{◌≡◌, ℕ, ◌+◌, ◌*◌, List, [], ◌∷◌, ◌++◌, length, map, refl, ap, ◌∙◌, arith}, specs.Prelude.{if◌then◌else◌, filter, ◌==◌}}
 use Rattle.std.specs.List.{flat_map, filter_map}
 use Rattle.zr_kinds.specs.declared.place.Place.{Place}
 use Rattle.run_records.specs.declared.holding.Holding.{Holding}
 use Rattle.run_records.specs.declared.holding.Holding.TheVariants as holding
 use Rattle.board_face.specs.Holders.{Kind, own, piece, sent, held, spare, loan, owed, returning, places_in, on_way, owed_in, returning_in}
-use Rattle.board_face.specs.Holders.{making_places, nic_holders, app_holders, holders_of}
-use Rattle.board_face.specs.declared.views.nic.NicSide.{NicSide}
-use Rattle.board_face.specs.declared.views.app.AppSide.{AppSide}
-use Rattle.board_face.proofs.Tallies.{total, total-append, total-agree}
-use Rattle.board_face.proofs.Parts.{owed_count, owed-count}
-use Rattle.event_log.specs.Plain.{plain, weight}
-use Rattle.event_log.proofs.Sums.{total-map, total-filter}
-use Rattle.board_face.proofs.Counting.{total-flat}
+use Rattle.board_face.specs.{Holders.{making_places, nic_holders, app_holders, holders_of}, declared.views.{nic.NicSide.{NicSide}, app.AppSide.{AppSide}}}
+use Rattle.board_face.proofs.{Tallies.{total, total-append, total-agree}, Parts.{owed_count, owed-count}, Counting.{total-flat}}
+use Rattle.event_log.{specs.Plain.{plain, weight}, proofs.Sums.{total-map, total-filter}}
 
 -- what a holder of this buffer weighs, among those of all buffers
 abbrev pub here : ℕ → ℕ → ℕ → ℕ

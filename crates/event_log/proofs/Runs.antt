@@ -1,37 +1,15 @@
 -- A log from the opening of its board to the end.
-use Rattle.std.proofs.Common.{◌≡◌, ◌∙◌, ℕ, suc, ◌+◌, ◌*◌, ◌≤◌, List, [], ◌∷◌, length, map, take, get_or, leb, Option, Some, IsTrue, refl, sym, ap, subst, arith}
-use Rattle.std.proofs.Common.{⊎_elim}
-use Rattle.std.specs.Prelude.{All}
-use Rattle.std.specs.List.{filter_map}
-use Rattle.std.proofs.lemmas.Bool.{cases_lt, lt-ltb, le-ltb, le-leb, leb-true}
-use Rattle.std.proofs.lemmas.List.{length-take, take_all}
-use Rattle.std.proofs.lemmas.List.Elements.{All-nil, All-cons, All-get_or}
-use Rattle.std.proofs.lemmas.List.Sums.{sum_by-cons}
-use Rattle.area_layout.specs.declared.layout.Area.{Area}
-use Rattle.area_layout.specs.Layout.{Shape, IsLayout, IsBufferSize, buffers_in, bytes_in, no_area}
-use Rattle.run_records.specs.Setting.{IsArea, IsSetting, pool_bytes}
-use Rattle.run_records.specs.declared.event.Event.{Event}
-use Rattle.run_records.specs.declared.holding.Holding.{Holding}
-use Rattle.run_records.specs.Holders.{Holdings, all_after, no_holdings}
-use Rattle.run_records.specs.LegalRun.{IsLegalRun}
-use Rattle.board_face.specs.Holders.{Kind, holders_of}
-use Rattle.board_face.specs.Laws.{AllSides, pool_of}
-use Rattle.board_face.specs.NicCalls.{apps_of}
-use Rattle.board_face.specs.Opened.{new_app_view, new_apps}
-use Rattle.board_face.specs.declared.views.parts.Setting.{Setting as Shared}
-use Rattle.board_face.specs.declared.views.app.AppSide.{AppSide}
-use Rattle.board_face.proofs.OpenedLemmas.{All-new, count-new}
-use Rattle.event_log.specs.IsLogged.{IsLogged, run_of}
-use Rattle.event_log.specs.Logs.{Kept}
-use Rattle.event_log.specs.Plain.{plain, plain_holders, weight}
-use Rattle.event_log.specs.RunLaws.{OpenedLaw, EndedLaw, opened_sides}
-use Rattle.event_log.specs.Settings.{SettingLaw, areas_of, setting_of}
-use Rattle.event_log.specs.Tallies.{IsTallied}
-use Rattle.event_log.specs.ToldLaw.{ToldLaw}
-use Rattle.event_log.proofs.FirstEvents.{front-reached, front-small}
-use Rattle.event_log.proofs.Settings.{in-cons, pool_buffers-same, size-same, total-same}
-use Rattle.event_log.proofs.Tallying.{told-of}
-use Rattle.run_records.proofs.Weighing.{weight-length}
+use Rattle.std.proofs.Common.{◌≡◌, ◌∙◌, ℕ, suc, ◌+◌, ◌*◌, ◌≤◌, List, [], ◌∷◌, length, map, take, get_or, leb, Option, Some, IsTrue, refl, sym, ap, subst, arith, ⊎_elim}
+use Rattle.std.{specs.{Prelude.{All}, List.{filter_map}}, proofs.lemmas.{Bool.{cases_lt, lt-ltb, le-ltb, le-leb, leb-true}, List.{length-take, take_all}}}
+use Rattle.std.proofs.lemmas.List.{Elements.{All-nil, All-cons, All-get_or}, Sums.{sum_by-cons}}
+use Rattle.area_layout.specs.{declared.layout.Area.{Area}, Layout.{Shape, IsLayout, IsBufferSize, buffers_in, bytes_in, no_area}}
+use Rattle.run_records.specs.{Setting.{IsArea, IsSetting, pool_bytes}, declared.{event.Event.{Event}, holding.Holding.{Holding}}}
+use Rattle.run_records.{specs.{Holders.{Holdings, all_after, no_holdings}, LegalRun.{IsLegalRun}}, proofs.Weighing.{weight-length}}
+use Rattle.board_face.specs.{Holders.{Kind, holders_of}, Laws.{AllSides, pool_of}, NicCalls.{apps_of}, Opened.{new_app_view, new_apps}}
+use Rattle.board_face.{specs.declared.views.{parts.Setting.{Setting as Shared}, app.AppSide.{AppSide}}, proofs.OpenedLemmas.{All-new, count-new}}
+use Rattle.event_log.specs.{IsLogged.{IsLogged, run_of}, Logs.{Kept}, Plain.{plain, plain_holders, weight}, RunLaws.{OpenedLaw, EndedLaw, opened_sides}}
+use Rattle.event_log.{specs.{Settings.{SettingLaw, areas_of, setting_of}, Tallies.{IsTallied}, ToldLaw.{ToldLaw}}, proofs.FirstEvents.{front-reached, front-small}}
+use Rattle.event_log.proofs.{Settings.{in-cons, pool_buffers-same, size-same, total-same}, Tallying.{told-of}}
 
 -- ---- no holder
 

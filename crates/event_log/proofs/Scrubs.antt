@@ -1,38 +1,17 @@
 -- The log goes on to tell of a board after a scrub.
 use Rattle.std.proofs.Common.{◌≡◌, ◌∙◌, ℕ, zero, suc, ◌+◌, ◌*◌, ◌<◌, ◌≤◌, Bool, true, false, List, [], ◌∷◌, ◌++◌, eqb, ltb, if◌then◌else◌}
-use Rattle.std.proofs.Common.{refl, sym, ap, subst, arith, ⊎_elim}
-use Rattle.std.specs.Prelude.{◌≢◌, filter, not, slice_index}
-use Rattle.std.specs.List.{list_any}
-use Rattle.std.proofs.lemmas.Bool.{cases_lt, lt-ltb, le-ltb, eq-eqb}
-use Rattle.std.proofs.lemmas.Bool.Decides.{eqb_tells}
-use Rattle.std.proofs.lemmas.List.Elements.{All-get_or, All-set}
-use Rattle.run_records.specs.declared.event.Event.{Event}
-use Rattle.run_records.specs.declared.holding.Holding.{Holding}
+use Rattle.std.{proofs.Common.{refl, sym, ap, subst, arith, ⊎_elim}, specs.{Prelude.{◌≢◌, filter, not, slice_index}, List.{list_any}}}
+use Rattle.std.proofs.lemmas.{Bool.{cases_lt, lt-ltb, le-ltb, eq-eqb, Decides.{eqb_tells}}, List.Elements.{All-get_or, All-set}}
+use Rattle.run_records.specs.{declared.{event.Event.{Event}, holding.Holding.{Holding}}, LegalRun.{HasSmallNumbers}, Setting.{total_buffers}}
+use Rattle.run_records.{specs.Holders.{is_in_range, is_same, is_user, with_holders}, proofs.Weighing.{one_if, weight-count, weight-filter, weight-length}}
 use Rattle.run_records.specs.declared.holding.Holding.TheVariants as holding
-use Rattle.run_records.specs.LegalRun.{HasSmallNumbers}
-use Rattle.run_records.specs.Setting.{total_buffers}
-use Rattle.run_records.specs.Holders.{is_in_range, is_same, is_user, with_holders}
-use Rattle.board_face.specs.Holders.{ended_in}
-use Rattle.board_face.specs.Laws.{AllSides, TookAll, pool_of, scrubbed_by, user_of}
-use Rattle.board_face.specs.Sides.{IsApp}
-use Rattle.board_face.specs.declared.views.app.AppSide.{AppSide}
-use Rattle.board_face.proofs.ListLemmas.{not-eqb}
-use Rattle.board_face.proofs.Parts.{came_back_in, owed_count, owed-count, returned_in-count, total-shift, user_count-own, loans_in}
-use Rattle.event_log.specs.IsLogged.{AreSound, IsLogged, NoneReturns, run_of}
-use Rattle.event_log.specs.Logs.{Kept, logged}
-use Rattle.event_log.specs.Plain.{weight}
-use Rattle.event_log.specs.ScrubLaw.{ScrubbedLaw, scrub_logged, scrub_of, scrubbed_sides}
-use Rattle.event_log.specs.Tallies.{AreTallied}
-use Rattle.event_log.proofs.Counting.{pool-weight, user-weight}
+use Rattle.board_face.specs.{Holders.{ended_in}, Laws.{AllSides, TookAll, pool_of, scrubbed_by, user_of}, Sides.{IsApp}, declared.views.app.AppSide.{AppSide}}
+use Rattle.board_face.proofs.{ListLemmas.{not-eqb}, Parts.{came_back_in, owed_count, owed-count, returned_in-count, total-shift, user_count-own, loans_in}}
+use Rattle.event_log.specs.{IsLogged.{AreSound, IsLogged, NoneReturns, run_of}, Logs.{Kept, logged}, Plain.{weight}}
+use Rattle.event_log.{specs.{ScrubLaw.{ScrubbedLaw, scrub_logged, scrub_of, scrubbed_sides}, Tallies.{AreTallied}}, proofs.Counting.{pool-weight, user-weight}}
 use Rattle.event_log.proofs.Following.{Leads, Tells, Weights, after-is, logged-of, tells-as, tells-more, tells-of, weights_of}
-use Rattle.event_log.proofs.Needs.{app-there, both-said, same-itself}
-use Rattle.event_log.proofs.Parts.{app_weight, weight-parts}
-use Rattle.event_log.proofs.Runs.{no-holders}
-use Rattle.event_log.proofs.Settings.{total-same}
-use Rattle.event_log.proofs.Shifts.{side-shift}
-use Rattle.event_log.proofs.Tallying.{card-stays, gains-none, keeps-app, tallies-card}
-use Rattle.run_records.proofs.Weighing.{one_if, weight-count, weight-filter, weight-length}
-use Rattle.event_log.proofs.Weighing.{any-some}
+use Rattle.event_log.proofs.{Needs.{app-there, both-said, same-itself}, Parts.{app_weight, weight-parts}, Runs.{no-holders}, Settings.{total-same}, Shifts.{side-shift}}
+use Rattle.event_log.proofs.{Tallying.{card-stays, gains-none, keeps-app, tallies-card}, Weighing.{any-some}}
 
 -- the weights without those of what an application owes
 abbrev without_owed : ℕ → (Holding → ℕ) → Holding → ℕ

@@ -1,13 +1,10 @@
 -- A board's setting as its record says it: as many buffers, of the same sizes.
-use Rattle.std.proofs.Common.{◌≡◌, ◌∙◌, ℕ, ◌+◌, ◌-◌, ◌<◌, ◌≤◌, List, [], ◌∷◌, map, get_or, refl, sym, ap, arith, ⊎_elim}
-use Rattle.std.proofs.lemmas.Bool.{cases_lt, lt-ltb, le-ltb}
+use Rattle.std.proofs.{Common.{◌≡◌, ◌∙◌, ℕ, ◌+◌, ◌-◌, ◌<◌, ◌≤◌, List, [], ◌∷◌, map, get_or, refl, sym, ap, arith, ⊎_elim}, lemmas.Bool.{cases_lt, lt-ltb, le-ltb}}
 use Rattle.std.proofs.lemmas.List.Sums.{sum_by-cons}
-use Rattle.area_layout.specs.declared.layout.Area.{Area}
-use Rattle.area_layout.specs.Layout.{Shape, IsLayout, buffers_in, pool_buffers, total, areas_before, area_at, size_of, no_area}
-use Rattle.run_records.specs.Setting.{total_buffers, size_of_buffer, size_among, first_size}
-use Rattle.run_records.specs.Setting.{pool_buffers as run_pool_buffers}
-use Rattle.event_log.specs.Settings.{areas_of, setting_of}
+use Rattle.area_layout.specs.{declared.layout.Area.{Area}, Layout.{Shape, IsLayout, buffers_in, pool_buffers, total, areas_before, area_at, size_of, no_area}}
 use Rattle.area_layout.proofs.Words.{area-pool, area-reserve}
+use Rattle.run_records.specs.Setting.{total_buffers, size_of_buffer, size_among, first_size, pool_buffers as run_pool_buffers}
+use Rattle.event_log.specs.Settings.{areas_of, setting_of}
 
 abbrev counted : List (ℕ × ℕ) → ℕ
 counted areas = run_pool_buffers areas

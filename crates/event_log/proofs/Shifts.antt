@@ -1,15 +1,9 @@
 -- What one holder, two or none weigh in a buffer, and how an event of the card or of an application changes the sum.
-use Rattle.std.proofs.Common.{◌≡◌, ℕ, suc, ◌+◌, ◌*◌, Bool, true, false, [], ◌∷◌, set, if◌then◌else◌, refl, ap, arith}
-use Rattle.std.specs.Prelude.{◌==◌}
+use Rattle.std.{proofs.Common.{◌≡◌, ℕ, suc, ◌+◌, ◌*◌, Bool, true, false, [], ◌∷◌, set, if◌then◌else◌, refl, ap, arith}, specs.Prelude.{◌==◌}}
 use Rattle.run_records.specs.declared.holding.Holding.{Holding}
-use Rattle.board_face.specs.Laws.{AllSides, by_card, by_app}
-use Rattle.board_face.specs.Sides.{nic_at, app_at, IsApp}
-use Rattle.board_face.specs.declared.views.nic.NicView.{NicView}
-use Rattle.board_face.specs.declared.views.app.AppView.{AppView}
-use Rattle.board_face.specs.declared.views.app.AppSide.{AppSide}
-use Rattle.board_face.proofs.Tallies.{weight as one, total, total-set}
-use Rattle.event_log.specs.Plain.{plain_holders, weight}
-use Rattle.event_log.proofs.Parts.{here, card_weight, app_weight, weight-parts}
+use Rattle.board_face.specs.{Laws.{AllSides, by_card, by_app}, Sides.{nic_at, app_at, IsApp}, declared.views.{nic.NicView.{NicView}, app.AppView.{AppView}}}
+use Rattle.board_face.{specs.declared.views.app.AppSide.{AppSide}, proofs.Tallies.{weight as one, total, total-set}}
+use Rattle.event_log.{specs.Plain.{plain_holders, weight}, proofs.Parts.{here, card_weight, app_weight, weight-parts}}
 use Rattle.zr_kinds.proofs.Booleans.{if-none}
 
 pub here-none : (b c : ℕ) (f : Holding → ℕ) → here b c (weight f []) ≡ 0

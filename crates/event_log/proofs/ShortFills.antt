@@ -1,17 +1,8 @@
 -- Spares are filled with few bytes.
-use Rattle.std.proofs.Common.{ℕ, ◌≤◌, Bool, true, false, cond, List, [], ◌∷◌, length, subst, sym, arith}
-use Rattle.std.specs.Prelude.{All}
+use Rattle.std.{proofs.Common.{ℕ, ◌≤◌, Bool, true, false, cond, List, [], ◌∷◌, length, subst, sym, arith}, specs.Prelude.{All}}
 use Rattle.std.proofs.lemmas.List.Elements.{All-nil, All-head, All-tail, All-get_or, All-push, All-set}
-use Rattle.board_face.specs.AppEvents.{own_bytes}
-use Rattle.board_face.specs.Lists.{at_first}
-use Rattle.board_face.specs.NicCalls.{apps_of}
-use Rattle.board_face.specs.NicEvents.{fresh}
-use Rattle.board_face.specs.Sides.{IsApp}
-use Rattle.board_face.specs.Tokens.{filled_by, same_filling}
-use Rattle.board_face.specs.declared.views.parts.Filling.{Filling}
-use Rattle.board_face.specs.declared.views.app.SpareOwn.{SpareOwn}
-use Rattle.board_face.specs.declared.views.app.AppSide.{AppSide}
-use Rattle.board_face.proofs.ListLemmas.{All-without}
+use Rattle.board_face.specs.{AppEvents.{own_bytes}, Lists.{at_first}, NicCalls.{apps_of}, NicEvents.{fresh}, Sides.{IsApp}, Tokens.{filled_by, same_filling}}
+use Rattle.board_face.{specs.declared.views.{parts.Filling.{Filling}, app.{SpareOwn.{SpareOwn}, AppSide.{AppSide}}}, proofs.ListLemmas.{All-without}}
 use Rattle.board_face.proofs.OpenedLemmas.{All-new}
 use Rattle.event_log.specs.Fills.{AreShort, FillsLaw, HasShortFills}
 

@@ -1,13 +1,6 @@
 -- The sides of a board between two calls are sound.
-use Rattle.std.proofs.Common.{ℕ, ◌≤◌, length, ap, subst, arith, length-append}
-use Rattle.std.proofs.lemmas.List.{length-map}
-use Rattle.std.proofs.lemmas.List.Elements.{All-get_or}
-use Rattle.board_face.specs.Counts.{EndedWereReturned}
-use Rattle.board_face.specs.Holders.{sent_to}
-use Rattle.board_face.specs.Laws.{AllSides}
-use Rattle.board_face.specs.Relay.{as_taken}
-use Rattle.board_face.specs.Sides.{IsApp}
-use Rattle.board_face.specs.declared.views.app.AppSide.{AppSide}
+use Rattle.std.proofs.{Common.{ℕ, ◌≤◌, length, ap, subst, arith, length-append}, lemmas.List.{length-map, Elements.{All-get_or}}}
+use Rattle.board_face.specs.{Counts.{EndedWereReturned}, Holders.{sent_to}, Laws.{AllSides}, Relay.{as_taken}, Sides.{IsApp}, declared.views.app.AppSide.{AppSide}}
 use Rattle.event_log.specs.SoundLaw.{IsRelayed, SoundLaw}
 
 taken-few : (s : AllSides) (a : ℕ) (app : AppSide) → IsApp s.apps a app → IsRelayed s app → length app.view.taken ≤ length (sent_to a s.nic)

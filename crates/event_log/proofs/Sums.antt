@@ -1,9 +1,7 @@
 -- Sums over lists, where a list is mapped or filtered, or an element comes or goes.
 use Rattle.std.proofs.Common.{◌≡◌, ℕ, zero, suc, ◌+◌, Bool, true, false, cond, List, [], ◌∷◌, ◌++◌, map, refl, ap, sym, ◌∙◌, arith}
-use Rattle.std.specs.Prelude.{if◌then◌else◌, filter, Contains}
-use Rattle.std.proofs.lemmas.Bool.{false≢true}
-use Rattle.board_face.specs.Lists.{without}
-use Rattle.board_face.proofs.Tallies.{total, total-append}
+use Rattle.std.{specs.Prelude.{if◌then◌else◌, filter, Contains}, proofs.lemmas.Bool.{false≢true}}
+use Rattle.board_face.{specs.Lists.{without}, proofs.Tallies.{total, total-append}}
 
 pub total-push : {A : Type 0} (f : A → ℕ) (xs : List A) (x : A) → total f (xs ++ x ∷ []) ≡ total f xs + f x
 total-push f xs x = omega (arith, total-append f xs (x ∷ []))

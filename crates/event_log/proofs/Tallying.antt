@@ -1,21 +1,12 @@
 -- What the events tell of loans, copies and strays goes on to be so, as the sides change.
 use Rattle.std.proofs.Common.{◌≡◌, ◌∙◌, ℕ, ◌+◌, Bool, false, List, [], ◌∷◌, ◌++◌, length, map, get_or, set, refl, sym, ap, subst, arith, ⊎_elim}
-use Rattle.std.specs.Prelude.{◌≢◌, count_by}
-use Rattle.std.specs.List.{sum_by, flat_map}
-use Rattle.std.proofs.lemmas.Bool.Decides.{eqb_tells}
-use Rattle.std.proofs.lemmas.List.{append-nil, flat_map_more, get_or-set_same, get_or-set_other, length-set}
-use Rattle.std.proofs.lemmas.List.Sums.{sum_by-cons, sum_by_push}
+use Rattle.std.{specs.{Prelude.{◌≢◌, count_by}, List.{sum_by, flat_map}}, proofs.lemmas.Bool.Decides.{eqb_tells}}
+use Rattle.std.proofs.lemmas.List.{append-nil, flat_map_more, get_or-set_same, get_or-set_other, length-set, Sums.{sum_by-cons, sum_by_push}}
 use Rattle.run_records.specs.declared.event.Event.{Event}
-use Rattle.board_face.specs.Laws.{AllSides, by_card}
-use Rattle.board_face.specs.Sides.{IsApp}
-use Rattle.board_face.specs.declared.views.nic.NicView.{NicView}
-use Rattle.board_face.specs.declared.views.app.AppView.{AppView}
-use Rattle.board_face.specs.declared.views.app.AppSide.{AppSide}
-use Rattle.board_face.proofs.Parts.{count-tally}
-use Rattle.board_face.proofs.Tallies.{weight as one, total, tally-push}
+use Rattle.board_face.specs.{Laws.{AllSides, by_card}, Sides.{IsApp}, declared.views.{nic.NicView.{NicView}, app.{AppView.{AppView}, AppSide.{AppSide}}}}
+use Rattle.board_face.proofs.{Parts.{count-tally}, Tallies.{weight as one, total, tally-push}}
 use Rattle.event_log.specs.Tallies.{AreTallied, IsTallied, TellsApp, TellsCard, is_copy, is_loan, is_spare, is_stray, len_of, loan_bytes, strays_in, strays_of}
-use Rattle.event_log.specs.Tallies.{dealt_as, deals_of, holds_of, place_of, returns_of, sends_of, sent_as, taken_as, takes_of}
-use Rattle.event_log.specs.ToldLaw.{IsToldOf}
+use Rattle.event_log.specs.{Tallies.{dealt_as, deals_of, holds_of, place_of, returns_of, sends_of, sent_as, taken_as, takes_of}, ToldLaw.{IsToldOf}}
 
 -- ---- one more
 

@@ -1,10 +1,7 @@
 -- What the weights of holders say of them.
-use Rattle.std.proofs.Common.{◌≡◌, ℕ, ◌+◌, ◌<◌, ◌≤◌, List, [], ◌∷◌, Bool, true, false, not, refl, arith, ⊎_elim}
-use Rattle.std.specs.List.{list_any, list_all}
+use Rattle.std.{proofs.Common.{◌≡◌, ℕ, ◌+◌, ◌<◌, ◌≤◌, List, [], ◌∷◌, Bool, true, false, not, refl, arith, ⊎_elim}, specs.List.{list_any, list_all}}
 use Rattle.std.proofs.lemmas.Bool.{cases_Bool}
-use Rattle.run_records.specs.declared.holding.Holding.{Holding}
-use Rattle.run_records.specs.Holders.{is_same, weight}
-use Rattle.run_records.proofs.Weighing.{one_if, some_becomes}
+use Rattle.run_records.{specs.{declared.holding.Holding.{Holding}, Holders.{is_same, weight}}, proofs.Weighing.{one_if, some_becomes}}
 
 -- where those that pass weigh something, one of them passes
 pub any-some : (p : Holding → Bool) (held : List Holding) → 0 < weight (one_if p) held → list_any p held ≡ true

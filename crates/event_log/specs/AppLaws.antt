@@ -1,21 +1,13 @@
 -- What an application does, as the board's log tells it: for all sides that are sound, the log that says the event goes on to
 -- tell of the board after it.
 use Rattle.std.specs.Prelude.{◌≡◌, ℕ, ◌<◌, true, false, List, length}
-use Rattle.zr_kinds.specs.declared.place.Note.{Note}
-use Rattle.zr_kinds.specs.declared.place.Place.{Place}
-use Rattle.zr_kinds.specs.declared.ring.Rqe.{Rqe}
+use Rattle.zr_kinds.specs.declared.{place.{Note.{Note}, Place.{Place}}, ring.Rqe.{Rqe}}
 use Rattle.run_records.specs.declared.event.Event.TheVariants as event
 use Rattle.board_face.specs.AppCalls.{HasHeld, HasLoan, HasSpare, IsFilled}
 use Rattle.board_face.specs.AppEvents.{app_saw, took_note, took_linear, told_end, cut, released, lent, has_read, abandoned, gave, pushed_raw, came_to_rest}
-use Rattle.board_face.specs.AppEvents.{got_spare, filled, own_bytes, lent_own, fell_quiet, left_board}
-use Rattle.board_face.specs.Laws.{AllSides, IsNextNote, by_app, pool_of, user_of}
-use Rattle.board_face.specs.OwnBuffers.{IsOwnBuffer}
-use Rattle.board_face.specs.Sides.{IsApp}
-use Rattle.board_face.specs.declared.views.parts.Filling.{Filling}
-use Rattle.board_face.specs.declared.views.app.AppLook.{AppLook}
-use Rattle.board_face.specs.declared.views.app.AppSide.{AppSide}
-use Rattle.event_log.specs.Fills.{AreShort}
-use Rattle.event_log.specs.IsLogged.{AreSound, KeepsLog, Logs}
+use Rattle.board_face.specs.{AppEvents.{got_spare, filled, own_bytes, lent_own, fell_quiet, left_board}, Laws.{AllSides, IsNextNote, by_app, pool_of, user_of}}
+use Rattle.board_face.specs.{OwnBuffers.{IsOwnBuffer}, Sides.{IsApp}, declared.views.{parts.Filling.{Filling}, app.{AppLook.{AppLook}, AppSide.{AppSide}}}}
+use Rattle.event_log.specs.{Fills.{AreShort}, IsLogged.{AreSound, KeepsLog, Logs}}
 
 abbrev pub TookNoteLaw : Type 0
 TookNoteLaw =

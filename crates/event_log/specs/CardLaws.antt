@@ -1,18 +1,12 @@
 -- What the card does, as its log tells it: for all sides that are sound, the log that says the event goes on to tell of the
 -- board after it.
 use Rattle.std.specs.Prelude.{◌≡◌, ℕ, ◌+◌, ◌<◌, ◌≤◌, Bool, true, false, List, length}
-use Rattle.zr_kinds.specs.declared.place.Note.{Note}
-use Rattle.zr_kinds.specs.declared.ring.Rqe.{Rqe}
+use Rattle.zr_kinds.specs.declared.{place.Note.{Note}, ring.Rqe.{Rqe}}
 use Rattle.area_layout.specs.Layout.{pool_buffers}
 use Rattle.run_records.specs.declared.event.Event.TheVariants as event
-use Rattle.board_face.specs.Holders.{owed_in}
-use Rattle.board_face.specs.Laws.{AllSides, by_card, pool_of, user_of}
-use Rattle.board_face.specs.NicCalls.{HasOwn, HasPiece}
-use Rattle.board_face.specs.NicEvents.{took, swept, placed, sent, sent_linear, gave_up, shut, passed_over, honoured, nic_saw, saw_leave, nic_ended}
-use Rattle.board_face.specs.Sides.{IsApp}
-use Rattle.board_face.specs.declared.views.parts.Filling.{Filling}
-use Rattle.board_face.specs.declared.views.nic.NicLook.{NicLook}
-use Rattle.board_face.specs.declared.views.app.AppSide.{AppSide}
+use Rattle.board_face.specs.{Holders.{owed_in}, Laws.{AllSides, by_card, pool_of, user_of}, NicCalls.{HasOwn, HasPiece}}
+use Rattle.board_face.specs.{NicEvents.{took, swept, placed, sent, sent_linear, gave_up, shut, passed_over, honoured, nic_saw, saw_leave, nic_ended}, Sides.{IsApp}}
+use Rattle.board_face.specs.declared.views.{parts.Filling.{Filling}, nic.NicLook.{NicLook}, app.AppSide.{AppSide}}
 use Rattle.event_log.specs.IsLogged.{AreSound, KeepsLog, Logs}
 
 abbrev pub TookLaw : Type 0

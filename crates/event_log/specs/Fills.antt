@@ -1,12 +1,7 @@
 -- A spare is filled with 256 bytes at most, as each call that fills one says. So the loan of one has no more.
 use Rattle.std.specs.Prelude.{◌≡◌, ℕ, ◌≤◌, List, length, All, slice_set}
-use Rattle.board_face.specs.AppEvents.{filled, got_spare, lent_own}
-use Rattle.board_face.specs.NicCalls.{apps_of}
-use Rattle.board_face.specs.Opened.{new_apps}
-use Rattle.board_face.specs.Sides.{IsApp, apps_at}
-use Rattle.board_face.specs.declared.views.parts.Filling.{Filling}
-use Rattle.board_face.specs.declared.views.parts.Setting.{Setting as Shared}
-use Rattle.board_face.specs.declared.views.app.AppSide.{AppSide}
+use Rattle.board_face.specs.{AppEvents.{filled, got_spare, lent_own}, NicCalls.{apps_of}, Opened.{new_apps}, Sides.{IsApp, apps_at}}
+use Rattle.board_face.specs.declared.views.{parts.{Filling.{Filling}, Setting.{Setting as Shared}}, app.AppSide.{AppSide}}
 
 abbrev pub HasShortFills : AppSide → Type 0
 HasShortFills app = All (λ s. length s.bytes ≤ 256) app.view.owns

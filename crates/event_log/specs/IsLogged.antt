@@ -1,19 +1,9 @@
 -- A log that tells of a board: it has the first of all events that lead from no holders to those of the board.
-use Rattle.std.specs.Prelude.{◌≡◌, ℕ, ◌≤◌, List, All, slice_index, None, Some}
-use Rattle.std.specs.List.{AllByRecursion}
+use Rattle.std.specs.{Prelude.{◌≡◌, ℕ, ◌≤◌, List, All, slice_index, None, Some}, List.{AllByRecursion}}
 use Rattle.area_layout.specs.Layout.{IsLayout}
-use Rattle.run_records.specs.declared.event.Event.{Event}
-use Rattle.run_records.specs.Setting.{most_events, Setting}
-use Rattle.run_records.specs.Holders.{Holdings, no_holdings, all_after}
-use Rattle.run_records.specs.LegalRun.{HasSmallNumbers}
-use Rattle.board_face.specs.Fillings.{IsFilledByOne, FillingsFit}
-use Rattle.board_face.specs.Laws.{AllSides, FitTogether}
-use Rattle.board_face.specs.Places.{ArePlaced}
-use Rattle.board_face.specs.Sides.{HaveOneSetting}
-use Rattle.event_log.specs.Logs.{Kept, log_of, logged}
-use Rattle.event_log.specs.Plain.{SameHoldings}
-use Rattle.event_log.specs.Settings.{setting_of}
-use Rattle.event_log.specs.Tallies.{AreTallied}
+use Rattle.run_records.specs.{declared.event.Event.{Event}, Setting.{most_events, Setting}, Holders.{Holdings, no_holdings, all_after}, LegalRun.{HasSmallNumbers}}
+use Rattle.board_face.specs.{Fillings.{IsFilledByOne, FillingsFit}, Laws.{AllSides, FitTogether}, Places.{ArePlaced}, Sides.{HaveOneSetting}}
+use Rattle.event_log.specs.{Logs.{Kept, log_of, logged}, Plain.{SameHoldings}, Settings.{setting_of}, Tallies.{AreTallied}}
 
 -- the setting of the board that has these sides
 abbrev pub run_of : AllSides → Setting

@@ -1,13 +1,10 @@
 -- The holders of a board's buffers as the record of its run says them. An owed loan has no place there, and a return on its
 -- way is none: its loan has ended.
-use Rattle.std.specs.Prelude.{◌≡◌, ℕ, List, Option, Some, None}
-use Rattle.std.specs.List.{filter_map}
-use Rattle.run_records.specs.declared.holding.Holding.{Holding}
+use Rattle.std.specs.{Prelude.{◌≡◌, ℕ, List, Option, Some, None}, List.{filter_map}}
+use Rattle.run_records.specs.{declared.holding.Holding.{Holding}, Holders.{Holdings}}
 use Rattle.run_records.specs.declared.holding.Holding.TheVariants as holding
-use Rattle.run_records.specs.Holders.{Holdings}
 pub use Rattle.run_records.specs.Holders.{weight}
-use Rattle.board_face.specs.Holders.{Kind, own, piece, sent, held, spare, loan, owed, returning, holders_of}
-use Rattle.board_face.specs.Laws.{AllSides}
+use Rattle.board_face.specs.{Holders.{Kind, own, piece, sent, held, spare, loan, owed, returning, holders_of}, Laws.{AllSides}}
 
 abbrev pub plain : Kind → Option Holding
 plain own = Some holding.Own

@@ -1,14 +1,9 @@
 -- The log of a board from its opening to its end.
 use Rattle.std.specs.Prelude.{◌≡◌, ℕ, ◌≤◌, true, [], IsTrue}
-use Rattle.run_records.specs.Setting.{most_events}
+use Rattle.run_records.specs.{Setting.{most_events}, LegalRun.{IsLegalRun}}
 use Rattle.area_layout.specs.Layout.{IsLayout}
-use Rattle.run_records.specs.LegalRun.{IsLegalRun}
-use Rattle.board_face.specs.Laws.{AllSides, pool_of}
-use Rattle.board_face.specs.NicCalls.{apps_of}
-use Rattle.board_face.specs.Opened.{new_nic, new_apps}
-use Rattle.board_face.specs.declared.views.parts.Setting.{Setting as Shared}
-use Rattle.event_log.specs.IsLogged.{IsLogged, run_of}
-use Rattle.event_log.specs.Logs.{Kept}
+use Rattle.board_face.specs.{Laws.{AllSides, pool_of}, NicCalls.{apps_of}, Opened.{new_nic, new_apps}, declared.views.parts.Setting.{Setting as Shared}}
+use Rattle.event_log.specs.{IsLogged.{IsLogged, run_of}, Logs.{Kept}}
 
 -- the sides of a board that was just opened, and the log that was opened with it
 abbrev pub opened_sides : Shared → AllSides

@@ -1,15 +1,10 @@
 -- A scrub takes back at once what an application owes in all buffers. Its log has one event for each buffer in which the
 -- application had a user count, by the order of their numbers.
 use Rattle.std.specs.Prelude.{◌≡◌, ℕ, zero, suc, ◌<◌, if◌then◌else◌, nat_lt, List, [], slice_set}
-use Rattle.run_records.specs.declared.event.Event.{Event}
+use Rattle.run_records.specs.{declared.event.Event.{Event}, LegalRun.{HasSmallNumbers}, Setting.{total_buffers}}
 use Rattle.run_records.specs.declared.event.Event.TheVariants as event
-use Rattle.run_records.specs.LegalRun.{HasSmallNumbers}
-use Rattle.run_records.specs.Setting.{total_buffers}
-use Rattle.board_face.specs.Laws.{AllSides, TookAll, pool_of, scrubbed_by, user_of}
-use Rattle.board_face.specs.Sides.{IsApp}
-use Rattle.board_face.specs.declared.views.app.AppSide.{AppSide}
-use Rattle.event_log.specs.IsLogged.{AreSound, IsLogged, run_of}
-use Rattle.event_log.specs.Logs.{Kept, logged}
+use Rattle.board_face.specs.{Laws.{AllSides, TookAll, pool_of, scrubbed_by, user_of}, Sides.{IsApp}, declared.views.app.AppSide.{AppSide}}
+use Rattle.event_log.specs.{IsLogged.{AreSound, IsLogged, run_of}, Logs.{Kept, logged}}
 
 -- the sides once a scrub of an application took so much of each buffer in all
 abbrev pub scrubbed_sides : AllSides → ℕ → AppSide → List ℕ → AllSides

@@ -1,9 +1,7 @@
 -- The setting of a board as the record of its run says it.
 use Rattle.std.specs.Prelude.{◌≡◌, ℕ, List, map, filter, nat_lt}
-use Rattle.area_layout.specs.declared.layout.Area.{Area}
-use Rattle.area_layout.specs.Layout.{Shape, IsLayout, pool_buffers, total, size_of}
-use Rattle.run_records.specs.Setting.{Setting, IsSetting, total_buffers, size_of_buffer}
-use Rattle.run_records.specs.Setting.{pool_buffers as run_pool_buffers}
+use Rattle.area_layout.specs.{declared.layout.Area.{Area}, Layout.{Shape, IsLayout, pool_buffers, total, size_of}}
+use Rattle.run_records.specs.Setting.{Setting, IsSetting, total_buffers, size_of_buffer, pool_buffers as run_pool_buffers}
 
 -- the areas that are there
 abbrev pub areas_of : List Area → List (ℕ × ℕ)

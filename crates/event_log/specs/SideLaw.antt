@@ -1,9 +1,6 @@
 -- A call of an application, as a board tells it: what becomes of the application's side, and that no other side changes.
 use Rattle.std.specs.Prelude.{◌≡◌, ℕ, ◌<◌, length, slice_set}
-use Rattle.board_face.specs.Blank.{blank_app}
-use Rattle.board_face.specs.Laws.{AllSides}
-use Rattle.board_face.specs.Sides.{side_in}
-use Rattle.board_face.specs.declared.views.app.AppSide.{AppSide}
+use Rattle.board_face.specs.{Blank.{blank_app}, Laws.{AllSides}, Sides.{side_in}, declared.views.app.AppSide.{AppSide}}
 
 abbrev pub OneSideLaw : Type 0
 OneSideLaw =

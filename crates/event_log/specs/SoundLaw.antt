@@ -2,14 +2,8 @@
 use Rattle.std.specs.Prelude.{ℕ, List, All}
 use Rattle.zr_kinds.specs.declared.ring.Rqe.{Rqe}
 use Rattle.area_layout.specs.Layout.{IsLayout}
-use Rattle.board_face.specs.Counts.{EndedWereReturned}
-use Rattle.board_face.specs.Fillings.{IsFilledByOne, FillingsFit}
-use Rattle.board_face.specs.Laws.{AllSides}
-use Rattle.board_face.specs.Places.{ArePlaced}
-use Rattle.board_face.specs.Relay.{Relayed}
-use Rattle.board_face.specs.Sides.{AreNumbered, HaveOneSetting, IsApp}
-use Rattle.board_face.specs.declared.views.app.AppSide.{AppSide}
-use Rattle.board_face.specs.declared.views.app.TakenNote.{TakenNote}
+use Rattle.board_face.specs.{Counts.{EndedWereReturned}, Fillings.{IsFilledByOne, FillingsFit}, Laws.{AllSides}, Places.{ArePlaced}, Relay.{Relayed}}
+use Rattle.board_face.specs.{Sides.{AreNumbered, HaveOneSetting, IsApp}, declared.views.app.{AppSide.{AppSide}, TakenNote.{TakenNote}}}
 use Rattle.event_log.specs.IsLogged.{AreSound, NoneReturns}
 
 -- what lies in the slots of the application is what is on its way

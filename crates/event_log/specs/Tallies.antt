@@ -1,20 +1,11 @@
 -- What the events of a run tell of each application's loans and copies, and of what the card did, in order.
-use Rattle.std.specs.Prelude.{◌≡◌, ℕ, ◌+◌, ◌==◌, if◌then◌else◌, Bool, true, false, Option, Some, None, List, [], ◌∷◌, length, map, count_by}
-use Rattle.std.specs.List.{sum_by, flat_map}
+use Rattle.std.specs.{Prelude.{◌≡◌, ℕ, ◌+◌, ◌==◌, if◌then◌else◌, Bool, true, false, Option, Some, None, List, [], ◌∷◌, length, map, count_by}, List.{sum_by, flat_map}}
 use Rattle.zr_kinds.specs.declared.place.Place.{Place}
 use Rattle.run_records.specs.declared.event.Event.{Event}
 use Rattle.run_records.specs.declared.event.Event.TheVariants as event
-use Rattle.board_face.specs.Laws.{AllSides}
-use Rattle.board_face.specs.Sides.{IsApp}
-use Rattle.board_face.specs.declared.views.nic.Fate.{Fate}
+use Rattle.board_face.specs.{Laws.{AllSides}, Sides.{IsApp}, declared.views.nic.{Fate.{Fate}, Dealt.{Dealt}, NicView.{NicView}, SentNote.{SentNote}}}
+use Rattle.board_face.specs.declared.views.app.{LentPiece.{LentPiece}, TakenNote.{TakenNote}, AppView.{AppView}, AppSide.{AppSide}}
 use Rattle.board_face.specs.declared.views.nic.Fate.TheVariants as fate
-use Rattle.board_face.specs.declared.views.nic.Dealt.{Dealt}
-use Rattle.board_face.specs.declared.views.nic.NicView.{NicView}
-use Rattle.board_face.specs.declared.views.nic.SentNote.{SentNote}
-use Rattle.board_face.specs.declared.views.app.LentPiece.{LentPiece}
-use Rattle.board_face.specs.declared.views.app.TakenNote.{TakenNote}
-use Rattle.board_face.specs.declared.views.app.AppView.{AppView}
-use Rattle.board_face.specs.declared.views.app.AppSide.{AppSide}
 
 -- ---- of one event
 

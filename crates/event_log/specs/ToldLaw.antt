@@ -1,16 +1,9 @@
 -- What a log tells of its board at any time, whole or not: it has the first of events that lead to the board's holders, and
 -- tell of each application's loans, of its copies and of the strays.
-use Rattle.std.specs.Prelude.{◌≡◌, ℕ, List, [], length, Some}
-use Rattle.std.specs.List.{sum_by}
-use Rattle.run_records.specs.declared.event.Event.{Event}
-use Rattle.run_records.specs.Holders.{Holdings, no_holdings, all_after}
-use Rattle.board_face.specs.Laws.{AllSides, pool_of}
-use Rattle.board_face.specs.Sides.{IsApp}
-use Rattle.board_face.specs.declared.views.app.AppView.{AppView}
-use Rattle.board_face.specs.declared.views.app.AppSide.{AppSide}
-use Rattle.event_log.specs.IsLogged.{IsLogged, run_of}
-use Rattle.event_log.specs.Logs.{Kept, log_of}
-use Rattle.event_log.specs.Tallies.{bytes_in, copies_in, len_of, loans_in, strays_in, strays_of}
+use Rattle.std.specs.{Prelude.{◌≡◌, ℕ, List, [], length, Some}, List.{sum_by}}
+use Rattle.run_records.specs.{declared.event.Event.{Event}, Holders.{Holdings, no_holdings, all_after}}
+use Rattle.board_face.specs.{Laws.{AllSides, pool_of}, Sides.{IsApp}, declared.views.app.{AppView.{AppView}, AppSide.{AppSide}}}
+use Rattle.event_log.specs.{IsLogged.{IsLogged, run_of}, Logs.{Kept, log_of}, Tallies.{bytes_in, copies_in, len_of, loans_in, strays_in, strays_of}}
 
 -- Where the application has no loan out, its loans are those that it returned. Where it has no spare, it lent each.
 pub record IsToldOf (a : ℕ) (v : AppView) (events : List Event) : Type 0 where

@@ -5,8 +5,6 @@
 
 mod laws;
 mod log;
-#[cfg(test)]
-mod tests;
 
 pub use laws::{
     app_unlogged, back, card_unlogged, cut, ended, fills, first_events, got_spare, honoured, lent,

@@ -1,7 +1,6 @@
 //! A log with room for so many events.
 ghost use Rattle.std.specs.Prelude.{◌≡◌, ◌≤◌, true, [], IfOk};
-ghost use Rattle.run_records.specs.Setting.{most_events};
-ghost use Rattle.run_records.specs.LegalRun.{HasSmallNumbers};
+ghost use Rattle.run_records.specs.{Setting.{most_events}, LegalRun.{HasSmallNumbers}};
 ghost use Rattle.event_log.specs.Logs.{logged};
 
 use run_records::{Event, Log};

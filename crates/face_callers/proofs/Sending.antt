@@ -1,14 +1,8 @@
 -- One more pending note was sent.
-use Rattle.std.proofs.Common.{◌≡◌, ◌<◌, List, [], ◌∷◌, ◌++◌, map, append_assoc}
-use Rattle.std.proofs.lemmas.List.{map-append}
-use Rattle.std.proofs.lemmas.List.Elements.{All-head, All-tail}
-use Rattle.board_face.specs.Texts.{IsSplitNote}
-use Rattle.board_face.specs.NicEvents.{sent}
-use Rattle.board_face.specs.NicCalls.{apps_of}
-use Rattle.board_face.specs.declared.views.nic.NicView.{NicView}
+use Rattle.std.proofs.{Common.{◌≡◌, ◌<◌, List, [], ◌∷◌, ◌++◌, map, append_assoc}, lemmas.List.{map-append, Elements.{All-head, All-tail}}}
+use Rattle.board_face.specs.{Texts.{IsSplitNote}, NicEvents.{sent}, NicCalls.{apps_of}, declared.views.nic.NicView.{NicView}}
 use Rattle.board_face.proofs.ListLemmas.{places-without_first}
-use Rattle.face_callers.specs.declared.pending.Pending.{Pending}
-use Rattle.face_callers.specs.Flush.{IsReady, Sends}
+use Rattle.face_callers.specs.{declared.pending.Pending.{Pending}, Flush.{IsReady, Sends}}
 
 pub IsReady-sent : (v : NicView) (p : Pending) (ps : List Pending) → IsReady v (p ∷ ps) → IsReady (sent v p.app p.note) ps
 IsReady-sent v p ps ready = record {

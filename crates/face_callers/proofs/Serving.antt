@@ -1,23 +1,11 @@
 -- More of a loan was read, and one more note was served.
-use Rattle.std.proofs.Common.{◌≡◌, ℕ, ◌+◌, List, [], ◌∷◌, ◌++◌, length, refl, ap, sym, ◌∙◌, arith, append_assoc, length-append}
-use Rattle.std.proofs.Common.{add-zero, sum_by, true, false}
+use Rattle.std.proofs.Common.{◌≡◌, ℕ, ◌+◌, List, [], ◌∷◌, ◌++◌, length, refl, ap, sym, ◌∙◌, arith, append_assoc, length-append, add-zero, sum_by, true, false}
 use Rattle.std.proofs.lemmas.List.Sums.{sum_by-append}
-use Rattle.board_face.proofs.ListLemmas.{same_place-refl}
-use Rattle.board_face.specs.AppCalls.{TookNote, AppOnlySaw}
-use Rattle.board_face.specs.AppEvents.{app_saw}
-use Rattle.board_face.specs.declared.views.app.AppLook.{AppLook}
-use Rattle.board_face.specs.declared.views.app.AppLook.TheVariants.{CardEnded, RefillInUse}
-use Rattle.zr_kinds.specs.declared.place.Place.{Place}
-use Rattle.board_face.specs.Texts.{further}
-use Rattle.board_face.specs.AppEvents.{has_read, loan_origin}
-use Rattle.board_face.specs.declared.views.app.Origin.{Origin}
-use Rattle.board_face.specs.declared.views.app.Reading.{Reading}
-use Rattle.board_face.specs.declared.views.app.AppView.{AppView}
-use Rattle.board_face.specs.Texts.{IsSplitNote, IsLinearNote}
-use Rattle.board_face.specs.Looks.{AppLooksStay, same_app_look}
-use Rattle.board_face.specs.AppEvents.{took_note, took_linear, told_end, lent, abandoned, gave}
-use Rattle.board_face.proofs.LookLemmas.{times-more}
-use Rattle.zr_kinds.specs.declared.place.Note.{Note}
+use Rattle.board_face.{proofs.ListLemmas.{same_place-refl}, specs.{AppCalls.{TookNote, AppOnlySaw}, AppEvents.{app_saw}, declared.views.app.AppLook.{AppLook}}}
+use Rattle.board_face.specs.{declared.views.app.{AppLook.TheVariants.{CardEnded, RefillInUse}, Origin.{Origin}}, Texts.{further}, AppEvents.{has_read, loan_origin}}
+use Rattle.board_face.specs.{declared.views.app.{Reading.{Reading}, AppView.{AppView}}, Texts.{IsSplitNote, IsLinearNote}, Looks.{AppLooksStay, same_app_look}}
+use Rattle.board_face.{specs.AppEvents.{took_note, took_linear, told_end, lent, abandoned, gave}, proofs.LookLemmas.{times-more}}
+use Rattle.zr_kinds.specs.declared.place.{Place.{Place}, Note.{Note}}
 use Rattle.face_callers.specs.Reader.{GoesOn, ReadsOf, HasNothing, Serves, bytes_read}
 
 pub GoesOn-push : (origin : Origin) (from : ℕ) (rs : List Reading) (middle : ℕ) (bytes : List ℕ) → GoesOn origin from rs middle

@@ -1,9 +1,6 @@
 -- What a flush of pending notes needs and does.
 use Rattle.std.specs.Prelude.{◌≡◌, ◌<◌, List, ◌++◌, map, All}
-use Rattle.board_face.specs.Looks.{NicLooksStay}
-use Rattle.board_face.specs.Texts.{IsSplitNote}
-use Rattle.board_face.specs.NicCalls.{apps_of}
-use Rattle.board_face.specs.declared.views.nic.NicView.{NicView}
+use Rattle.board_face.specs.{Looks.{NicLooksStay}, Texts.{IsSplitNote}, NicCalls.{apps_of}, declared.views.nic.NicView.{NicView}}
 use Rattle.face_callers.specs.declared.pending.Pending.{Pending}
 
 -- The pieces that are out are those of the pending notes, in order, and each note may be sent.

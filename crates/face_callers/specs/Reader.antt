@@ -1,16 +1,9 @@
 -- What an application that reads each piece at once keeps and does.
 use Rattle.std.specs.Prelude.{◌≡◌, ℕ, ◌+◌, List, [], ◌∷◌, ◌++◌, length, sum_by, count_by, if◌then◌else◌}
 use Rattle.zr_kinds.specs.declared.place.Place.{Place}
-use Rattle.board_face.specs.Texts.{further}
-use Rattle.board_face.specs.Looks.{AppLooksStay, AppRose}
-use Rattle.board_face.specs.AppEvents.{loan_origin}
-use Rattle.board_face.specs.declared.views.app.Origin.{Origin}
-use Rattle.board_face.specs.declared.views.app.Reading.{Reading}
-use Rattle.board_face.specs.declared.views.app.TakenNote.{TakenNote}
-use Rattle.board_face.specs.declared.views.app.AppLook.TheVariants.{NoNote, CardEnded, RefillInUse}
-use Rattle.board_face.specs.declared.views.app.AppView.{AppView}
-use Rattle.face_callers.specs.declared.reader.Served.{Served}
-use Rattle.face_callers.specs.declared.reader.Served.TheVariants.{All as all_taken, NoNote as no_note, Ended as ended, RefillFull as refill_full}
+use Rattle.board_face.specs.{Texts.{further}, Looks.{AppLooksStay, AppRose}, AppEvents.{loan_origin}, declared.views.app.{Origin.{Origin}, Reading.{Reading}}}
+use Rattle.board_face.specs.declared.views.app.{TakenNote.{TakenNote}, AppLook.TheVariants.{NoNote, CardEnded, RefillInUse}, AppView.{AppView}}
+use Rattle.face_callers.specs.declared.reader.Served.{Served, TheVariants.{All as all_taken, NoNote as no_note, Ended as ended, RefillFull as refill_full}}
 
 -- the readings go on from byte to byte of one origin, up to a number of bytes
 abbrev pub GoesOn : Origin → ℕ → List Reading → ℕ → Type 0

@@ -1,9 +1,6 @@
 ghost use Rattle.face_callers.specs.Flush.{IsReady, Sends};
 ghost use Rattle.std.specs.Prelude.{◌≡◌, [], ◌++◌, MatchOption, IfSome, option_to_list};
-ghost use Rattle.board_face.specs.NicEvents.{nic_gist};
-ghost use Rattle.board_face.specs.NicCalls.{IsOpen};
-ghost use Rattle.board_face.specs.Looks.{NicRose};
-ghost use Rattle.board_face.specs.declared.views.nic.NicLook.TheVariants.{NoteInUse};
+ghost use Rattle.board_face.specs.{NicEvents.{nic_gist}, NicCalls.{IsOpen}, Looks.{NicRose}, declared.views.nic.NicLook.TheVariants.{NoteInUse}};
 
 use board_face::{NicFace, Piece};
 use std::collections::VecDeque;

@@ -1,19 +1,10 @@
 -- Lists of tokens that are as long as what a hand has.
-use Rattle.std.proofs.Common.{◌≡◌, ℕ, List, [], ◌∷◌, length, map, refl, Some, None, option_to_list}
-use Rattle.std.specs.Prelude.{All}
-use Rattle.std.proofs.lemmas.List.Elements.{All-head}
-use Rattle.zr_kinds.specs.declared.place.Place.{Place}
-use Rattle.board_face.proofs.ListLemmas.{places-without_first, same_filling-refl}
-use Rattle.board_face.specs.Lists.{without, at_first}
-use Rattle.board_face.specs.Tokens.{same_filling}
-use Rattle.board_face.specs.Texts.{front_place, rest_place}
-use Rattle.board_face.specs.AppEvents.{cut, helds_without, loans_without, owns_without, own_bytes}
-use Rattle.board_face.specs.declared.views.parts.Filling.{Filling}
-use Rattle.board_face.specs.declared.views.app.SpareOwn.{SpareOwn}
-use Rattle.board_face.specs.declared.views.app.AppView.{AppView}
-use Rattle.face_table.specs.declared.app.AppHand.{AppHand}
-use Rattle.face_table.specs.AppHand.{IsAppHand}
-use Rattle.zr_kinds.proofs.Lists.{map-none}
+use Rattle.std.{proofs.{Common.{◌≡◌, ℕ, List, [], ◌∷◌, length, map, refl, Some, None, option_to_list}, lemmas.List.Elements.{All-head}}, specs.Prelude.{All}}
+use Rattle.zr_kinds.{specs.declared.place.Place.{Place}, proofs.Lists.{map-none}}
+use Rattle.board_face.{proofs.ListLemmas.{places-without_first, same_filling-refl}, specs.{Lists.{without, at_first}, Tokens.{same_filling}}}
+use Rattle.board_face.specs.{Texts.{front_place, rest_place}, AppEvents.{cut, helds_without, loans_without, owns_without, own_bytes}}
+use Rattle.board_face.specs.declared.views.{parts.Filling.{Filling}, app.{SpareOwn.{SpareOwn}, AppView.{AppView}}}
+use Rattle.face_table.specs.{declared.app.AppHand.{AppHand}, AppHand.{IsAppHand}}
 
 -- what is left once an application's token has ended
 module _ (v : AppView) (hand : AppHand) (is : IsAppHand v hand) where

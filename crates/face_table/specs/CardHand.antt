@@ -2,19 +2,13 @@
 use Rattle.std.specs.Prelude.{⊤, ◌≡◌, ℕ, ◌+◌, ◌<◌, ◌≤◌, false, List, [], length, map, MatchBool, Some, None, IsSome, IsSomeAnd, option_to_list}
 use Rattle.zr_kinds.specs.declared.place.Note.{Note}
 use Rattle.area_layout.specs.Layout.{least_size}
-use Rattle.board_face.specs.Tokens.{next_place}
-use Rattle.board_face.specs.Texts.{IsSplitNote, IsLinearNote}
-use Rattle.board_face.specs.NicEvents.{fresh, placed, sent, sent_linear, saw_leave, nic_ended}
-use Rattle.board_face.specs.NicCalls.{apps_of, free_words_of, NicOnlySaw, TookBuffer, SweptWord, DealtWith, Closed}
-use Rattle.board_face.specs.declared.views.nic.NicView.{NicView}
+use Rattle.board_face.specs.{Tokens.{next_place}, Texts.{IsSplitNote, IsLinearNote}, NicEvents.{fresh, placed, sent, sent_linear, saw_leave, nic_ended}}
+use Rattle.board_face.specs.{NicCalls.{apps_of, free_words_of, NicOnlySaw, TookBuffer, SweptWord, DealtWith, Closed}, declared.views.nic.NicView.{NicView}}
 use Rattle.board_face.specs.declared.views.nic.NicLook.TheVariants.{NoteInUse, NotLeft}
-use Rattle.face_table.specs.declared.answers.Answer.{Answer}
-use Rattle.face_table.specs.declared.answers.Answer.TheVariants.{Skipped, Done, Full, Number, Flag, Buffer, NoBuffer, At, Entry as found}
+use Rattle.face_table.specs.declared.answers.Answer.{Answer, TheVariants.{Skipped, Done, Full, Number, Flag, Buffer, NoBuffer, At, Entry as found}}
 use Rattle.face_table.specs.declared.card.CardCall.{CardCall}
-use Rattle.face_table.specs.declared.card.CardCall.TheVariants.{Apps, Places, Size, FreeWords, Cached, Take, Sweep, Entry, Place, Send, SendLinear, Shut, End}
-use Rattle.face_table.specs.declared.card.CardCall.TheVariants.{Left}
-use Rattle.face_table.specs.declared.card.CardHand.{CardHand}
-use Rattle.face_table.specs.Text.{text_bytes}
+use Rattle.face_table.specs.declared.card.CardCall.TheVariants.{Apps, Places, Size, FreeWords, Cached, Take, Sweep, Entry, Place, Send, SendLinear, Shut, End, Left}
+use Rattle.face_table.specs.{declared.card.CardHand.{CardHand}, Text.{text_bytes}}
 
 -- The hand has the tokens that the card has out, and knows whether the card has ended.
 pub record IsCardHand (v : NicView) (hand : CardHand) : Type 0 where

@@ -1,7 +1,5 @@
 ghost use Rattle.std.specs.Prelude.{◌≡◌, ◌↔◌, IsTrue};
-ghost use Rattle.board_face.specs.Texts.{IsSplitNote, IsLinearNote};
-ghost use Rattle.board_face.specs.Opened.{new_nic_view};
-ghost use Rattle.board_face.specs.declared.views.parts.Setting.{Setting};
+ghost use Rattle.board_face.specs.{Texts.{IsSplitNote, IsLinearNote}, Opened.{new_nic_view}, declared.views.parts.Setting.{Setting}};
 ghost use Rattle.face_table.specs.CardHand.{IsCardHand, CardTells, PlaceTells, SendLinearTells};
 
 use crate::{Answer, Text};

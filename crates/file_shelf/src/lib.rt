@@ -3,7 +3,5 @@
 
 mod files;
 mod shelf;
-#[cfg(test)]
-mod tests;
 
 pub use shelf::{FileShelf, Lost};

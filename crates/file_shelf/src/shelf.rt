@@ -1,8 +1,6 @@
 //! The shelf.
-ghost use Rattle.std.specs.Prelude.{◌≡◌, ℕ, ◌≢◌, None, IfOk, MatchResult};
-ghost use Rattle.std.specs.Io.KnownBytes.{Keeps};
-ghost use Rattle.zr_io.specs.Moved.{AddsPiece, HasCause};
-ghost use Rattle.zr_io.specs.Memory.{raised};
+ghost use Rattle.std.specs.{Prelude.{◌≡◌, ℕ, ◌≢◌, None, IfOk, MatchResult}, Io.KnownBytes.{Keeps}};
+ghost use Rattle.zr_io.specs.{Moved.{AddsPiece, HasCause}, Memory.{raised}};
 
 use crate::files::FlowFiles;
 use std::alloc::AllocError;

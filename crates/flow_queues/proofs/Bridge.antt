@@ -1,14 +1,11 @@
 -- Pieces that are judged one by one are received as their frames are.
 use Rattle.std.proofs.Common.{◌≡◌, ◌≢◌, ℕ, ◌+◌, List, [], ◌∷◌, ◌++◌, length, length-append, true}
-use Rattle.std.proofs.Common.{false, if◌then◌else◌, refl, sym, ap, subst, ◌∙◌, ⊎_elim, arith, append_assoc}
-use Rattle.std.specs.Prelude.{◌==◌}
+use Rattle.std.{proofs.Common.{false, if◌then◌else◌, refl, sym, ap, subst, ◌∙◌, ⊎_elim, arith, append_assoc}, specs.Prelude.{◌==◌}}
 use Rattle.std.proofs.lemmas.Bool.{cases_Bool, cases_eq, eq-eqb, eqb-true}
 use Rattle.board_face.proofs.ListLemmas.{not-eqb}
 use Rattle.zr_kinds.specs.CopyingReceiver.{Placed, nothing_placed, next_missing, lead, received_part}
 use Rattle.flow_queues.specs.Marks.{Mark, Numbered, Frame, frame_from, with_note, frames_of, received_frame, received_frames, marks_of_note, Follows, LiesInFrame}
-use Rattle.flow_queues.specs.Core.{received_note, received_notes}
-use Rattle.flow_queues.proofs.InParts.{IsReceived, AreSame, parts, in_parts}
-use Rattle.flow_queues.proofs.Entering.{marks-length}
+use Rattle.flow_queues.{specs.Core.{received_note, received_notes}, proofs.{InParts.{IsReceived, AreSame, parts, in_parts}, Entering.{marks-length}}}
 
 -- ---- frames
 

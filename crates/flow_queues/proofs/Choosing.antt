@@ -1,13 +1,9 @@
 -- A note chooses its flow, whose queue changes then.
 use Rattle.std.proofs.Common.{◌≡◌, ◌≢◌, ℕ, ◌+◌, ◌<◌, ◌≤◌, false, List, [], ◌∷◌, ◌++◌, length, set, get_or, refl, sym, ap, subst, ◌∙◌, arith, ⊎_elim, inl, inr}
-use Rattle.std.specs.Prelude.{◌==◌}
-use Rattle.std.proofs.lemmas.Bool.{cases_eq, ne_eqb}
+use Rattle.std.{specs.Prelude.{◌==◌}, proofs.lemmas.Bool.{cases_eq, ne_eqb}}
 use Rattle.zr_kinds.specs.declared.place.Note.{Note}
 use Rattle.tcp_reorder.specs.Queue.{Queue}
-use Rattle.flow_queues.specs.declared.queues.Waiting.{Waiting}
-use Rattle.flow_queues.specs.declared.queues.FlowQueue.{FlowQueue}
-use Rattle.flow_queues.specs.Core.{total, Each, many}
-use Rattle.flow_queues.specs.Flows.{fresh_flow, IsChosen}
+use Rattle.flow_queues.specs.{declared.queues.{Waiting.{Waiting}, FlowQueue.{FlowQueue}}, Core.{total, Each, many}, Flows.{fresh_flow, IsChosen}}
 use Rattle.flow_queues.proofs.Tokens.{total-append}
 use Rattle.flow_queues.proofs.Standing.{At, split-at, each-map, each-join, each-left, each-right, is_number, number-is, total-changed, many-same}
 use Rattle.flow_queues.proofs.Took.{get-last, set-last}

@@ -1,49 +1,20 @@
 -- Bytes that came with their note are copied into a spare, which is lent.
-use Rattle.std.proofs.Common.{◌≡◌, ◌≢◌, ℕ, ◌+◌, ◌<◌, ◌≤◌, Bool, true, false, List, [], ◌∷◌, ◌++◌, Some}
-use Rattle.std.proofs.Common.{None, length}
-use Rattle.std.proofs.Common.{map, take, drop, refl, sym, ap, subst, ◌∙◌, arith, ⊎_elim}
-use Rattle.std.specs.Prelude.{◌==◌, All, if◌then◌else◌, slice_get, nat_lt}
-use Rattle.std.proofs.lemmas.Bool.{cases_Bool, cases_lt}
-use Rattle.std.proofs.lemmas.Bool.Decides.{nat_tests}
-use Rattle.std.proofs.lemmas.List.Elements.{All-head, All-tail}
-use Rattle.std.proofs.lemmas.List.Recursion.{is_sum_by}
-use Rattle.std.proofs.lemmas.Option.{slice_get_within}
-use Rattle.zr_kinds.specs.declared.place.Place.{Place}
-use Rattle.zr_kinds.specs.declared.place.Note.{Note}
-use Rattle.area_layout.specs.Layout.{pool_buffers}
-use Rattle.tcp_reorder.specs.declared.places.Span.{Span}
-use Rattle.tcp_reorder.specs.Queue.{Kept, Queue, front_of, AreApart as ApartFrom, next_of}
-use Rattle.tcp_reorder.specs.Gaps.{LosesFirst}
-use Rattle.tcp_reorder.specs.Values.{AreSized}
-use Rattle.board_face.specs.Texts.{unsplit_bytes}
-use Rattle.board_face.specs.Tokens.{filled_by, same_filling}
-use Rattle.board_face.specs.Looks.{AppLooksStay}
-use Rattle.board_face.specs.NicEvents.{fresh}
-use Rattle.board_face.specs.AppCalls.{HasSpare, HasNoneIn, MaySpare}
-use Rattle.board_face.specs.AppEvents.{got_spare, filled, own_bytes, lent_own, begin_place, lent, came_to_rest, reserve_of}
-use Rattle.board_face.specs.declared.views.parts.Filling.{Filling}
-use Rattle.board_face.specs.declared.views.app.Origin.{Origin}
-use Rattle.board_face.specs.declared.views.app.Origin.TheVariants.{Note as of_note, Copied as of_copy}
-use Rattle.board_face.specs.declared.views.app.AppLook.TheVariants.{NoneListed}
-use Rattle.board_face.specs.declared.views.app.TakenNote.{TakenNote}
-use Rattle.board_face.specs.declared.views.app.LentPiece.{LentPiece}
-use Rattle.board_face.specs.declared.views.app.AppView.{AppView}
-use Rattle.board_face.proofs.ListLemmas.{same_filling-refl}
-use Rattle.flow_queues.specs.declared.queues.NotePiece.{NotePiece}
-use Rattle.flow_queues.specs.declared.queues.Short.{Short}
-use Rattle.flow_queues.specs.declared.queues.Lending.{Lending}
-use Rattle.flow_queues.specs.declared.queues.FlowQueue.{FlowQueue}
-use Rattle.flow_queues.specs.declared.queues.Waiting.{Waiting}
-use Rattle.flow_queues.specs.declared.queues.Waiting.TheVariants.{InArea, Copied}
-use Rattle.area_layout.specs.Layout.{IsLayout, LiesIn, total as buffers_of}
-use Rattle.area_layout.proofs.Words.{words_apart}
+use Rattle.std.proofs.Common.{◌≡◌, ◌≢◌, ℕ, ◌+◌, ◌<◌, ◌≤◌, Bool, true, false, List, [], ◌∷◌, ◌++◌, Some, None, length}
+use Rattle.std.{proofs.Common.{map, take, drop, refl, sym, ap, subst, ◌∙◌, arith, ⊎_elim}, specs.Prelude.{◌==◌, All, if◌then◌else◌, slice_get, nat_lt}}
+use Rattle.std.proofs.lemmas.{Bool.{cases_Bool, cases_lt, Decides.{nat_tests}}, List.{Elements.{All-head, All-tail}, Recursion.{is_sum_by}}, Option.{slice_get_within}}
+use Rattle.zr_kinds.specs.declared.place.{Place.{Place}, Note.{Note}}
+use Rattle.area_layout.{specs.Layout.{pool_buffers, IsLayout, LiesIn, total as buffers_of}, proofs.Words.{words_apart}}
+use Rattle.tcp_reorder.specs.{declared.places.Span.{Span}, Queue.{Kept, Queue, front_of, AreApart as ApartFrom, next_of}, Gaps.{LosesFirst}, Values.{AreSized}}
+use Rattle.board_face.specs.{Texts.{unsplit_bytes}, Tokens.{filled_by, same_filling}, Looks.{AppLooksStay}, NicEvents.{fresh}, AppCalls.{HasSpare, HasNoneIn, MaySpare}}
+use Rattle.board_face.specs.{AppEvents.{got_spare, filled, own_bytes, lent_own, begin_place, lent, came_to_rest, reserve_of}, declared.views.parts.Filling.{Filling}}
+use Rattle.board_face.specs.declared.views.app.{Origin.{Origin, TheVariants.{Note as of_note, Copied as of_copy}}, AppLook.TheVariants.{NoneListed}}
+use Rattle.board_face.{specs.declared.views.app.{TakenNote.{TakenNote}, LentPiece.{LentPiece}, AppView.{AppView}}, proofs.ListLemmas.{same_filling-refl}}
 use Rattle.board_face.specs.OwnBuffers.{IsOwnBuffer}
+use Rattle.flow_queues.specs.declared.queues.{NotePiece.{NotePiece}, Short.{Short}, Lending.{Lending}, FlowQueue.{FlowQueue}, Waiting.{Waiting}}
+use Rattle.flow_queues.specs.declared.queues.Waiting.TheVariants.{InArea, Copied}
 use Rattle.flow_queues.specs.Core.{is_copy, total, IsIn, held_piece, LieApart, has_at, is_odd, lent_piece, origin_in, IsInArea, IsShort, short_len}
-use Rattle.flow_queues.specs.Core.{short_bytes, marks_of_waiting}
-use Rattle.flow_queues.specs.Core.{unsplit_len}
-use Rattle.flow_queues.specs.Lent.{IsNext, is_short, LentNext}
-use Rattle.flow_queues.proofs.Tokens.{total-append, not-odd, TokenLent, is-lent, is_that_loan, that-loan, is-lent-there}
-use Rattle.flow_queues.proofs.Entering.{marks-length}
+use Rattle.flow_queues.specs.{Core.{short_bytes, marks_of_waiting, unsplit_len}, Lent.{IsNext, is_short, LentNext}}
+use Rattle.flow_queues.proofs.{Tokens.{total-append, not-odd, TokenLent, is-lent, is_that_loan, that-loan, is-lent-there}, Entering.{marks-length}}
 use Rattle.flow_queues.proofs.Looks.{looks-same, looks-more}
 
 -- ---- what is next

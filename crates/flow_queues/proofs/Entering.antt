@@ -1,32 +1,14 @@
 -- A piece that was taken enters its flow's queue, gap by gap.
 use Rattle.std.proofs.Common.{◌≡◌, ℕ, zero, suc, ◌+◌, ◌-◌, ◌%◌, ◌^◌, ◌<◌, ◌≤◌, true, false, List, [], ◌∷◌, Option, Some}
-use Rattle.std.proofs.Common.{None, length, take, drop, refl, sym, ap, subst, ◌∙◌, arith, ⊎_elim}
-use Rattle.std.specs.Prelude.{nat_lt, IfSome}
-use Rattle.board_face.specs.Lists.{same_place}
-use Rattle.std.proofs.lemmas.Bool.{cases_Bool}
-use Rattle.zr_kinds.specs.declared.place.Note.{Note}
-use Rattle.zr_kinds.specs.declared.place.Place.{Place}
-use Rattle.zr_kinds.specs.CopyingReceiver.{Placed, next_missing, accepts, filled}
-use Rattle.tcp_reorder.specs.declared.places.Gap.{Gap}
-use Rattle.tcp_reorder.specs.Queue.{Kept, Queue, next_of, with_kept, IsSound}
-use Rattle.tcp_reorder.specs.Gaps.{origin, wants, IsFirstGap}
-use Rattle.tcp_reorder.specs.Values.{Holds}
-use Rattle.tcp_reorder.proofs.Holding.{next_missing-held}
-use Rattle.tcp_reorder.proofs.Judging.{parts_accepted}
-use Rattle.board_face.specs.AppEvents.{released}
-use Rattle.board_face.specs.declared.views.app.HeldPiece.{HeldPiece}
-use Rattle.board_face.specs.declared.views.app.AppView.{AppView}
-use Rattle.flow_queues.specs.declared.queues.NotePiece.{NotePiece}
-use Rattle.flow_queues.specs.declared.queues.Waiting.{Waiting}
-use Rattle.flow_queues.specs.declared.queues.Waiting.TheVariants.{InArea}
-use Rattle.flow_queues.specs.Marks.{Mark, marks_from}
+use Rattle.std.{proofs.{Common.{None, length, take, drop, refl, sym, ap, subst, ◌∙◌, arith, ⊎_elim}, lemmas.Bool.{cases_Bool}}, specs.Prelude.{nat_lt, IfSome}}
+use Rattle.board_face.specs.{Lists.{same_place}, AppEvents.{released}, declared.views.app.{HeldPiece.{HeldPiece}, AppView.{AppView}}}
+use Rattle.zr_kinds.specs.{declared.place.{Note.{Note}, Place.{Place}}, CopyingReceiver.{Placed, next_missing, accepts, filled}}
+use Rattle.tcp_reorder.specs.{declared.places.Gap.{Gap}, Queue.{Kept, Queue, next_of, with_kept, IsSound}, Gaps.{origin, wants, IsFirstGap}, Values.{Holds}}
+use Rattle.tcp_reorder.proofs.{Holding.{next_missing-held}, Judging.{parts_accepted}, GapByGap.{IsPast}, Entering.{past-unwanted, holds-none}}
+use Rattle.flow_queues.specs.{declared.queues.{NotePiece.{NotePiece}, Waiting.{Waiting, TheVariants.{InArea}}}, Marks.{Mark, marks_from}}
 use Rattle.flow_queues.specs.Core.{total, IsIn, LieApart, Each, held_piece, over_waiting, over_kept, marks_of_piece, marks_of_waiting, received_note}
-use Rattle.flow_queues.specs.Pieces.{OnlyHelds, GaveFront, CutFirst, Others, over_others, front_of_piece, rest_of_piece, whole_piece}
-use Rattle.flow_queues.proofs.Tokens.{is-released}
-use Rattle.flow_queues.proofs.Pieces.{other-place}
-use Rattle.flow_queues.proofs.Filling.{GoesOnFrom, copy-goes-on, copy-held, holds-all}
-use Rattle.tcp_reorder.proofs.GapByGap.{IsPast}
-use Rattle.tcp_reorder.proofs.Entering.{past-unwanted, holds-none}
+use Rattle.flow_queues.{specs.Pieces.{OnlyHelds, GaveFront, CutFirst, Others, over_others, front_of_piece, rest_of_piece, whole_piece}, proofs.Tokens.{is-released}}
+use Rattle.flow_queues.proofs.{Pieces.{other-place}, Filling.{GoesOnFrom, copy-goes-on, copy-held, holds-all}}
 
 -- ---- marks
 

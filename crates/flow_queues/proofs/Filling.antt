@@ -1,23 +1,11 @@
 -- How a piece fills in, a gap after the other: for any values and any pieces.
-use Rattle.std.proofs.Common.{◌≡◌, ℕ, ◌+◌, ◌-◌, ◌%◌, ◌^◌, ◌<◌, ◌≤◌, List, length, take, drop}
-use Rattle.std.proofs.Common.{true, false, None, refl, sym, ap, subst, ◌∙◌, ⊎_elim}
-use Rattle.std.proofs.Common.{length-take-le, arith}
-use Rattle.std.proofs.lemmas.Bool.{cases_lt}
-use Rattle.std.proofs.lemmas.List.{length-drop}
+use Rattle.std.proofs.Common.{◌≡◌, ℕ, ◌+◌, ◌-◌, ◌%◌, ◌^◌, ◌<◌, ◌≤◌, List, length, take, drop, true, false, None, refl, sym, ap, subst, ◌∙◌, ⊎_elim}
+use Rattle.std.proofs.{Common.{length-take-le, arith}, lemmas.{Bool.{cases_lt}, List.{length-drop}}}
 use Rattle.zr_kinds.specs.CopyingReceiver.{Placed, lead, accepts, filled}
-use Rattle.tcp_reorder.specs.Queue.{Kept, Queue, has, next_of, end_of, with_kept, IsSound}
-use Rattle.tcp_reorder.specs.declared.places.Gap.{Gap}
-use Rattle.tcp_reorder.specs.Gaps.{origin, wants, IsFirstGap}
-use Rattle.tcp_reorder.specs.Values.{Holds}
-use Rattle.tcp_reorder.proofs.Holding.{Holds-same, Holds-with_kept}
-use Rattle.tcp_reorder.proofs.Positions.{IsFree}
-use Rattle.tcp_reorder.proofs.Parts.{origin-part, MayBeTaken, may_be_taken}
-use Rattle.tcp_reorder.proofs.Sound.{MayBeKept}
-use Rattle.tcp_reorder.proofs.Taking.{may_be_kept}
-use Rattle.tcp_reorder.proofs.Gapping.{wanted}
-use Rattle.tcp_reorder.proofs.Least.{has-before, next_of-popped, next_of-with_kept}
-use Rattle.tcp_reorder.proofs.Judging.{judged_alike, parts_accepted, accepted, goes_on}
-use Rattle.tcp_reorder.proofs.GapByGap.{IsPast, filled-past, gap-filled, all-filled}
+use Rattle.tcp_reorder.specs.{Queue.{Kept, Queue, has, next_of, end_of, with_kept, IsSound}, declared.places.Gap.{Gap}, Gaps.{origin, wants, IsFirstGap}}
+use Rattle.tcp_reorder.{specs.Values.{Holds}, proofs.{Holding.{Holds-same, Holds-with_kept}, Positions.{IsFree}, Parts.{origin-part, MayBeTaken, may_be_taken}}}
+use Rattle.tcp_reorder.proofs.{Sound.{MayBeKept}, Taking.{may_be_kept}, Gapping.{wanted}, Least.{has-before, next_of-popped, next_of-with_kept}}
+use Rattle.tcp_reorder.proofs.{Judging.{judged_alike, parts_accepted, accepted, goes_on}, GapByGap.{IsPast, filled-past, gap-filled, all-filled}}
 use Rattle.tcp_reorder.proofs.Entering.{past-unwanted}
 
 module _ {A H : Type 0} (values : H → List A) where

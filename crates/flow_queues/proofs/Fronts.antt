@@ -1,21 +1,15 @@
 -- What a flow received, as one more note is taken, and how its first marks stand to the marks of its frames.
 use Rattle.std.proofs.Common.{◌≡◌, ◌≢◌, ℕ, zero, suc, ◌+◌, ◌-◌, ◌<◌, ◌≤◌, true, false, List, [], ◌∷◌, ◌++◌}
-use Rattle.std.proofs.Common.{Option, Some, None, IsSome, refl, sym, ap, ◌∙◌, arith, ⊎_elim}
-use Rattle.std.specs.Prelude.{◌==◌}
-use Rattle.std.specs.Option.{is_some}
+use Rattle.std.{proofs.Common.{Option, Some, None, IsSome, refl, sym, ap, ◌∙◌, arith, ⊎_elim}, specs.{Prelude.{◌==◌}, Option.{is_some}}}
 use Rattle.std.proofs.lemmas.Bool.{cases_Bool, cases_lt, cases_eq, both_ways, ne_eqb}
 use Rattle.zr_kinds.specs.CopyingReceiver.{Placed, nothing_placed, next_missing, lead, accepts, brought, first_of, filled, values_from, front_of}
 use Rattle.zr_kinds.proofs.LeastMissing.{next_missing-least, same_least}
-use Rattle.tcp_reorder.specs.Queue.{Queue}
-use Rattle.tcp_reorder.proofs.Holding.{brought-past}
+use Rattle.tcp_reorder.{specs.Queue.{Queue}, proofs.Holding.{brought-past}}
 use Rattle.board_face.specs.declared.views.app.TakenNote.{TakenNote}
-use Rattle.flow_queues.specs.declared.queues.Waiting.{Waiting}
-use Rattle.flow_queues.specs.declared.queues.FlowQueue.{FlowQueue}
+use Rattle.flow_queues.specs.declared.queues.{Waiting.{Waiting}, FlowQueue.{FlowQueue}}
 use Rattle.flow_queues.specs.Marks.{Mark, Numbered, numbered, Frame, received_frame, received_frames, frames_of, base_of, placed_marks, marks_of, marks_of_note}
-use Rattle.flow_queues.specs.Marks.{FramesStandTogether}
-use Rattle.flow_queues.specs.Core.{Each, many, own_notes, BeginAt, placed_of, received_note, received_notes}
-use Rattle.flow_queues.proofs.Placing.{own-notes-other, own-notes-here, next_note, received-push, values-split}
-use Rattle.flow_queues.proofs.WholeFrames.{StandWhole, whole-own, placed-same}
+use Rattle.flow_queues.specs.{Marks.{FramesStandTogether}, Core.{Each, many, own_notes, BeginAt, placed_of, received_note, received_notes}}
+use Rattle.flow_queues.proofs.{Placing.{own-notes-other, own-notes-here, next_note, received-push, values-split}, WholeFrames.{StandWhole, whole-own, placed-same}}
 use Rattle.flow_queues.proofs.InParts.{AreSame}
 
 -- ---- one note more

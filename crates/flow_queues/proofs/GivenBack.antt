@@ -1,19 +1,11 @@
 -- The entries that gave loans back, as more loans go.
-use Rattle.std.proofs.Common.{◌≡◌, Bool, true, false, if◌then◌else◌, List, [], ◌∷◌}
-use Rattle.std.proofs.Common.{◌++◌, map, take, length, refl, sym, ap, subst, ◌∙◌, arith}
-use Rattle.std.proofs.Common.{append_assoc, length-append}
-use Rattle.std.proofs.Math.Seq.{take-append_seam}
-use Rattle.std.proofs.lemmas.List.{map-append, length-map}
+use Rattle.std.proofs.Common.{◌≡◌, Bool, true, false, if◌then◌else◌, List, [], ◌∷◌, ◌++◌, map, take, length, refl, sym, ap, subst, ◌∙◌, arith}
+use Rattle.std.proofs.{Common.{append_assoc, length-append}, Math.Seq.{take-append_seam}, lemmas.List.{map-append, length-map}}
 use Rattle.zr_kinds.specs.declared.ring.Rqe.{Rqe}
 use Rattle.area_layout.specs.Layout.{Shape}
-use Rattle.board_face.specs.AppEvents.{entry_of}
-use Rattle.board_face.specs.declared.views.parts.Setting.{Setting}
-use Rattle.board_face.specs.declared.views.app.LentPiece.{LentPiece}
-use Rattle.board_face.specs.declared.views.app.WrittenEntry.{WrittenEntry}
+use Rattle.board_face.specs.{AppEvents.{entry_of}, declared.views.{parts.Setting.{Setting}, app.{LentPiece.{LentPiece}, WrittenEntry.{WrittenEntry}}}}
 use Rattle.board_face.specs.declared.views.app.AppView.{AppView}
-use Rattle.flow_queues.specs.Core.{total}
-use Rattle.flow_queues.specs.Entries.{loans_of, Gives}
-use Rattle.flow_queues.specs.Totals.{loan_entries}
+use Rattle.flow_queues.specs.{Core.{total}, Entries.{loans_of, Gives}, Totals.{loan_entries}}
 
 pub loans-append : (xs ys : List WrittenEntry) → loans_of (xs ++ ys) ≡ loans_of xs ++ loans_of ys
 loans-append [] ys = refl

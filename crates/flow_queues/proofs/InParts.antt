@@ -2,8 +2,7 @@
 use Rattle.std.proofs.Common.{◌≡◌, ℕ, ◌+◌, ◌^◌, ◌≤◌, List, ◌++◌, length, subst, ◌∙◌, arith}
 use Rattle.zr_kinds.specs.CopyingReceiver.{Placed, received_part}
 pub use Rattle.tcp_reorder.specs.Parts.{IsReceived, AreSame}
-use Rattle.tcp_reorder.specs.Parts.{PartsMakeTheFrame}
-use Rattle.tcp_reorder.proofs.InParts.{parts_make_the_frame}
+use Rattle.tcp_reorder.{specs.Parts.{PartsMakeTheFrame}, proofs.InParts.{parts_make_the_frame}}
 use Rattle.flow_queues.specs.Marks.{Mark}
 
 pub parts : PartsMakeTheFrame Mark

@@ -1,19 +1,10 @@
 -- The index of flows.
 use Rattle.std.proofs.Common.{◌≡◌, ◌≢◌, ℕ, zero, suc, ◌+◌, ◌<◌, ◌≤◌, List, [], ◌∷◌, ◌++◌, Option, Some, None, length, set}
-use Rattle.std.proofs.Common.{get_or, refl, sym, ap, subst, ◌∙◌, arith, ⊎_elim, length-append}
-use Rattle.std.specs.Prelude.{MatchOption, ◌==◌, false}
-use Rattle.std.specs.Ordering.{is_eq, nat_cmp}
-use Rattle.std.specs.Cmp.{nat_cmp_is}
-use Rattle.std.specs.declared.cmp.Ordering.TheVariants.{Less, Greater}
+use Rattle.std.{proofs.Common.{get_or, refl, sym, ap, subst, ◌∙◌, arith, ⊎_elim, length-append}, specs.{Prelude.{MatchOption, ◌==◌, false}, Ordering.{is_eq, nat_cmp}}}
+use Rattle.std.{specs.{Cmp.{nat_cmp_is}, declared.cmp.Ordering.TheVariants.{Less, Greater}}, proofs.lemmas.Bool.{cases_eq, cases_lt}}
 use Rattle.board_face.proofs.ListLemmas.{not-eqb}
-use Rattle.flow_queues.proofs.Tokens.{total-append}
-use Rattle.flow_queues.proofs.Took.{get-last}
-use Rattle.std.proofs.lemmas.Bool.{cases_eq, cases_lt}
-use Rattle.flow_queues.specs.declared.queues.FlowQueue.{FlowQueue}
-use Rattle.flow_queues.specs.Core.{many}
-use Rattle.flow_queues.specs.Flows.{IsIndex, place_in}
-use Rattle.flow_queues.proofs.Standing.{At, split-at, many-same, is_number}
-use Rattle.flow_queues.proofs.Releasing.{length-set-same}
+use Rattle.flow_queues.{proofs.{Tokens.{total-append}, Took.{get-last}}, specs.{declared.queues.FlowQueue.{FlowQueue}, Core.{many}, Flows.{IsIndex, place_in}}}
+use Rattle.flow_queues.proofs.{Standing.{At, split-at, many-same, is_number}, Releasing.{length-set-same}}
 
 -- at the place that was set stands what was put there, elsewhere what stood
 number-set : (flows : List FlowQueue) (i : ℕ) (own x : FlowQueue) → i < length flows → own ≡ get_or flows i own → x.number ≡ own.number

@@ -1,16 +1,9 @@
 -- What is next in a stream is lent.
 use Rattle.std.proofs.Common.{◌≡◌, ℕ, ◌+◌, ◌≤◌, ap, subst, arith}
-use Rattle.tcp_reorder.specs.declared.places.Span.{Span}
-use Rattle.tcp_reorder.specs.Queue.{Kept, Queue}
-use Rattle.tcp_reorder.specs.Gaps.{LosesFirst}
-use Rattle.board_face.specs.AppEvents.{came_to_rest}
-use Rattle.board_face.specs.declared.views.app.HeldPiece.{HeldPiece}
-use Rattle.board_face.specs.declared.views.app.AppView.{AppView}
-use Rattle.flow_queues.specs.declared.queues.NotePiece.{NotePiece}
-use Rattle.flow_queues.specs.declared.queues.Waiting.{Waiting}
-use Rattle.flow_queues.specs.declared.queues.Waiting.TheVariants.{InArea, Copied}
-use Rattle.flow_queues.specs.Core.{total, IsIn, LieApart, Each, held_piece, over_waiting, over_kept, short_len, short_bytes}
-use Rattle.flow_queues.specs.Pieces.{IsOut}
+use Rattle.tcp_reorder.specs.{declared.places.Span.{Span}, Queue.{Kept, Queue}, Gaps.{LosesFirst}}
+use Rattle.board_face.specs.{AppEvents.{came_to_rest}, declared.views.app.{HeldPiece.{HeldPiece}, AppView.{AppView}}}
+use Rattle.flow_queues.specs.declared.queues.{NotePiece.{NotePiece}, Waiting.{Waiting, TheVariants.{InArea, Copied}}}
+use Rattle.flow_queues.specs.{Core.{total, IsIn, LieApart, Each, held_piece, over_waiting, over_kept, short_len, short_bytes}, Pieces.{IsOut}}
 use Rattle.flow_queues.proofs.Tokens.{is_that, that-one, is-there}
 
 -- the first piece of a queue

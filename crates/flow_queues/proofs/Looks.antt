@@ -1,8 +1,6 @@
 -- What was seen stays seen.
 use Rattle.std.proofs.Common.{◌≡◌, ◌∷◌, ap, arith}
-use Rattle.board_face.specs.Looks.{AppLooksStay, app_looks, times, same_app_look}
-use Rattle.board_face.specs.declared.views.app.AppLook.{AppLook}
-use Rattle.board_face.specs.declared.views.app.AppView.{AppView}
+use Rattle.board_face.specs.{Looks.{AppLooksStay, app_looks, times, same_app_look}, declared.views.app.{AppLook.{AppLook}, AppView.{AppView}}}
 
 pub looks-same : (old new : AppView) → new.looks ≡ old.looks → AppLooksStay old new
 looks-same old new same = record {

@@ -1,22 +1,11 @@
 -- What stood before a note came stands with it.
-use Rattle.std.proofs.Common.{◌≡◌, ℕ, ◌+◌, List, [], ◌∷◌, ◌++◌, Some, take, refl, sym, ap, subst, ◌∙◌, arith, inl, inr}
-use Rattle.std.specs.Prelude.{slice_get, false, true}
-use Rattle.zr_kinds.specs.declared.place.Note.{Note}
-use Rattle.zr_kinds.specs.declared.place.Place.{Place}
-use Rattle.zr_kinds.specs.declared.ring.Completion.{Completion}
-use Rattle.board_face.specs.AppCalls.{TookNote, TookLinear}
-use Rattle.board_face.specs.AppEvents.{released}
-use Rattle.board_face.specs.declared.views.app.HeldPiece.{HeldPiece}
-use Rattle.board_face.specs.declared.views.app.TakenNote.{TakenNote}
+use Rattle.std.{proofs.Common.{◌≡◌, ℕ, ◌+◌, List, [], ◌∷◌, ◌++◌, Some, take, refl, sym, ap, subst, ◌∙◌, arith, inl, inr}, specs.Prelude.{slice_get, false, true}}
+use Rattle.zr_kinds.specs.declared.{place.{Note.{Note}, Place.{Place}}, ring.Completion.{Completion}}
+use Rattle.board_face.specs.{AppCalls.{TookNote, TookLinear}, AppEvents.{released}, declared.views.app.{HeldPiece.{HeldPiece}, TakenNote.{TakenNote}}}
 use Rattle.board_face.specs.declared.views.app.AppView.{AppView}
-use Rattle.flow_queues.specs.declared.queues.Lending.{Lending}
-use Rattle.flow_queues.specs.declared.queues.FlowQueue.{FlowQueue}
-use Rattle.flow_queues.specs.Core.{total, LieApart, held_piece, over_kept, HasTokens, Stands}
-use Rattle.flow_queues.specs.Pieces.{whole_piece}
-use Rattle.flow_queues.specs.Taking.{Changes, Receives, EntersPiece, TakesPiece, LosesPiece, EntersPayload, TakesPayload, LosesPayload}
-use Rattle.flow_queues.proofs.Tokens.{is-released}
-use Rattle.flow_queues.proofs.Took.{Took, is-took, taken_note, entered-tokens, entered-stands, kept-tokens}
-use Rattle.flow_queues.proofs.NotesStay.{taken-last}
+use Rattle.flow_queues.specs.{declared.queues.{Lending.{Lending}, FlowQueue.{FlowQueue}}, Core.{total, LieApart, held_piece, over_kept, HasTokens, Stands}}
+use Rattle.flow_queues.specs.{Pieces.{whole_piece}, Taking.{Changes, Receives, EntersPiece, TakesPiece, LosesPiece, EntersPayload, TakesPayload, LosesPayload}}
+use Rattle.flow_queues.proofs.{Tokens.{is-released}, Took.{Took, is-took, taken_note, entered-tokens, entered-stands, kept-tokens}, NotesStay.{taken-last}}
 
 module _ (number : ℕ) (was : List FlowQueue) (ring : List (Completion × Lending)) (read : List Lending) (old : AppView) (note : Note)
     (stands : Stands number was ring read old) where

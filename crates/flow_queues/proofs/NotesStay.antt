@@ -1,24 +1,13 @@
 -- What is kept stands once more notes are taken.
-use Rattle.std.proofs.Common.{◌≡◌, ◌≢◌, ℕ, zero, suc, ◌-◌, ◌<◌, false, List, [], ◌∷◌, ◌++◌}
-use Rattle.std.proofs.Common.{Option, Some, length, refl, sym, ap, subst, ◌∙◌, arith, length-append}
-use Rattle.std.specs.Prelude.{◌==◌, slice_get}
-use Rattle.std.proofs.lemmas.Bool.Decides.{nat_tests}
-use Rattle.zr_kinds.specs.declared.ring.Completion.{Completion}
-use Rattle.zr_kinds.specs.CopyingReceiver.{Placed, nothing_placed, values_from}
-use Rattle.tcp_reorder.specs.Queue.{Queue}
-use Rattle.tcp_reorder.specs.Values.{Holds}
-use Rattle.board_face.specs.declared.views.app.TakenNote.{TakenNote}
-use Rattle.board_face.specs.declared.views.app.LentPiece.{LentPiece}
-use Rattle.flow_queues.specs.declared.queues.Waiting.{Waiting}
-use Rattle.flow_queues.specs.declared.queues.Waiting.TheVariants.{InArea, Copied}
-use Rattle.flow_queues.specs.declared.queues.Lending.{Lending}
-use Rattle.flow_queues.specs.declared.queues.FlowQueue.{FlowQueue}
-use Rattle.flow_queues.specs.Marks.{Mark, Numbered}
-use Rattle.flow_queues.specs.Core.{total, lent_piece, origin_in, over_read, IsOfNote, marks_of_waiting, received_note}
-use Rattle.flow_queues.specs.Core.{received_notes, own_notes, BeginAt}
+use Rattle.std.proofs.Common.{◌≡◌, ◌≢◌, ℕ, zero, suc, ◌-◌, ◌<◌, false, List, [], ◌∷◌, ◌++◌, Option, Some, length, refl, sym, ap, subst, ◌∙◌, arith, length-append}
+use Rattle.std.{specs.Prelude.{◌==◌, slice_get}, proofs.lemmas.Bool.Decides.{nat_tests}}
+use Rattle.zr_kinds.specs.{declared.ring.Completion.{Completion}, CopyingReceiver.{Placed, nothing_placed, values_from}}
+use Rattle.tcp_reorder.specs.{Queue.{Queue}, Values.{Holds}}
+use Rattle.board_face.specs.declared.views.app.{TakenNote.{TakenNote}, LentPiece.{LentPiece}}
+use Rattle.flow_queues.specs.{declared.queues.{Waiting.{Waiting, TheVariants.{InArea, Copied}}, Lending.{Lending}, FlowQueue.{FlowQueue}}, Marks.{Mark, Numbered}}
+use Rattle.flow_queues.specs.Core.{total, lent_piece, origin_in, over_read, IsOfNote, marks_of_waiting, received_note, received_notes, own_notes, BeginAt}
 use Rattle.flow_queues.specs.Core.{lent_marks, placed_of, FlowStands, Each, many}
-use Rattle.flow_queues.proofs.Placing.{own-notes-other, own-notes-here, next_note, received-push, begin-push, values-stay}
-use Rattle.flow_queues.proofs.Standing.{each-map}
+use Rattle.flow_queues.proofs.{Placing.{own-notes-other, own-notes-here, next_note, received-push, begin-push, values-stay}, Standing.{each-map}}
 
 -- ---- notes
 

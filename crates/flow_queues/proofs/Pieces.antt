@@ -1,16 +1,10 @@
 -- Pieces that are cut, and given up in part.
-use Rattle.std.proofs.Common.{◌≡◌, ℕ, ◌-◌, ◌<◌, false, Some, refl, arith}
-use Rattle.std.proofs.lemmas.Bool.Decides.{nat_tests}
+use Rattle.std.proofs.{Common.{◌≡◌, ℕ, ◌-◌, ◌<◌, false, Some, refl, arith}, lemmas.Bool.Decides.{nat_tests}}
 use Rattle.zr_kinds.specs.declared.place.Place.{Place}
-use Rattle.board_face.specs.Lists.{same_place}
-use Rattle.board_face.specs.Texts.{front_place, rest_place}
-use Rattle.board_face.specs.AppEvents.{cut, released}
-use Rattle.board_face.specs.declared.views.app.HeldPiece.{HeldPiece}
+use Rattle.board_face.specs.{Lists.{same_place}, Texts.{front_place, rest_place}, AppEvents.{cut, released}, declared.views.app.HeldPiece.{HeldPiece}}
 use Rattle.board_face.specs.declared.views.app.AppView.{AppView}
-use Rattle.flow_queues.specs.declared.queues.NotePiece.{NotePiece}
-use Rattle.flow_queues.specs.Core.{IsIn, LieApart, held_piece}
-use Rattle.flow_queues.specs.Pieces.{OnlyHelds, GaveFront, CutFirst, front_of_piece, rest_of_piece}
-use Rattle.flow_queues.proofs.Tokens.{Cut, is-cut, Released, is-released}
+use Rattle.flow_queues.specs.{declared.queues.NotePiece.{NotePiece}, Core.{IsIn, LieApart, held_piece}}
+use Rattle.flow_queues.{specs.Pieces.{OnlyHelds, GaveFront, CutFirst, front_of_piece, rest_of_piece}, proofs.Tokens.{Cut, is-cut, Released, is-released}}
 
 -- a place isn't that of what comes behind it
 pub other-place : (p : Place) (n : ℕ) → 0 < n → same_place (front_place p n) (rest_place p n) ≡ false

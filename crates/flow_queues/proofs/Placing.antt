@@ -1,13 +1,10 @@
 -- What a flow received grows at its end, and what stood stays.
 use Rattle.std.proofs.Common.{◌≡◌, ◌≢◌, ℕ, zero, suc, ◌+◌, ◌<◌, ◌≤◌, true, false, if◌then◌else◌, List, [], ◌∷◌}
-use Rattle.std.proofs.Common.{◌++◌, Option, Some, None, IsSome, length, refl, ap, ◌∙◌, arith, ⊎_elim, append-nil}
-use Rattle.std.specs.Prelude.{◌==◌}
-use Rattle.std.proofs.lemmas.Bool.{cases_Bool, eq-eqb}
-use Rattle.std.proofs.lemmas.Bool.Decides.{nat_tests}
+use Rattle.std.{proofs.Common.{◌++◌, Option, Some, None, IsSome, length, refl, ap, ◌∙◌, arith, ⊎_elim, append-nil}, specs.Prelude.{◌==◌}}
+use Rattle.std.proofs.lemmas.Bool.{cases_Bool, eq-eqb, Decides.{nat_tests}}
 use Rattle.zr_kinds.specs.CopyingReceiver.{Placed, next_missing, accepts, values_from}
 use Rattle.board_face.specs.declared.views.app.TakenNote.{TakenNote}
-use Rattle.flow_queues.specs.Marks.{Mark, Numbered, numbered, of_flow}
-use Rattle.flow_queues.specs.Core.{received_note, received_notes, own_notes, BeginAt}
+use Rattle.flow_queues.specs.{Marks.{Mark, Numbered, numbered, of_flow}, Core.{received_note, received_notes, own_notes, BeginAt}}
 
 -- ---- the notes of a flow
 

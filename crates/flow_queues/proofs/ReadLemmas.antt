@@ -1,27 +1,14 @@
 -- What is read through a loan stands at its marks.
-use Rattle.std.proofs.Common.{◌≡◌, ℕ, zero, suc, ◌+◌, ◌<◌, ◌≤◌, Bool, true, false, List, [], ◌∷◌, ◌++◌}
-use Rattle.std.proofs.Common.{Option, Some, length, take, refl}
-use Rattle.std.proofs.Common.{sym, ap, subst, ◌∙◌, arith, ⊎_elim, append_assoc, append-nil, length-append, length-take-le, take_all}
-use Rattle.std.proofs.lemmas.Bool.{cases_lt}
-use Rattle.std.specs.Prelude.{MatchBool}
-use Rattle.std.specs.Io.KnownBytes.{Appends}
+use Rattle.std.proofs.Common.{◌≡◌, ℕ, zero, suc, ◌+◌, ◌<◌, ◌≤◌, Bool, true, false, List, [], ◌∷◌, ◌++◌, Option, Some, length, take, refl}
+use Rattle.std.proofs.{Common.{sym, ap, subst, ◌∙◌, arith, ⊎_elim, append_assoc, append-nil, length-append, length-take-le, take_all}, lemmas.Bool.{cases_lt}}
+use Rattle.std.specs.{Prelude.{MatchBool}, Io.KnownBytes.{Appends}}
 use Rattle.zr_kinds.specs.CopyingReceiver.{value_at}
-use Rattle.zr_io.specs.Moved.{Gained}
-use Rattle.zr_io.proofs.Moved.{Gained-added, Gained-then}
-use Rattle.board_face.specs.Texts.{further}
-use Rattle.board_face.specs.AppEvents.{has_read, loan_origin, reads_with}
-use Rattle.board_face.specs.declared.views.app.Origin.{Origin}
-use Rattle.board_face.specs.AppCalls.{ShowsCopy}
-use Rattle.board_face.specs.declared.views.app.TakenNote.{TakenNote}
-use Rattle.board_face.specs.declared.views.app.Reading.{Reading}
-use Rattle.board_face.specs.declared.views.app.LentPiece.{LentPiece}
-use Rattle.board_face.specs.declared.views.app.AppView.{AppView}
-use Rattle.flow_queues.specs.declared.queues.Lending.{Lending}
-use Rattle.flow_queues.specs.Marks.{Mark, marks_from}
-use Rattle.flow_queues.specs.Core.{IsIn, LieApart, lent_piece, IsReadAt, IsByteAt, AreReadAt, OnlyReads, IsReadOf, most_at_once}
-use Rattle.flow_queues.proofs.Tokens.{in-left}
-use Rattle.flow_queues.proofs.NotesStay.{taken-still}
-use Rattle.flow_queues.proofs.Reading.{read-there}
+use Rattle.zr_io.{specs.Moved.{Gained}, proofs.Moved.{Gained-added, Gained-then}}
+use Rattle.board_face.specs.{Texts.{further}, AppEvents.{has_read, loan_origin, reads_with}, declared.views.app.Origin.{Origin}, AppCalls.{ShowsCopy}}
+use Rattle.board_face.specs.declared.views.app.{TakenNote.{TakenNote}, Reading.{Reading}, LentPiece.{LentPiece}, AppView.{AppView}}
+use Rattle.flow_queues.specs.{declared.queues.Lending.{Lending}, Marks.{Mark, marks_from}}
+use Rattle.flow_queues.{specs.Core.{IsIn, LieApart, lent_piece, IsReadAt, IsByteAt, AreReadAt, OnlyReads, IsReadOf, most_at_once}, proofs.Tokens.{in-left}}
+use Rattle.flow_queues.proofs.{NotesStay.{taken-still}, Reading.{read-there}}
 
 -- a byte is read at each mark
 pub are-many : (taken : List TakenNote) (reads : List Reading) (marks : List Mark) (bytes : List ℕ) → AreReadAt taken reads marks bytes

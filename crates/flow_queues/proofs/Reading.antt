@@ -1,23 +1,12 @@
 -- The bytes that one read of a loan gives are those at its marks.
-use Rattle.std.proofs.Common.{◌≡◌, ℕ, zero, suc, ◌+◌, ◌-◌, ◌<◌, ◌≤◌, true, false, List, [], ◌∷◌, ◌++◌}
-use Rattle.std.proofs.Common.{Some, length, take, drop, refl}
-use Rattle.std.proofs.Common.{sym, ap, subst, ◌∙◌, arith, ⊎_elim, inl, append_assoc, length-append}
-use Rattle.std.proofs.lemmas.Bool.{cases_Bool}
-use Rattle.std.specs.Prelude.{MatchBool, slice_get}
+use Rattle.std.proofs.Common.{◌≡◌, ℕ, zero, suc, ◌+◌, ◌-◌, ◌<◌, ◌≤◌, true, false, List, [], ◌∷◌, ◌++◌, Some, length, take, drop, refl}
+use Rattle.std.{proofs.{Common.{sym, ap, subst, ◌∙◌, arith, ⊎_elim, inl, append_assoc, length-append}, lemmas.Bool.{cases_Bool}}, specs.Prelude.{MatchBool, slice_get}}
 use Rattle.zr_kinds.specs.CopyingReceiver.{value_at}
-use Rattle.board_face.specs.Texts.{further}
-use Rattle.board_face.specs.AppEvents.{has_read, loan_origin, reads_with}
-use Rattle.board_face.specs.declared.views.app.Origin.{Origin}
-use Rattle.board_face.specs.declared.views.app.Origin.TheVariants.{Note as of_note, Copied as of_copy}
-use Rattle.board_face.specs.AppCalls.{ShowsCopy}
-use Rattle.board_face.specs.declared.views.app.TakenNote.{TakenNote}
-use Rattle.board_face.specs.declared.views.app.Reading.{Reading}
-use Rattle.board_face.specs.declared.views.app.AppView.{AppView}
-use Rattle.flow_queues.specs.declared.queues.Lending.{Lending}
-use Rattle.flow_queues.specs.Marks.{Mark, marks_from}
-use Rattle.flow_queues.specs.Core.{IsIn, LieApart, lent_piece, origin_in, IsReadAt, AreReadAt}
-use Rattle.flow_queues.proofs.Tokens.{in-right, loan-origin}
-use Rattle.flow_queues.proofs.NotesStay.{note-there}
+use Rattle.board_face.specs.{Texts.{further}, AppEvents.{has_read, loan_origin, reads_with}, declared.views.app.Origin.{Origin}}
+use Rattle.board_face.specs.{declared.views.app.{Origin.TheVariants.{Note as of_note, Copied as of_copy}, TakenNote.{TakenNote}}, AppCalls.{ShowsCopy}}
+use Rattle.board_face.specs.declared.views.app.{Reading.{Reading}, AppView.{AppView}}
+use Rattle.flow_queues.specs.{declared.queues.Lending.{Lending}, Marks.{Mark, marks_from}, Core.{IsIn, LieApart, lent_piece, origin_in, IsReadAt, AreReadAt}}
+use Rattle.flow_queues.proofs.{Tokens.{in-right, loan-origin}, NotesStay.{note-there}}
 
 pub value_at-middle : (xs : List ℕ) (y : ℕ) (ys : List ℕ) → value_at (xs ++ y ∷ ys) (length xs) ≡ Some y
 value_at-middle [] y ys = refl

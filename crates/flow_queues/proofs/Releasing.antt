@@ -1,21 +1,9 @@
 -- Pieces are given up, one by one.
-use Rattle.std.proofs.Common.{◌≡◌, ℕ, zero, suc, ◌+◌, ◌<◌, ◌≤◌, List, [], ◌∷◌}
-use Rattle.std.proofs.Common.{map, take, length, set, get_or, refl, ap, ◌∙◌}
-use Rattle.std.proofs.Common.{arith}
-use Rattle.tcp_reorder.specs.declared.places.Span.{Span}
-use Rattle.tcp_reorder.specs.Queue.{Queue}
-use Rattle.tcp_reorder.specs.Gaps.{LosesFirst}
-use Rattle.board_face.specs.AppEvents.{released}
-use Rattle.board_face.specs.declared.views.app.HeldPiece.{HeldPiece}
-use Rattle.board_face.specs.declared.views.app.AppView.{AppView}
-use Rattle.flow_queues.specs.declared.queues.Waiting.{Waiting}
-use Rattle.flow_queues.specs.declared.queues.Waiting.TheVariants.{InArea, Copied}
-use Rattle.flow_queues.specs.declared.queues.FlowQueue.{FlowQueue}
-use Rattle.flow_queues.specs.Core.{total, Each, held_piece, over_kept}
-use Rattle.flow_queues.specs.Pieces.{OnlyHelds, IsOut, given_back}
-use Rattle.flow_queues.specs.Flows.{FlowFacts, facts_of}
-use Rattle.flow_queues.proofs.Tokens.{is-released}
-use Rattle.flow_queues.proofs.Lends.{over-first}
+use Rattle.std.proofs.Common.{◌≡◌, ℕ, zero, suc, ◌+◌, ◌<◌, ◌≤◌, List, [], ◌∷◌, map, take, length, set, get_or, refl, ap, ◌∙◌, arith}
+use Rattle.tcp_reorder.specs.{declared.places.Span.{Span}, Queue.{Queue}, Gaps.{LosesFirst}}
+use Rattle.board_face.specs.{AppEvents.{released}, declared.views.app.{HeldPiece.{HeldPiece}, AppView.{AppView}}}
+use Rattle.flow_queues.specs.{declared.queues.{Waiting.{Waiting, TheVariants.{InArea, Copied}}, FlowQueue.{FlowQueue}}, Core.{total, Each, held_piece, over_kept}}
+use Rattle.flow_queues.{specs.{Pieces.{OnlyHelds, IsOut, given_back}, Flows.{FlowFacts, facts_of}}, proofs.{Tokens.{is-released}, Lends.{over-first}}}
 
 -- ---- lists
 

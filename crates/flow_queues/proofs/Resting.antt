@@ -1,8 +1,6 @@
 -- Flows of which no piece is in order.
 use Rattle.std.proofs.Common.{◌≡◌, ℕ, zero, suc, ◌<◌, ◌≤◌, subst, List, [], ◌∷◌, ◌++◌, length, set, get_or, slice_get, Some, arith}
-use Rattle.flow_queues.specs.declared.queues.FlowQueue.{FlowQueue}
-use Rattle.flow_queues.specs.Core.{Each}
-use Rattle.flow_queues.specs.Flows.{IsAtRest, RestBut}
+use Rattle.flow_queues.specs.{declared.queues.FlowQueue.{FlowQueue}, Core.{Each}, Flows.{IsAtRest, RestBut}}
 
 -- all are
 pub rest-all : (i : ℕ) (fs : List FlowQueue) → Each IsAtRest fs → RestBut i fs

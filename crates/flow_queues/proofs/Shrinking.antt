@@ -1,12 +1,8 @@
 -- Cutting and giving up make no bytes held.
 use Rattle.std.proofs.Common.{ℕ, ◌≤◌, Option, Some, None, ap, arith}
-use Rattle.board_face.specs.AppEvents.{released}
-use Rattle.board_face.specs.declared.views.app.AppView.{AppView}
-use Rattle.flow_queues.specs.declared.queues.NotePiece.{NotePiece}
-use Rattle.flow_queues.specs.Core.{total, IsIn, LieApart, held_piece}
-use Rattle.flow_queues.specs.Core.{held_len}
-use Rattle.flow_queues.specs.Pieces.{OnlyHelds, GaveFront, CutFirst, over_others}
-use Rattle.flow_queues.proofs.Tokens.{is-released}
+use Rattle.board_face.specs.{AppEvents.{released}, declared.views.app.AppView.{AppView}}
+use Rattle.flow_queues.specs.{declared.queues.NotePiece.{NotePiece}, Core.{total, IsIn, LieApart, held_piece, held_len}}
+use Rattle.flow_queues.{specs.Pieces.{OnlyHelds, GaveFront, CutFirst, over_others}, proofs.Tokens.{is-released}}
 
 pub shrink-gave : (v w : AppView) (piece : NotePiece) (n : ℕ) (result : NotePiece) → GaveFront v w piece n result
     → total held_len w.helds ≤ total held_len v.helds

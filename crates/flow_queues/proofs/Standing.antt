@@ -1,33 +1,15 @@
 -- How what is kept stands to what was seen, step by step.
 use Rattle.std.proofs.Common.{◌≡◌, ◌≢◌, ℕ, zero, suc, ◌+◌, ◌-◌, ◌<◌, ◌≤◌, true, false, if◌then◌else◌, List, [], ◌∷◌}
-use Rattle.std.proofs.Common.{◌++◌, length, set, get_or, refl, sym, ap, subst, ◌∙◌, arith, inl, inr, append_assoc, append-nil}
-use Rattle.std.specs.Prelude.{◌==◌}
-use Rattle.std.proofs.lemmas.Bool.{eq-eqb}
-use Rattle.std.proofs.lemmas.Bool.Decides.{nat_tests}
-use Rattle.zr_kinds.specs.declared.ring.Completion.{Completion}
-use Rattle.zr_kinds.specs.CopyingReceiver.{Placed, nothing_placed, values_from}
-use Rattle.tcp_reorder.specs.declared.places.Span.{Span}
-use Rattle.tcp_reorder.specs.Queue.{Queue}
-use Rattle.tcp_reorder.specs.Gaps.{LosesFirst}
-use Rattle.tcp_reorder.specs.Values.{Holds}
-use Rattle.tcp_reorder.proofs.Holding.{IsPopped, Holds-popped}
-use Rattle.board_face.specs.declared.views.app.TakenNote.{TakenNote}
-use Rattle.board_face.specs.declared.views.app.HeldPiece.{HeldPiece}
-use Rattle.board_face.specs.declared.views.app.LentPiece.{LentPiece}
-use Rattle.board_face.specs.declared.views.app.AppView.{AppView}
-use Rattle.flow_queues.specs.declared.queues.Waiting.{Waiting}
-use Rattle.flow_queues.specs.declared.queues.Lending.{Lending}
-use Rattle.flow_queues.specs.declared.queues.FlowQueue.{FlowQueue}
-use Rattle.flow_queues.specs.Marks.{Mark}
-use Rattle.flow_queues.specs.Core.{total, IsIn, lent_piece, over_kept, marks_of_waiting, marks_of_loan, received_notes, own_notes, BeginAt, lent_marks}
-use Rattle.flow_queues.specs.Core.{placed_of, IsOfNote}
-use Rattle.flow_queues.specs.Core.{FlowStands, Each, many, over_read, Stands}
-use Rattle.board_face.specs.AppEvents.{app_saw}
+use Rattle.std.{proofs.Common.{◌++◌, length, set, get_or, refl, sym, ap, subst, ◌∙◌, arith, inl, inr, append_assoc, append-nil}, specs.Prelude.{◌==◌}}
+use Rattle.std.proofs.lemmas.Bool.{eq-eqb, Decides.{nat_tests}}
+use Rattle.zr_kinds.specs.{declared.ring.Completion.{Completion}, CopyingReceiver.{Placed, nothing_placed, values_from}}
+use Rattle.tcp_reorder.{specs.{declared.places.Span.{Span}, Queue.{Queue}, Gaps.{LosesFirst}, Values.{Holds}}, proofs.Holding.{IsPopped, Holds-popped}}
+use Rattle.board_face.specs.{declared.views.app.{TakenNote.{TakenNote}, HeldPiece.{HeldPiece}, LentPiece.{LentPiece}, AppView.{AppView}}, AppEvents.{app_saw}}
 use Rattle.board_face.specs.declared.views.app.AppLook.{AppLook}
-use Rattle.flow_queues.specs.Lent.{LentNext}
-use Rattle.flow_queues.proofs.Tokens.{total-append, in-total}
-use Rattle.flow_queues.proofs.Lends.{over-first, each-first}
-use Rattle.flow_queues.proofs.Placing.{values-split}
+use Rattle.flow_queues.specs.{declared.queues.{Waiting.{Waiting}, Lending.{Lending}, FlowQueue.{FlowQueue}}, Marks.{Mark}}
+use Rattle.flow_queues.specs.Core.{total, IsIn, lent_piece, over_kept, marks_of_waiting, marks_of_loan, received_notes, own_notes, BeginAt, lent_marks}
+use Rattle.flow_queues.{specs.{Core.{placed_of, IsOfNote, FlowStands, Each, many, over_read, Stands}, Lent.{LentNext}}, proofs.Tokens.{total-append, in-total}}
+use Rattle.flow_queues.proofs.{Lends.{over-first, each-first}, Placing.{values-split}}
 
 -- ---- lists
 

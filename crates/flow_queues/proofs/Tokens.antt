@@ -1,20 +1,11 @@
 -- Tokens that are out, under the events of the face.
-use Rattle.std.proofs.Common.{◌≡◌, ℕ, suc, ◌+◌, ◌<◌, ◌≤◌, Bool, true, false, List, [], ◌∷◌, ◌++◌, map, refl, sym, ap, subst}
-use Rattle.std.proofs.Common.{◌∙◌, arith, ⊎_elim, inl, inr}
-use Rattle.std.specs.Prelude.{if◌then◌else◌, Contains, ◌==◌, ◌&&◌, nat_le, nat_lt}
-use Rattle.std.proofs.lemmas.Bool.{cases_Bool, le-leb, lt-ltb, eq-eqb, and_parts}
+use Rattle.std.proofs.Common.{◌≡◌, ℕ, suc, ◌+◌, ◌<◌, ◌≤◌, Bool, true, false, List, [], ◌∷◌, ◌++◌, map, refl, sym, ap, subst, ◌∙◌, arith, ⊎_elim, inl, inr}
+use Rattle.std.{specs.Prelude.{if◌then◌else◌, Contains, ◌==◌, ◌&&◌, nat_le, nat_lt}, proofs.lemmas.Bool.{cases_Bool, le-leb, lt-ltb, eq-eqb, and_parts}}
 use Rattle.std.proofs.lemmas.Bool.Decides.{nat_tests}
-use Rattle.zr_kinds.specs.Limits.{longest_payload}
-use Rattle.zr_kinds.specs.declared.place.Place.{Place}
-use Rattle.board_face.specs.Lists.{without, at_first, same_place}
-use Rattle.board_face.specs.Texts.{further, front_place, rest_place}
-use Rattle.board_face.specs.AppEvents.{cut, released, lent, gave}
-use Rattle.board_face.specs.declared.views.app.Origin.{Origin}
-use Rattle.board_face.specs.declared.views.app.Origin.TheVariants.{Note as of_note, Copied as of_copy}
-use Rattle.board_face.specs.declared.views.app.HeldPiece.{HeldPiece}
-use Rattle.board_face.specs.declared.views.app.LentPiece.{LentPiece}
-use Rattle.board_face.specs.declared.views.app.AppView.{AppView}
-use Rattle.board_face.proofs.ListLemmas.{same_place-refl, same_place-is}
+use Rattle.zr_kinds.specs.{Limits.{longest_payload}, declared.place.Place.{Place}}
+use Rattle.board_face.specs.{Lists.{without, at_first, same_place}, Texts.{further, front_place, rest_place}, AppEvents.{cut, released, lent, gave}}
+use Rattle.board_face.specs.declared.views.app.{Origin.{Origin, TheVariants.{Note as of_note, Copied as of_copy}}, HeldPiece.{HeldPiece}, LentPiece.{LentPiece}}
+use Rattle.board_face.{specs.declared.views.app.AppView.{AppView}, proofs.ListLemmas.{same_place-refl, same_place-is}}
 use Rattle.area_layout.specs.Layout.{Shape, LiesIn, size_of, total as buffers_of}
 use Rattle.flow_queues.specs.Core.{total, IsIn, has_at, is_odd, LieApart}
 

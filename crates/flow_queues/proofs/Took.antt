@@ -1,38 +1,16 @@
 -- A note was taken, and its piece entered.
 use Rattle.std.proofs.Common.{◌≡◌, ◌≢◌, ℕ, ◌+◌, ◌<◌, ◌≤◌, false, List, [], ◌∷◌, ◌++◌, length, set, get_or, refl}
-use Rattle.std.proofs.Common.{sym, ap, subst, ◌∙◌, arith, ⊎_elim, inl, inr, length-append}
-use Rattle.std.specs.Prelude.{◌==◌, All}
-use Rattle.std.proofs.lemmas.Bool.{cases_lt, cases_eq, ne_eqb}
-use Rattle.std.proofs.lemmas.Bool.Decides.{nat_tests}
-use Rattle.std.proofs.lemmas.List.Elements.{All-head, All-tail}
-use Rattle.zr_kinds.specs.Limits.{longest_payload}
-use Rattle.zr_kinds.specs.declared.place.Place.{Place}
-use Rattle.zr_kinds.specs.declared.place.Note.{Note}
-use Rattle.zr_kinds.specs.declared.ring.Completion.{Completion}
+use Rattle.std.{proofs.{Common.{sym, ap, subst, ◌∙◌, arith, ⊎_elim, inl, inr, length-append}, lemmas.Bool.{cases_lt, cases_eq, ne_eqb}}, specs.Prelude.{◌==◌, All}}
+use Rattle.std.proofs.lemmas.{Bool.Decides.{nat_tests}, List.Elements.{All-head, All-tail}}
+use Rattle.zr_kinds.specs.{Limits.{longest_payload}, declared.{place.{Place.{Place}, Note.{Note}}, ring.Completion.{Completion}}}
 use Rattle.zr_kinds.specs.CopyingReceiver.{Placed, nothing_placed}
-use Rattle.tcp_reorder.specs.Queue.{Queue}
-use Rattle.tcp_reorder.specs.Values.{Holds}
-use Rattle.tcp_reorder.proofs.Holding.{Holds-nothing}
-use Rattle.board_face.specs.Tokens.{AreApart}
-use Rattle.board_face.specs.AppCalls.{TookNote}
-use Rattle.board_face.specs.declared.views.app.Origin.TheVariants.{Note as of_note}
-use Rattle.board_face.specs.declared.views.app.TakenNote.{TakenNote}
-use Rattle.board_face.specs.declared.views.app.HeldPiece.{HeldPiece}
-use Rattle.board_face.specs.declared.views.app.LentPiece.{LentPiece}
-use Rattle.board_face.specs.declared.views.app.AppView.{AppView}
-use Rattle.flow_queues.specs.declared.queues.Waiting.{Waiting}
-use Rattle.flow_queues.specs.declared.queues.Lending.{Lending}
-use Rattle.flow_queues.specs.declared.queues.FlowQueue.{FlowQueue}
-use Rattle.flow_queues.specs.Marks.{Mark}
-use Rattle.board_face.specs.declared.views.parts.Setting.{Setting}
-use Rattle.flow_queues.specs.Core.{total, IsIn, LieApart, has_at, is_odd, held_piece, lent_piece, over_kept, over_read, IsOfNote, marks_of_waiting}
-use Rattle.flow_queues.specs.Core.{received_note}
-use Rattle.flow_queues.specs.Core.{own_notes, FlowStands, Each}
-use Rattle.flow_queues.specs.Core.{many, HasTokens, Stands}
-use Rattle.flow_queues.specs.Pieces.{whole_piece}
-use Rattle.flow_queues.specs.Flows.{fresh_flow, IsChosen}
-use Rattle.flow_queues.proofs.Tokens.{total-append, in-right, in-total, not-odd}
-use Rattle.flow_queues.proofs.Placing.{next_note, own-notes-other}
+use Rattle.tcp_reorder.{specs.{Queue.{Queue}, Values.{Holds}}, proofs.Holding.{Holds-nothing}}
+use Rattle.board_face.specs.{Tokens.{AreApart}, AppCalls.{TookNote}, declared.views.app.{Origin.TheVariants.{Note as of_note}, TakenNote.{TakenNote}}}
+use Rattle.board_face.specs.declared.views.{app.{HeldPiece.{HeldPiece}, LentPiece.{LentPiece}, AppView.{AppView}}, parts.Setting.{Setting}}
+use Rattle.flow_queues.specs.{declared.queues.{Waiting.{Waiting}, Lending.{Lending}, FlowQueue.{FlowQueue}}, Marks.{Mark}}
+use Rattle.flow_queues.specs.Core.{total, IsIn, LieApart, has_at, is_odd, held_piece, lent_piece, over_kept, over_read, IsOfNote, marks_of_waiting, received_note}
+use Rattle.flow_queues.specs.{Core.{own_notes, FlowStands, Each, many, HasTokens, Stands}, Pieces.{whole_piece}, Flows.{fresh_flow, IsChosen}}
+use Rattle.flow_queues.proofs.{Tokens.{total-append, in-right, in-total, not-odd}, Placing.{next_note, own-notes-other}}
 use Rattle.flow_queues.proofs.Standing.{At, split-at, each-map, each-right, each-join, is_number, number-is, number-not, total-changed, many-same, each-changed}
 use Rattle.flow_queues.proofs.NotesStay.{flow-took, flow-took-other, flow-begun, loans-still, due-still, due-known}
 

@@ -1,16 +1,11 @@
 -- Where the pieces of each frame stand together among all notes, they do so among those of a flow.
-use Rattle.std.proofs.Common.{◌≡◌, ◌≢◌, ℕ, List, [], ◌∷◌, true, false, refl, sym, subst, ◌∙◌, ⊎_elim, inl, inr}
-use Rattle.std.proofs.Common.{arith}
-use Rattle.std.specs.Prelude.{◌==◌, ◌⊎◌}
-use Rattle.std.proofs.lemmas.Bool.{cases_Bool, cases_eq, eqb-true}
-use Rattle.std.proofs.lemmas.Bool.Decides.{nat_tests}
+use Rattle.std.{proofs.Common.{◌≡◌, ◌≢◌, ℕ, List, [], ◌∷◌, true, false, refl, sym, subst, ◌∙◌, ⊎_elim, inl, inr, arith}, specs.Prelude.{◌==◌, ◌⊎◌}}
+use Rattle.std.proofs.lemmas.Bool.{cases_Bool, cases_eq, eqb-true, Decides.{nat_tests}}
 use Rattle.zr_kinds.specs.CopyingReceiver.{nothing_placed}
 use Rattle.board_face.specs.declared.views.app.TakenNote.{TakenNote}
 use Rattle.flow_queues.specs.declared.queues.FlowQueue.{FlowQueue}
 use Rattle.flow_queues.specs.Marks.{Numbered, of_flow, base_of, frames_of, received_frames, placed_marks, AreOfOthers, Follows, LiesInFrame, AllStand}
-use Rattle.flow_queues.specs.Core.{received_notes, own_notes, placed_of, BeginAt}
-use Rattle.flow_queues.proofs.Bridge.{StandOn, notes-are-frames}
-use Rattle.flow_queues.proofs.InParts.{AreSame}
+use Rattle.flow_queues.{specs.Core.{received_notes, own_notes, placed_of, BeginAt}, proofs.{Bridge.{StandOn, notes-are-frames}, InParts.{AreSame}}}
 
 abbrev pub StandWhole : List Numbered → Type 0
 StandWhole [] = Unit {0}

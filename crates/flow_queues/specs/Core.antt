@@ -1,28 +1,14 @@
 -- What the queues of flows keep, and how that stands to what a face has seen.
-use Rattle.std.specs.Prelude.{◌≡◌, ℕ, ◌+◌, ◌-◌, ◌≤◌, nat_lt, nat_le, ◌==◌, ◌&&◌, ◌||◌, ◌⊎◌, ◌<◌, Bool}
-use Rattle.std.specs.Prelude.{false, if◌then◌else◌}
+use Rattle.std.specs.Prelude.{◌≡◌, ℕ, ◌+◌, ◌-◌, ◌≤◌, nat_lt, nat_le, ◌==◌, ◌&&◌, ◌||◌, ◌⊎◌, ◌<◌, Bool, false, if◌then◌else◌}
 use Rattle.std.specs.Prelude.{List, [], ◌∷◌, ◌++◌, length, take, drop, slice_get, Option, Some, None, MatchBool, true}
-use Rattle.zr_kinds.specs.Limits.{longest_payload}
-use Rattle.zr_kinds.specs.declared.place.Place.{Place}
-use Rattle.area_layout.specs.Layout.{Shape, size_of, total as buffers_of}
-use Rattle.zr_kinds.specs.declared.ring.Completion.{Completion}
+use Rattle.zr_kinds.specs.{Limits.{longest_payload}, declared.{place.Place.{Place}, ring.Completion.{Completion}}}
 use Rattle.zr_kinds.specs.CopyingReceiver.{Placed, nothing_placed, next_missing, lead, accepts, filled, value_at, values_from}
-use Rattle.tcp_reorder.specs.Queue.{Queue}
-use Rattle.tcp_reorder.specs.Values.{Holds}
-use Rattle.board_face.specs.declared.views.app.Origin.{Origin}
-use Rattle.board_face.specs.declared.views.app.Origin.TheVariants.{Note as of_note, Copied as of_copy}
-use Rattle.board_face.specs.declared.views.app.HeldPiece.{HeldPiece}
-use Rattle.board_face.specs.declared.views.app.LentPiece.{LentPiece}
-use Rattle.board_face.specs.declared.views.app.Reading.{Reading}
-use Rattle.board_face.specs.declared.views.app.TakenNote.{TakenNote}
-use Rattle.board_face.specs.declared.views.app.AppView.{AppView}
-use Rattle.flow_queues.specs.declared.queues.NotePiece.{NotePiece}
-use Rattle.flow_queues.specs.declared.queues.Short.{Short}
-use Rattle.flow_queues.specs.declared.queues.Waiting.{Waiting}
-use Rattle.flow_queues.specs.declared.queues.Waiting.TheVariants.{InArea, Copied}
-use Rattle.flow_queues.specs.declared.queues.Lending.{Lending}
-use Rattle.flow_queues.specs.declared.queues.FlowQueue.{FlowQueue}
-use Rattle.flow_queues.specs.Marks.{Mark, marks_from, Numbered, numbered, of_flow, marks_of_note}
+use Rattle.area_layout.specs.Layout.{Shape, size_of, total as buffers_of}
+use Rattle.tcp_reorder.specs.{Queue.{Queue}, Values.{Holds}}
+use Rattle.board_face.specs.declared.views.app.{Origin.{Origin, TheVariants.{Note as of_note, Copied as of_copy}}, HeldPiece.{HeldPiece}, LentPiece.{LentPiece}}
+use Rattle.board_face.specs.declared.views.app.{Reading.{Reading}, TakenNote.{TakenNote}, AppView.{AppView}}
+use Rattle.flow_queues.specs.declared.queues.{NotePiece.{NotePiece}, Short.{Short}, Waiting.{Waiting, TheVariants.{InArea, Copied}}, Lending.{Lending}}
+use Rattle.flow_queues.specs.{declared.queues.FlowQueue.{FlowQueue}, Marks.{Mark, marks_from, Numbered, numbered, of_flow, marks_of_note}}
 
 -- ---- sums over lists, by recursion, so that they compute
 

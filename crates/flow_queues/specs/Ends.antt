@@ -1,18 +1,12 @@
 -- What an application leaves, as plain data: how that stands to what its face has seen, and to what its shelf had and has. Nothing here
 -- looks at what it kept, so it is the same for each kind of application.
-use Rattle.std.specs.Prelude.{◌≡◌, ◌≢◌, ℕ, ◌+◌, ◌*◌, ◌<◌, ◌≤◌, ◌==◌, true, if◌then◌else◌}
-use Rattle.std.specs.Prelude.{List, [], ◌∷◌, length, take, drop, Option}
-use Rattle.zr_kinds.specs.declared.behaviour.Behaviour.{Behaviour}
-use Rattle.zr_kinds.specs.declared.behaviour.Stopped.{Stopped}
+use Rattle.std.specs.Prelude.{◌≡◌, ◌≢◌, ℕ, ◌+◌, ◌*◌, ◌<◌, ◌≤◌, ◌==◌, true, if◌then◌else◌, List, [], ◌∷◌, length, take, drop, Option}
+use Rattle.zr_kinds.specs.declared.behaviour.{Behaviour.{Behaviour}, Stopped.{Stopped}}
 use Rattle.zr_kinds.specs.declared.behaviour.Stopped.TheVariants as stop
 use Rattle.zr_io.specs.Moved.{Gained, Rose}
 use Rattle.board_face.specs.declared.views.app.AppView.{AppView}
-use Rattle.flow_queues.specs.declared.queues.FlowQueue.{FlowQueue}
-use Rattle.flow_queues.specs.Marks.{FramesStandTogether, marks_of}
-use Rattle.flow_queues.specs.Core.{total, Each, own_notes, most_at_once}
-use Rattle.flow_queues.specs.Shelves.{AreOfOneLoan}
-use Rattle.flow_queues.specs.Totals.{Quits, capped, lent_len, loan_entries, raw_entries, taken_len}
-use Rattle.flow_queues.specs.Streams.{HasAll, HasFronts}
+use Rattle.flow_queues.specs.{declared.queues.FlowQueue.{FlowQueue}, Marks.{FramesStandTogether, marks_of}, Core.{total, Each, own_notes, most_at_once}}
+use Rattle.flow_queues.specs.{Shelves.{AreOfOneLoan}, Totals.{Quits, capped, lent_len, loan_entries, raw_entries, taken_len}, Streams.{HasAll, HasFronts}}
 
 pub record AppEnd : Type 0 where
   pub written : ℕ

@@ -1,11 +1,8 @@
 -- Flows by their numbers, and which of them have something in order.
-use Rattle.std.specs.Prelude.{◌≡◌, ℕ, zero, suc, ◌<◌, ◌⊎◌, List, [], ◌∷◌, ◌++◌, length, Option, MatchOption, slice_index_or}
-use Rattle.std.specs.Map.{lookup}
-use Rattle.std.specs.Ordering.{is_eq, nat_cmp}
+use Rattle.std.specs.{Prelude.{◌≡◌, ℕ, zero, suc, ◌<◌, ◌⊎◌, List, [], ◌∷◌, ◌++◌, length, Option, MatchOption, slice_index_or}, Map.{lookup}, Ordering.{is_eq, nat_cmp}}
 use Rattle.zr_kinds.specs.declared.place.Note.{Note}
 use Rattle.tcp_reorder.specs.Queue.{next_of}
-use Rattle.flow_queues.specs.declared.queues.FlowQueue.{FlowQueue}
-use Rattle.flow_queues.specs.Core.{Each, many}
+use Rattle.flow_queues.specs.{declared.queues.FlowQueue.{FlowQueue}, Core.{Each, many}}
 
 -- no piece of the flow is in order
 abbrev pub IsAtRest : FlowQueue → Type 0

@@ -1,20 +1,9 @@
 -- What is next in a stream is lent.
 use Rattle.std.specs.Prelude.{◌≡◌, ◌≢◌, ℕ, ◌+◌, ◌<◌, Bool, true, false, Some, length}
-use Rattle.tcp_reorder.specs.declared.places.Span.{Span}
-use Rattle.tcp_reorder.specs.Queue.{Kept, Queue, next_of, front_of, IsSound}
-use Rattle.tcp_reorder.specs.Gaps.{LosesFirst}
-use Rattle.board_face.specs.AppCalls.{AppOnlySaw}
-use Rattle.board_face.specs.AppEvents.{app_saw, came_to_rest}
-use Rattle.board_face.specs.Looks.{AppRose, AppLooksStay}
-use Rattle.board_face.specs.declared.views.app.AppLook.TheVariants.{RawOnItsWay, NoSpare}
-use Rattle.board_face.specs.declared.views.app.HeldPiece.{HeldPiece}
-use Rattle.board_face.specs.declared.views.app.LentPiece.{LentPiece}
-use Rattle.board_face.specs.declared.views.app.AppView.{AppView}
-use Rattle.flow_queues.specs.declared.queues.Waiting.{Waiting}
-use Rattle.flow_queues.specs.declared.queues.Waiting.TheVariants.{InArea, Copied}
-use Rattle.flow_queues.specs.declared.queues.Lending.{Lending}
-use Rattle.flow_queues.specs.declared.queues.FlowQueue.{FlowQueue}
-use Rattle.flow_queues.specs.declared.lending.Next.{Next}
+use Rattle.tcp_reorder.specs.{declared.places.Span.{Span}, Queue.{Kept, Queue, next_of, front_of, IsSound}, Gaps.{LosesFirst}}
+use Rattle.board_face.specs.{AppCalls.{AppOnlySaw}, AppEvents.{app_saw, came_to_rest}, Looks.{AppRose, AppLooksStay}}
+use Rattle.board_face.specs.declared.views.app.{AppLook.TheVariants.{RawOnItsWay, NoSpare}, HeldPiece.{HeldPiece}, LentPiece.{LentPiece}, AppView.{AppView}}
+use Rattle.flow_queues.specs.declared.{queues.{Waiting.{Waiting, TheVariants.{InArea, Copied}}, Lending.{Lending}, FlowQueue.{FlowQueue}}, lending.Next.{Next}}
 use Rattle.flow_queues.specs.declared.lending.Next.TheVariants.{Lent, LentCopy, NoneInOrder, Unsettled, ReserveHeld}
 use Rattle.flow_queues.specs.Core.{total, LieApart, lent_piece, is_copy, over_waiting, short_len, held_len, marks_of_waiting, marks_of_loan}
 

@@ -1,10 +1,8 @@
 -- Marks: which place of which note stands at each position of a flow. It is the copying receiver, over (note, place) in
 -- place of bytes: notes are counted from 0 in the order in which they were taken, and a place is a byte of the note's
 -- piece.
-use Rattle.std.specs.Prelude.{◌≡◌, ◌≢◌, ℕ, zero, suc, ◌+◌, ◌≤◌, ◌==◌, if◌then◌else◌, List, [], ◌∷◌, ◌++◌}
-use Rattle.std.specs.Prelude.{filter}
-use Rattle.zr_kinds.specs.Limits.{longest_payload}
-use Rattle.zr_kinds.specs.declared.place.Note.{Note}
+use Rattle.std.specs.Prelude.{◌≡◌, ◌≢◌, ℕ, zero, suc, ◌+◌, ◌≤◌, ◌==◌, if◌then◌else◌, List, [], ◌∷◌, ◌++◌, filter}
+use Rattle.zr_kinds.specs.{Limits.{longest_payload}, declared.place.Note.{Note}}
 use Rattle.zr_kinds.specs.CopyingReceiver.{Placed, nothing_placed, next_missing, lead, accepts, filled, front_of}
 use Rattle.board_face.specs.declared.views.app.TakenNote.{TakenNote}
 

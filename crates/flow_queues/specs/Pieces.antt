@@ -1,15 +1,8 @@
 -- Pieces that wait are cut, and given up.
-use Rattle.std.specs.Prelude.{◌≡◌, ℕ, ◌+◌, ◌<◌}
-use Rattle.std.specs.Prelude.{Option, Some, None}
+use Rattle.std.specs.Prelude.{◌≡◌, ℕ, ◌+◌, ◌<◌, Option, Some, None}
 use Rattle.zr_kinds.specs.declared.place.Place.{Place}
-use Rattle.board_face.specs.Texts.{front_place, rest_place}
-use Rattle.board_face.specs.declared.views.app.HeldPiece.{HeldPiece}
-use Rattle.board_face.specs.declared.views.app.AppView.{AppView}
-use Rattle.flow_queues.specs.declared.queues.NotePiece.{NotePiece}
-use Rattle.flow_queues.specs.declared.queues.Waiting.{Waiting}
-use Rattle.flow_queues.specs.declared.queues.Waiting.TheVariants.{InArea, Copied}
-use Rattle.board_face.specs.AppEvents.{released}
-use Rattle.flow_queues.specs.Core.{total, IsIn, LieApart, held_piece}
+use Rattle.board_face.specs.{Texts.{front_place, rest_place}, declared.views.app.{HeldPiece.{HeldPiece}, AppView.{AppView}}, AppEvents.{released}}
+use Rattle.flow_queues.specs.{declared.queues.{NotePiece.{NotePiece}, Waiting.{Waiting, TheVariants.{InArea, Copied}}}, Core.{total, IsIn, LieApart, held_piece}}
 
 -- the first bytes of a piece, and the others
 abbrev pub front_of_piece : NotePiece → ℕ → NotePiece

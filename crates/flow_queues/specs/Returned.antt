@@ -1,15 +1,9 @@
 -- What an application that has left did with its loans: which it gave back by entries, which it kept to the end, and what followed
 -- each entry.
 use Rattle.std.specs.Prelude.{◌≡◌, ◌≤◌, ◌+◌, ℕ, min, length, take, drop}
-use Rattle.zr_kinds.specs.declared.behaviour.Behaviour.{Behaviour}
-use Rattle.zr_kinds.specs.declared.behaviour.Stopped.{Stopped}
-use Rattle.zr_kinds.specs.declared.behaviour.Stopped.TheVariants.{No}
-use Rattle.zr_kinds.specs.declared.ring.Rqe.{Rqe}
-use Rattle.board_face.specs.AppEvents.{reserve_of}
-use Rattle.board_face.specs.declared.views.app.AppView.{AppView}
-use Rattle.flow_queues.specs.Core.{total}
-use Rattle.flow_queues.specs.Entries.{AreBlocks, Gives, WasLive, lies_in, returned_aside}
-use Rattle.flow_queues.specs.Totals.{capped, lent_len, loan_entries}
+use Rattle.zr_kinds.specs.declared.{behaviour.{Behaviour.{Behaviour}, Stopped.{Stopped, TheVariants.{No}}}, ring.Rqe.{Rqe}}
+use Rattle.board_face.specs.{AppEvents.{reserve_of}, declared.views.app.AppView.{AppView}}
+use Rattle.flow_queues.specs.{Core.{total}, Entries.{AreBlocks, Gives, WasLive, lies_in, returned_aside}, Totals.{capped, lent_len, loan_entries}}
 
 -- the loans that no entry gave back: as many as are to be kept to the end, or all outside the reserve where these are fewer, and
 -- none in the reserve

@@ -1,11 +1,8 @@
 -- What the shelf has of a flow, by the marks of the flow's notes.
 use Rattle.std.specs.Prelude.{◌≡◌, ℕ, List, ◌++◌, Option}
 use Rattle.zr_io.specs.Moved.{Gained}
-use Rattle.board_face.specs.declared.views.app.Reading.{Reading}
-use Rattle.board_face.specs.declared.views.app.TakenNote.{TakenNote}
-use Rattle.board_face.specs.declared.views.app.AppView.{AppView}
-use Rattle.flow_queues.specs.Marks.{Mark, marks_of}
-use Rattle.flow_queues.specs.Core.{AreReadAt}
+use Rattle.board_face.specs.declared.views.app.{Reading.{Reading}, TakenNote.{TakenNote}, AppView.{AppView}}
+use Rattle.flow_queues.specs.{Marks.{Mark, marks_of}, Core.{AreReadAt}}
 
 -- these are the bytes at the first of these marks, one at each
 pub record IsFront (taken : List TakenNote) (reads : List Reading) (marks : List Mark) (bytes : List ℕ) : Type 0 where

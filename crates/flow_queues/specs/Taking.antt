@@ -1,21 +1,11 @@
 -- What a note does to the queues.
 use Rattle.std.specs.Prelude.{◌≡◌, ℕ, ◌+◌, ◌<◌, ◌≤◌, ◌⊎◌, true, false, List, length, Some, slice_get, slice_index_or, slice_set}
-use Rattle.zr_kinds.specs.declared.place.Note.{Note}
-use Rattle.zr_kinds.specs.declared.place.Place.{Place}
-use Rattle.zr_kinds.specs.CopyingReceiver.{Placed}
-use Rattle.tcp_reorder.specs.Queue.{Queue}
-use Rattle.tcp_reorder.specs.Values.{Holds}
-use Rattle.board_face.specs.AppEvents.{released}
-use Rattle.board_face.specs.declared.views.app.HeldPiece.{HeldPiece}
-use Rattle.board_face.specs.declared.views.app.TakenNote.{TakenNote}
-use Rattle.board_face.specs.declared.views.app.AppView.{AppView}
-use Rattle.flow_queues.specs.declared.queues.NotePiece.{NotePiece}
-use Rattle.flow_queues.specs.declared.queues.Waiting.{Waiting}
-use Rattle.flow_queues.specs.declared.queues.FlowQueue.{FlowQueue}
-use Rattle.flow_queues.specs.Marks.{Mark, Numbered}
+use Rattle.zr_kinds.specs.{declared.place.{Note.{Note}, Place.{Place}}, CopyingReceiver.{Placed}}
+use Rattle.tcp_reorder.specs.{Queue.{Queue}, Values.{Holds}}
+use Rattle.board_face.specs.{AppEvents.{released}, declared.views.app.{HeldPiece.{HeldPiece}, TakenNote.{TakenNote}, AppView.{AppView}}}
+use Rattle.flow_queues.specs.{declared.queues.{NotePiece.{NotePiece}, Waiting.{Waiting}, FlowQueue.{FlowQueue}}, Marks.{Mark, Numbered}}
 use Rattle.flow_queues.specs.Core.{total, held_piece, over_kept, held_len, short_bytes, marks_of_waiting, received_note, IsOfNote, Each}
-use Rattle.flow_queues.specs.Pieces.{OnlyHelds, whole_piece}
-use Rattle.flow_queues.specs.Flows.{IsIndex, IsChosen}
+use Rattle.flow_queues.specs.{Pieces.{OnlyHelds, whole_piece}, Flows.{IsIndex, IsChosen}}
 
 -- The queue of the note's flow, made where there was none, stands at this place and keeps something else now. No other changed.
 pub record Changes (was now : List FlowQueue) (index : List (ℕ × ℕ)) (note : Note) (i : ℕ) : Type 0 where

@@ -1,12 +1,8 @@
 -- What is counted of an application: of what its face has seen, and of its flows.
 use Rattle.std.specs.Prelude.{◌≡◌, ◌≢◌, ◌↔◌, ℕ, ◌+◌, ◌-◌, ◌^◌, ◌≤◌, ◌==◌, min, if◌then◌else◌, List, Option, Some, None}
-use Rattle.zr_kinds.specs.declared.behaviour.Stopped.{Stopped}
-use Rattle.zr_kinds.specs.declared.behaviour.Stopped.TheVariants.{Quit}
-use Rattle.board_face.specs.declared.views.app.LentPiece.{LentPiece}
-use Rattle.board_face.specs.declared.views.app.TakenNote.{TakenNote}
-use Rattle.board_face.specs.declared.views.app.AppView.{AppView}
-use Rattle.flow_queues.specs.declared.queues.FlowQueue.{FlowQueue}
-use Rattle.flow_queues.specs.Core.{total}
+use Rattle.zr_kinds.specs.declared.behaviour.Stopped.{Stopped, TheVariants.{Quit}}
+use Rattle.board_face.specs.declared.views.app.{LentPiece.{LentPiece}, TakenNote.{TakenNote}, AppView.{AppView}}
+use Rattle.flow_queues.specs.{declared.queues.FlowQueue.{FlowQueue}, Core.{total}}
 
 -- a count stays at 2^64 - 1
 abbrev pub capped : ℕ → ℕ

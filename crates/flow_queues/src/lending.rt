@@ -1,12 +1,8 @@
 //! What is next in a stream is lent: a piece that lies in the area, or a copy of bytes that came with their note.
 ghost use Rattle.std.specs.Prelude.{◌≡◌, true, false, ℕ, ◌+◌, ◌≤◌, [], None, MatchOption};
 ghost use Rattle.tcp_reorder.specs.Values.{AreSized};
-ghost use Rattle.board_face.specs.AppCalls.{IsHere};
-ghost use Rattle.board_face.specs.AppEvents.{app_gist};
-ghost use Rattle.board_face.specs.declared.views.app.AppLook.TheVariants.{RawOnItsWay, NoSpare};
-ghost use Rattle.board_face.specs.declared.views.app.HeldPiece.{HeldPiece};
-ghost use Rattle.flow_queues.specs.Core.{LieApart, total, over_kept, marks_of_waiting, short_bytes, unsplit_len, IsOfNote, Each, lent_piece, is_copy};
-ghost use Rattle.flow_queues.specs.Lent.{IsNext, LentNext, LendsNext, SawNoSpare};
+ghost use Rattle.board_face.specs.{AppCalls.{IsHere}, AppEvents.{app_gist}, declared.views.app.{AppLook.TheVariants.{RawOnItsWay, NoSpare}, HeldPiece.{HeldPiece}}};
+ghost use Rattle.flow_queues.specs.{Core.{LieApart, total, over_kept, marks_of_waiting, short_bytes, unsplit_len, IsOfNote, Each, lent_piece, is_copy}, Lent.{IsNext, LentNext, LendsNext, SawNoSpare}};
 
 use crate::queues::{FlowQueue, Lending, Short, Waiting};
 use board_face::AppFace;

@@ -1,10 +1,7 @@
 //! All pieces that wait are given up.
 ghost use Rattle.std.specs.Prelude.{◌≡◌, ℕ, ◌+◌, ◌<◌, ◌≤◌, [], map};
-ghost use Rattle.board_face.specs.declared.views.app.HeldPiece.{HeldPiece};
-ghost use Rattle.board_face.specs.AppCalls.{IsHere};
-ghost use Rattle.flow_queues.specs.Core.{LieApart, total, over_kept, short_bytes};
-ghost use Rattle.flow_queues.specs.Pieces.{OnlyHelds};
-ghost use Rattle.flow_queues.specs.Flows.{facts_of};
+ghost use Rattle.board_face.specs.{declared.views.app.HeldPiece.{HeldPiece}, AppCalls.{IsHere}};
+ghost use Rattle.flow_queues.specs.{Core.{LieApart, total, over_kept, short_bytes}, Pieces.{OnlyHelds}, Flows.{facts_of}};
 
 use crate::queues::{FlowQueue, Waiting, give_back};
 use board_face::AppFace;

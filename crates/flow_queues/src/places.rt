@@ -1,8 +1,6 @@
 //! Flows are found by their numbers.
-ghost use Rattle.std.specs.Prelude.{◌≡◌, ◌-◌, ◌<◌, Option, length, MatchResult};
-ghost use Rattle.std.specs.Prelude.{OnOk};
-ghost use Rattle.flow_queues.specs.Flows.{IsIndex, place_in};
-ghost use Rattle.flow_queues.specs.Flows.{IsChosen};
+ghost use Rattle.std.specs.Prelude.{◌≡◌, ◌-◌, ◌<◌, Option, length, MatchResult, OnOk};
+ghost use Rattle.flow_queues.specs.Flows.{IsIndex, place_in, IsChosen};
 
 use crate::queues::{FlowQueue, Wanting};
 use std::alloc::Global;

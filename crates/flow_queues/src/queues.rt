@@ -1,16 +1,9 @@
 //! What waits in the queues of flows: pieces are cut by what the flow still wants, and enter.
-ghost use Rattle.std.specs.Prelude.{◌≡◌, true, false, ◌+◌, ◌-◌, ◌^◌, ◌<◌};
-ghost use Rattle.std.specs.Prelude.{◌≤◌, IfSome, OnOk, List, Some, slice_get};
+ghost use Rattle.std.specs.Prelude.{◌≡◌, true, false, ◌+◌, ◌-◌, ◌^◌, ◌<◌, ◌≤◌, IfSome, OnOk, List, Some, slice_get};
 ghost use Rattle.zr_kinds.specs.CopyingReceiver.{Placed};
 ghost use Rattle.tcp_reorder.specs.Values.{Holds};
-ghost use Rattle.board_face.specs.AppCalls.{IsHere};
-ghost use Rattle.board_face.specs.Texts.{IsSplitNote};
-ghost use Rattle.flow_queues.specs.Marks.{Mark};
-ghost use Rattle.flow_queues.specs.Core.{LieApart, IsIn, total, held_piece, over_kept, marks_of_waiting, received_note, short_bytes, IsOfNote, Each};
-ghost use Rattle.board_face.specs.declared.views.app.TakenNote.{TakenNote};
-ghost use Rattle.flow_queues.specs.Core.{held_len};
-ghost use Rattle.flow_queues.specs.Pieces.{OnlyHelds, GaveFront, CutFirst, whole_piece, over_others, IsOut, given_back};
-ghost use Rattle.flow_queues.specs.Lent.{is_short};
+ghost use Rattle.board_face.specs.{AppCalls.{IsHere}, Texts.{IsSplitNote}, declared.views.app.TakenNote.{TakenNote}};
+ghost use Rattle.flow_queues.specs.{Marks.{Mark}, Core.{LieApart, IsIn, total, held_piece, over_kept, marks_of_waiting, received_note, short_bytes, IsOfNote, Each, held_len}, Pieces.{OnlyHelds, GaveFront, CutFirst, whole_piece, over_others, IsOut, given_back}, Lent.{is_short}};
 
 use board_face::{AppFace, Held, Loan};
 use tcp_reorder::RecvQueue;

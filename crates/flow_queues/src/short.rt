@@ -1,12 +1,9 @@
 //! A short payload enters its flow's queue.
 ghost use Rattle.std.specs.Prelude.{◌≡◌, false, ℕ, ◌+◌, ◌≤◌, List, length, OnOk, Some, slice_get};
-ghost use Rattle.board_face.specs.Texts.{IsLinearNote};
-ghost use Rattle.board_face.specs.declared.views.app.HeldPiece.{HeldPiece};
-ghost use Rattle.board_face.specs.declared.views.app.TakenNote.{TakenNote};
+ghost use Rattle.board_face.specs.{Texts.{IsLinearNote}, declared.views.app.{HeldPiece.{HeldPiece}, TakenNote.{TakenNote}}};
 ghost use Rattle.tcp_reorder.specs.Values.{Holds};
 ghost use Rattle.zr_kinds.specs.CopyingReceiver.{Placed};
-ghost use Rattle.flow_queues.specs.Marks.{Mark};
-ghost use Rattle.flow_queues.specs.Core.{over_kept, short_bytes, marks_of_waiting, received_note, IsOfNote, Each};
+ghost use Rattle.flow_queues.specs.{Marks.{Mark}, Core.{over_kept, short_bytes, marks_of_waiting, received_note, IsOfNote, Each}};
 
 use crate::queues::{Short, Waiting, Wanting};
 use std::alloc::Global;

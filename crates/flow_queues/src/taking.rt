@@ -1,14 +1,8 @@
 //! A note is taken: what its flow wants of it enters the flow's queue, which is made where there is none.
 ghost use Rattle.std.specs.Prelude.{◌≡◌, ℕ, ◌+◌, List, MatchResult, length, take};
 ghost use Rattle.zr_kinds.specs.declared.ring.Completion.{Completion};
-ghost use Rattle.board_face.specs.AppCalls.{IsHere, TookNote, TookLinear};
-ghost use Rattle.board_face.specs.declared.views.app.AppView.{AppView};
-ghost use Rattle.flow_queues.specs.declared.queues.Lending.{Lending};
-ghost use Rattle.board_face.specs.Texts.{IsLinearNote, IsSplitNote};
-ghost use Rattle.flow_queues.specs.Core.{IsIn, LieApart, held_piece, HasTokens, Stands};
-ghost use Rattle.flow_queues.specs.Pieces.{whole_piece};
-ghost use Rattle.flow_queues.specs.Flows.{IsIndex};
-ghost use Rattle.flow_queues.specs.Taking.{TakesPiece, LosesPiece, TakesPayload, LosesPayload};
+ghost use Rattle.board_face.specs.{AppCalls.{IsHere, TookNote, TookLinear}, declared.views.app.AppView.{AppView}, Texts.{IsLinearNote, IsSplitNote}};
+ghost use Rattle.flow_queues.specs.{declared.queues.Lending.{Lending}, Core.{IsIn, LieApart, held_piece, HasTokens, Stands}, Pieces.{whole_piece}, Flows.{IsIndex}, Taking.{TakesPiece, LosesPiece, TakesPayload, LosesPayload}};
 
 use crate::places::place_for;
 use crate::queues::{FlowQueue, Wanting, enter};

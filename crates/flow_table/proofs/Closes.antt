@@ -1,13 +1,8 @@
 -- How a flow is closed behind a list of steered segments: as its own segments close it, one after another.
 use Rattle.std.proofs.Common.{◌≡◌, ◌≢◌, ℕ, zero, suc, ◌≤◌, List, [], ◌∷◌, ◌++◌, length, Option, Some, None, Bool, true, false, refl, sym, ap, ◌∙◌}
-use Rattle.std.proofs.Common.{if◌then◌else◌, ◌==◌, arith}
-use Rattle.std.specs.List.{slice_get}
-use Rattle.std.proofs.lemmas.Bool.{cond-false, ne_eqb}
-use Rattle.std.proofs.lemmas.Bool.Decides.{nat_tests}
-use Rattle.flow_table.specs.Steered.{SteeredTcp}
-use Rattle.flow_table.specs.CountedPart.{FlowClose, not_closed, closed_by}
-use Rattle.flow_table.specs.Flows.{Flow, number_of_flow, with_segment, flows_with, flows_after, of_flow_after}
-use Rattle.flow_table.proofs.FlowLaws.{number_of_flow-within}
+use Rattle.std.{proofs.{Common.{if◌then◌else◌, ◌==◌, arith}, lemmas.Bool.{cond-false, ne_eqb, Decides.{nat_tests}}}, specs.List.{slice_get}}
+use Rattle.flow_table.specs.{Steered.{SteeredTcp}, CountedPart.{FlowClose, not_closed, closed_by}}
+use Rattle.flow_table.{specs.Flows.{Flow, number_of_flow, with_segment, flows_with, flows_after, of_flow_after}, proofs.FlowLaws.{number_of_flow-within}}
 use Rattle.flow_table.proofs.Laws.{closed_after}
 
 -- how a flow is closed that may not have begun

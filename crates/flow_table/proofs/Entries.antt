@@ -1,19 +1,10 @@
 -- The entries of a table, the flows that they stand for, and the map of the newest.
 use Rattle.std.proofs.Common.{◌≡◌, ℕ, zero, suc, ◌+◌, ◌<◌, List, [], ◌∷◌, ◌++◌, length, map, set, get_or, Option, Some, Bool, true}
-use Rattle.std.proofs.Common.{false, cond, refl, sym, ap, ◌∙◌, arith, rules, if◌then◌else◌, option_map}
-use Rattle.std.specs.declared.random_state.RandomState.{RandomState}
-use Rattle.std.specs.List.{slice_get}
-use Rattle.std.proofs.lemmas.List.{map-append, length-map}
-use Rattle.std.proofs.lemmas.Option.{slice_get-map, slice_get-get_or}
+use Rattle.std.{proofs.Common.{false, cond, refl, sym, ap, ◌∙◌, arith, rules, if◌then◌else◌, option_map}, specs.declared.random_state.RandomState.{RandomState}}
+use Rattle.std.{specs.List.{slice_get}, proofs.lemmas.{List.{map-append, length-map}, Option.{slice_get-map, slice_get-get_or}}}
 use Rattle.indexmap.specs.IndexMap.{IndexMap, get}
-use Rattle.flow_table.specs.Steered.{SteeredTcp}
-use Rattle.flow_table.specs.Flows.{Flow, Numbered, same_key, newest, seen_by, with_segment}
-use Rattle.flow_table.specs.declared.entry.Key.{Key}
-use Rattle.flow_table.specs.declared.entry.FlowEntry.{FlowEntry}
-use Rattle.flow_table.specs.Kept.{key_shown, entry_shown, key_eq}
-use Rattle.flow_table.specs.Newest.{newest_number, HasNewest}
-use Rattle.flow_table.proofs.Newest.{newest_from-push}
-use Rattle.flow_table.proofs.Listing.{newest-seen}
+use Rattle.flow_table.specs.{Steered.{SteeredTcp}, Flows.{Flow, Numbered, same_key, newest, seen_by, with_segment}, declared.entry.{Key.{Key}, FlowEntry.{FlowEntry}}}
+use Rattle.flow_table.{specs.{Kept.{key_shown, entry_shown, key_eq}, Newest.{newest_number, HasNewest}}, proofs.{Newest.{newest_from-push}, Listing.{newest-seen}}}
 
 pub shown_at : (entries : List FlowEntry) (n : ℕ) (d : FlowEntry) → n < length (map entry_shown entries)
     → slice_get (map entry_shown entries) n ≡ Some (entry_shown (get_or entries n d))

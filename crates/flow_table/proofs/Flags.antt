@@ -1,7 +1,5 @@
 -- A flag as a bit of the byte of flags.
-use Rattle.std.proofs.Common.{◌≡◌, ℕ, ◌*◌, ◌/◌, ◌%◌, not, nat_eq, ◌==◌, bit_and, arith}
-use Rattle.std.proofs.lemmas.Nat.Bits.{and_pow}
-use Rattle.std.proofs.lemmas.Bool.Decides.{nat_tests}
+use Rattle.std.proofs.{Common.{◌≡◌, ℕ, ◌*◌, ◌/◌, ◌%◌, not, nat_eq, ◌==◌, bit_and, arith}, lemmas.{Nat.Bits.{and_pow}, Bool.Decides.{nat_tests}}}
 
 is_odd : (n : ℕ) → not (nat_eq (n % 2 * 2) 0) ≡ (n % 2 == 1)
 is_odd n = grind (arith, nat_tests)

@@ -1,10 +1,7 @@
 -- What becomes of the flows as one more segment is steered.
 use Rattle.std.proofs.Common.{◌≡◌, ℕ, zero, suc, ◌+◌, ◌<◌, ◌≤◌, List, [], ◌∷◌, ◌++◌, length, Option, Some, None, Bool, true}
-use Rattle.std.proofs.Common.{false, refl, sym, ap, subst, ◌∙◌, arith, if◌then◌else◌, ◌==◌, ◌&&◌, option_to_list, ⊎_elim}
-use Rattle.std.proofs.Common.{◌≢◌, ◌⊎◌, inl, inr, length-append}
-use Rattle.std.specs.List.{slice_get}
-use Rattle.std.proofs.lemmas.Bool.{cases_lt, eqb-true}
-use Rattle.std.proofs.lemmas.List.{append-nil}
+use Rattle.std.proofs.Common.{false, refl, sym, ap, subst, ◌∙◌, arith, if◌then◌else◌, ◌==◌, ◌&&◌, option_to_list, ⊎_elim, ◌≢◌, ◌⊎◌, inl, inr, length-append}
+use Rattle.std.{specs.List.{slice_get}, proofs.lemmas.{Bool.{cases_lt, eqb-true}, List.{append-nil}}}
 use Rattle.frame_headers.specs.FrameClass.{TcpSegment}
 use Rattle.flow_table.specs.Steered.{SteeredTcp, app_of, steer, steered_from, steered_of}
 use Rattle.flow_table.specs.Flows.{Flow, FlowKey, Numbered, same_addr, same_key, key_of, later_or, newest_from, newest, begins_anew, number_among}

@@ -1,13 +1,10 @@
 -- What the definitions say of a list of segments that goes on: each part goes on from where the one before ended.
-use Rattle.std.proofs.Common.{◌≡◌, ℕ, suc, ◌+◌, List, [], ◌∷◌, ◌++◌, length, Option, refl, sym, ap, ◌∙◌, arith, append_assoc}
-use Rattle.std.proofs.Common.{option_to_list, if◌then◌else◌, ◌==◌}
+use Rattle.std.proofs.Common.{◌≡◌, ℕ, suc, ◌+◌, List, [], ◌∷◌, ◌++◌, length, Option, refl, sym, ap, ◌∙◌, arith, append_assoc, option_to_list, if◌then◌else◌, ◌==◌}
 use Rattle.std.specs.List.{list_any}
 use Rattle.frame_headers.specs.FrameClass.{TcpSegment}
 use Rattle.zr_kinds.specs.CopyingReceiver.{Placed, received}
-use Rattle.flow_table.specs.Steered.{SteeredTcp, steer, steered_from, first_byte}
-use Rattle.flow_table.specs.CountedPart.{FlowClose, closed_by, counted_part}
-use Rattle.flow_table.specs.Flows.{Flow, number_of_flow, flows_with, flows_after, of_flow_after}
-use Rattle.flow_table.specs.Stream.{received_all}
+use Rattle.flow_table.specs.{Steered.{SteeredTcp, steer, steered_from, first_byte}, CountedPart.{FlowClose, closed_by, counted_part}}
+use Rattle.flow_table.specs.{Flows.{Flow, number_of_flow, flows_with, flows_after, of_flow_after}, Stream.{received_all}}
 
 pub steered_from-append : (ports : List ℕ) (k : ℕ) (xs ys : List (Option TcpSegment))
     → steered_from ports k (xs ++ ys) ≡ steered_from ports k xs ++ steered_from ports (k + length xs) ys

@@ -1,14 +1,11 @@
 -- What a list of flows says of its newest flows, and what becomes of that when a flow of it sees a segment or one more
 -- begins.
 use Rattle.std.proofs.Common.{◌≡◌, ℕ, zero, suc, ◌+◌, ◌<◌, ◌≤◌, List, [], ◌∷◌, ◌++◌, length, Option, Some, None, Bool, true}
-use Rattle.std.proofs.Common.{false, refl, sym, ap, ◌∙◌, arith, if◌then◌else◌, option_map, ◌==◌, Result, Ok, Err, IfOk, OnOk}
-use Rattle.std.proofs.lemmas.Bool.Decides.{nat_tests}
-use Rattle.std.specs.List.{slice_get}
-use Rattle.std.proofs.lemmas.Option.{slice_get_within}
+use Rattle.std.proofs.{Common.{false, refl, sym, ap, ◌∙◌, arith, if◌then◌else◌, option_map, ◌==◌, Result, Ok, Err, IfOk, OnOk}, lemmas.Bool.Decides.{nat_tests}}
+use Rattle.std.{specs.List.{slice_get}, proofs.lemmas.Option.{slice_get_within}}
 use Rattle.frame_headers.specs.FrameClass.{TcpSegment}
 use Rattle.flow_table.specs.Steered.{SteeredTcp}
-use Rattle.flow_table.specs.Flows.{Flow, FlowKey, Numbered, same_key, key_of, later_or, newest_from, newest, begins_anew, number_among, new_flow, seen_by}
-use Rattle.flow_table.specs.Flows.{with_segment}
+use Rattle.flow_table.specs.Flows.{Flow, FlowKey, Numbered, same_key, key_of, later_or, newest_from, newest, begins_anew, number_among, new_flow, seen_by, with_segment}
 
 abbrev number_in : Option Numbered → Option ℕ
 number_in found = option_map (λ (f : Numbered). f.number) found

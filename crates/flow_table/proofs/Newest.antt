@@ -1,7 +1,6 @@
 -- The newest flow of a key, found by going back from the end of the list.
 use Rattle.std.proofs.Common.{◌≡◌, ℕ, suc, ◌+◌, ◌-◌, ◌<◌, ◌≤◌, List, [], ◌∷◌, ◌++◌, length, map, take, get_or, Option, Some}
-use Rattle.std.proofs.Common.{None, Bool, true, false, refl, sym, ap, ◌∙◌, arith, if◌then◌else◌, length-take-le}
-use Rattle.std.proofs.lemmas.List.{take_more, map-append, length-map}
+use Rattle.std.proofs.{Common.{None, Bool, true, false, refl, sym, ap, ◌∙◌, arith, if◌then◌else◌, length-take-le}, lemmas.List.{take_more, map-append, length-map}}
 use Rattle.std.proofs.lemmas.Bool.{cond-true, cond-false}
 use Rattle.flow_table.specs.Flows.{Flow, FlowKey, Numbered, same_key, later_or, newest_from, newest}
 

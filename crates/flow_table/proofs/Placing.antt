@@ -1,14 +1,10 @@
 -- A list of bytes at positions against the values placed by the definition.
 use Rattle.std.proofs.Common.{◌≡◌, ℕ, suc, ◌+◌, ◌-◌, ◌^◌, ◌<◌, ◌≤◌, List, [], ◌∷◌, ◌++◌, length, take, get_or}
 use Rattle.std.proofs.Common.{Option, Some, None, Bool, true, false, is_some, find, option_map, if◌then◌else◌, ◌==◌, refl, sym, ap, ◌∙◌}
-use Rattle.std.proofs.Common.{arith, length-take-le, append_assoc}
-use Rattle.std.proofs.lemmas.Bool.{cond-false, ne_eqb}
-use Rattle.std.proofs.lemmas.List.{take_more}
-use Rattle.zr_kinds.specs.CopyingReceiver.{Placed, missing_within, values_from, brought, first_of, front_of}
-use Rattle.zr_kinds.proofs.InOrder.{front_of-steps, first_of-nothing}
-use Rattle.flow_table.specs.declared.plain.placed.PlacedByte.{PlacedByte}
-use Rattle.flow_table.specs.Plain.{byte_in}
+use Rattle.std.proofs.{Common.{arith, length-take-le, append_assoc}, lemmas.{Bool.{cond-false, ne_eqb}, List.{take_more}}}
+use Rattle.zr_kinds.{specs.CopyingReceiver.{Placed, missing_within, values_from, brought, first_of, front_of}, proofs.InOrder.{front_of-steps, first_of-nothing}}
 use Rattle.zr_kinds.proofs.Pushed.{brought-push, same_position}
+use Rattle.flow_table.specs.{declared.plain.placed.PlacedByte.{PlacedByte}, Plain.{byte_in}}
 
 -- ---- going on by one position
 

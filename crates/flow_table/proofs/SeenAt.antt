@@ -1,9 +1,6 @@
 -- A list of flows of which one sees a segment.
 use Rattle.std.proofs.Common.{◌≡◌, ℕ, zero, suc, ◌<◌, ◌≤◌, List, [], ◌∷◌, ◌++◌, length, map, set, get_or, ap, arith}
-use Rattle.flow_table.specs.Steered.{SteeredTcp}
-use Rattle.flow_table.specs.Flows.{new_flow, seen_by, with_segment}
-use Rattle.flow_table.specs.declared.plain.flows.PlainFlow.{PlainFlow}
-use Rattle.flow_table.specs.Plain.{flow_shown}
+use Rattle.flow_table.specs.{Steered.{SteeredTcp}, Flows.{new_flow, seen_by, with_segment}, declared.plain.flows.PlainFlow.{PlainFlow}, Plain.{flow_shown}}
 
 pub seen_at : (flows : List PlainFlow) (n : ℕ) (steered : SteeredTcp) (d later : PlainFlow) → n < length flows
     → flow_shown later ≡ seen_by (flow_shown (get_or flows n d)) steered.segment

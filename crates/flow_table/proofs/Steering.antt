@@ -1,12 +1,9 @@
 -- What a table of flows says of a segment, whichever record it comes in.
-use Rattle.std.proofs.Common.{◌≡◌, ℕ, ◌≢◌, ◌+◌, ◌↔◌, List, length, Some, Bool, sym, ap, subst, ◌∙◌, option_map, Option, refl}
-use Rattle.std.proofs.Common.{if◌then◌else◌, ◌==◌, Result, Ok, Err}
+use Rattle.std.proofs.Common.{◌≡◌, ℕ, ◌≢◌, ◌+◌, ◌↔◌, List, length, Some, Bool, sym, ap, subst, ◌∙◌, option_map, Option, refl, if◌then◌else◌, ◌==◌, Result, Ok, Err}
 use Rattle.std.specs.List.{slice_get}
 use Rattle.frame_headers.specs.FrameClass.{TcpSegment}
-use Rattle.flow_table.specs.Steered.{app_of, has_fin, first_byte}
-use Rattle.flow_table.specs.CountedPart.{counted_len}
-use Rattle.flow_table.specs.Flows.{Flow, key_of, newest, number_among, number_of_flow, with_segment, flows_with}
-use Rattle.flow_table.specs.KnownFlows.{KnownFlows}
+use Rattle.flow_table.specs.{Steered.{app_of, has_fin, first_byte}, CountedPart.{counted_len}}
+use Rattle.flow_table.specs.{Flows.{Flow, key_of, newest, number_among, number_of_flow, with_segment, flows_with}, KnownFlows.{KnownFlows}}
 use Rattle.flow_table.specs.Placing.{steered_to, number_for, counted_at, counted_for, IsPlaced}
 
 module _ (known : KnownFlows) (ports : List ℕ) (flows : List Flow) (segment : TcpSegment) (app : ℕ)

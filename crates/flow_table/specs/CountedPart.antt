@@ -1,7 +1,6 @@
 -- What of a segment counts: no byte at or past the number of its flow's first FIN, and nothing from the flow's first RST on (RFC
 -- 9293, 3.6 and 3.5.3).
-use Rattle.std.specs.Prelude.{ℕ, ◌+◌, ◌-◌, ◌%◌, ◌^◌, min, List, length, take, Bool, true, false, ◌||◌, if◌then◌else◌}
-use Rattle.std.specs.Prelude.{Option, Some, None}
+use Rattle.std.specs.Prelude.{ℕ, ◌+◌, ◌-◌, ◌%◌, ◌^◌, min, List, length, take, Bool, true, false, ◌||◌, if◌then◌else◌, Option, Some, None}
 use Rattle.zr_kinds.specs.CopyingReceiver.{lead, first_of}
 use Rattle.frame_headers.specs.FrameClass.{TcpSegment}
 use Rattle.flow_table.specs.Steered.{has_fin, has_rst, first_byte}

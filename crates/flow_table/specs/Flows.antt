@@ -1,13 +1,8 @@
 -- Flows: they are numbered from 0 in the order of their first steered segment, and known by the IP version, both
 -- addresses and both ports. A SYN whose first byte isn't at the base of the newest flow of its key begins a new flow.
-use Rattle.std.specs.Prelude.{ℕ, zero, suc, List, [], ◌∷◌, ◌++◌, length, ◌==◌, if◌then◌else◌, Bool, false, ◌&&◌, not}
-use Rattle.std.specs.Prelude.{Option, Some, None}
-use Rattle.std.specs.Str.{bytes_eq}
-use Rattle.frame_headers.specs.FrameClass.{TcpSegment}
-use Rattle.frame_headers.specs.declared.segment.Addr.{Addr}
-use Rattle.frame_headers.specs.declared.segment.Addr.TheVariants.{V4, V6}
-use Rattle.flow_table.specs.Steered.{SteeredTcp, has_syn, first_byte}
-use Rattle.flow_table.specs.CountedPart.{FlowClose, not_closed, closed_by}
+use Rattle.std.specs.{Prelude.{ℕ, zero, suc, List, [], ◌∷◌, ◌++◌, length, ◌==◌, if◌then◌else◌, Bool, false, ◌&&◌, not, Option, Some, None}, Str.{bytes_eq}}
+use Rattle.frame_headers.specs.{FrameClass.{TcpSegment}, declared.segment.Addr.{Addr, TheVariants.{V4, V6}}}
+use Rattle.flow_table.specs.{Steered.{SteeredTcp, has_syn, first_byte}, CountedPart.{FlowClose, not_closed, closed_by}}
 
 -- what knows a flow; an address has its version
 pub record FlowKey : Type 0 where

@@ -1,10 +1,6 @@
 -- What the entries of a table stand for.
 use Rattle.std.specs.Prelude.{Bool}
-use Rattle.flow_table.specs.CountedPart.{FlowClose}
-use Rattle.flow_table.specs.declared.close.Close.{Close}
-use Rattle.flow_table.specs.Flows.{FlowKey, Flow}
-use Rattle.flow_table.specs.declared.entry.Key.{Key}
-use Rattle.flow_table.specs.declared.entry.FlowEntry.{FlowEntry}
+use Rattle.flow_table.specs.{CountedPart.{FlowClose}, declared.{close.Close.{Close}, entry.{Key.{Key}, FlowEntry.{FlowEntry}}}, Flows.{FlowKey, Flow}}
 use Rattle.flow_table.specs.contracts.entry.KeyPartialEq.TheImpl as key_partial_eq
 
 abbrev pub close_shown : Close → FlowClose

@@ -1,16 +1,10 @@
 -- What the placing of a segment in a table of flows answers and leaves. The record that the segment came in plays no
 -- part, so each fact holds of its number, whichever it is.
-use Rattle.std.specs.Prelude.{◌≡◌, ℕ, ◌+◌, List, length, ◌==◌, if◌then◌else◌, Bool, Option, Some, None, option_map}
-use Rattle.std.specs.List.{slice_get}
-use Rattle.std.specs.Option.{option_and_then}
+use Rattle.std.specs.{Prelude.{◌≡◌, ℕ, ◌+◌, List, length, ◌==◌, if◌then◌else◌, Bool, Option, Some, None, option_map}, List.{slice_get}, Option.{option_and_then}}
 use Rattle.frame_headers.specs.FrameClass.{TcpSegment}
-use Rattle.flow_table.specs.Steered.{SteeredTcp, app_of, has_fin, first_byte}
-use Rattle.flow_table.specs.CountedPart.{counted_len}
-use Rattle.flow_table.specs.Flows.{Flow, number_of_flow, flows_with}
-use Rattle.flow_table.specs.KnownFlows.{KnownFlows}
-use Rattle.flow_table.specs.declared.placed.Steered.{Steered as Answer}
+use Rattle.flow_table.specs.{Steered.{SteeredTcp, app_of, has_fin, first_byte}, CountedPart.{counted_len}, Flows.{Flow, number_of_flow, flows_with}}
+use Rattle.flow_table.specs.{KnownFlows.{KnownFlows}, declared.placed.{Steered.{Steered as Answer}, FlowInfo.{FlowInfo}}}
 use Rattle.flow_table.specs.declared.placed.Steered.TheVariants as answer
-use Rattle.flow_table.specs.declared.placed.FlowInfo.{FlowInfo}
 
 -- a segment of a record, steered to an application
 abbrev pub steered_to : ℕ → TcpSegment → ℕ → SteeredTcp

@@ -2,13 +2,8 @@
 use Rattle.std.specs.Prelude.{ℕ, List, Option, option_map, find, ◌==◌}
 use Rattle.frame_headers.specs.Seen.{shown}
 use Rattle.zr_kinds.specs.CopyingReceiver.{Placed}
-use Rattle.flow_table.specs.Steered.{SteeredTcp}
-use Rattle.flow_table.specs.Flows.{Flow, Numbered}
-use Rattle.flow_table.specs.Kept.{close_shown}
-use Rattle.flow_table.specs.declared.plain.steered.SteeredSegment.{SteeredSegment}
-use Rattle.flow_table.specs.declared.plain.flows.PlainFlow.{PlainFlow}
-use Rattle.flow_table.specs.declared.plain.placed.PlacedByte.{PlacedByte}
-use Rattle.flow_table.specs.declared.plain.placed.PlainPlaced.{PlainPlaced}
+use Rattle.flow_table.specs.{Steered.{SteeredTcp}, Flows.{Flow, Numbered}, Kept.{close_shown}, declared.plain.steered.SteeredSegment.{SteeredSegment}}
+use Rattle.flow_table.specs.declared.plain.{flows.PlainFlow.{PlainFlow}, placed.{PlacedByte.{PlacedByte}, PlainPlaced.{PlainPlaced}}}
 
 abbrev pub steered_shown : SteeredSegment → SteeredTcp
 steered_shown s = record { record_number = s.record_number; app = s.app; segment = shown s.segment }

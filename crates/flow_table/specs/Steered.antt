@@ -1,8 +1,6 @@
 -- The segments that are steered to an application: those whose destination port is one of the ports.
-use Rattle.std.specs.Prelude.{ℕ, suc, ◌+◌, ◌/◌, ◌%◌, ◌^◌, List, [], ◌∷◌, ◌++◌, map, ◌==◌, if◌then◌else◌, Bool, position}
-use Rattle.std.specs.Prelude.{Option, Some, None, option_to_list}
-use Rattle.frame_headers.specs.FrameClass.{TcpSegment, class_of}
-use Rattle.frame_headers.specs.Seen.{segment_of}
+use Rattle.std.specs.Prelude.{ℕ, suc, ◌+◌, ◌/◌, ◌%◌, ◌^◌, List, [], ◌∷◌, ◌++◌, map, ◌==◌, if◌then◌else◌, Bool, position, Option, Some, None, option_to_list}
+use Rattle.frame_headers.specs.{FrameClass.{TcpSegment, class_of}, Seen.{segment_of}}
 
 -- a steered segment: the number of its record, from 1, and its application, which is the place of its port
 pub record SteeredTcp : Type 0 where

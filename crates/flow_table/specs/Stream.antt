@@ -1,11 +1,8 @@
 -- The stream of a flow: what the copying receiver gives of what counts of the flow's payloads, in capture order, without the
 -- records that are left out. A segment that is left out closes its flow like any other.
-use Rattle.std.specs.Prelude.{ℕ, List, [], ◌∷◌, Option, Some, None, ◌==◌, if◌then◌else◌}
-use Rattle.std.specs.List.{list_any, slice_get}
+use Rattle.std.specs.{Prelude.{ℕ, List, [], ◌∷◌, Option, Some, None, ◌==◌, if◌then◌else◌}, List.{list_any, slice_get}}
 use Rattle.zr_kinds.specs.CopyingReceiver.{Placed, nothing_placed, received, front_of}
-use Rattle.flow_table.specs.Steered.{SteeredTcp, first_byte}
-use Rattle.flow_table.specs.CountedPart.{FlowClose, not_closed, closed_by, counted_part}
-use Rattle.flow_table.specs.Flows.{Flow, flows_of, of_flow}
+use Rattle.flow_table.specs.{Steered.{SteeredTcp, first_byte}, CountedPart.{FlowClose, not_closed, closed_by, counted_part}, Flows.{Flow, flows_of, of_flow}}
 
 -- What stands after these segments were received, but those that are left out. The flow was closed so before them.
 abbrev pub received_all : ℕ → List ℕ → FlowClose → Placed ℕ → List SteeredTcp → Placed ℕ

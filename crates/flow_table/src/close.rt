@@ -2,8 +2,7 @@
 
 ghost use Rattle.std.specs.Prelude.{◌≡◌, ◌≤◌, length};
 ghost use Rattle.frame_headers.specs.Seen.{shown};
-ghost use Rattle.flow_table.specs.CountedPart.{not_closed, number_behind, closed_by, counted_len};
-ghost use Rattle.flow_table.specs.Kept.{close_shown};
+ghost use Rattle.flow_table.specs.{CountedPart.{not_closed, number_behind, closed_by, counted_len}, Kept.{close_shown}};
 
 use crate::segment::{first_byte, has_fin, has_rst};
 use frame_headers::Segment;

@@ -2,9 +2,7 @@
 
 ghost use Rattle.std.specs.Prelude.{◌≡◌, ℕ};
 ghost use Rattle.frame_headers.specs.Seen.{shown};
-ghost use Rattle.flow_table.specs.Flows.{key_of, same_key, begins_anew, new_flow, seen_by};
-ghost use Rattle.flow_table.specs.Placing.{steered_to};
-ghost use Rattle.flow_table.specs.Kept.{key_shown, entry_shown};
+ghost use Rattle.flow_table.specs.{Flows.{key_of, same_key, begins_anew, new_flow, seen_by}, Placing.{steered_to}, Kept.{key_shown, entry_shown}};
 
 use crate::close::Close;
 use crate::segment::{first_byte, has_syn};

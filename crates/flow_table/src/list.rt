@@ -1,11 +1,8 @@
 //! The flows so far, found by their keys.
 
-ghost use Rattle.std.specs.Prelude.{◌≡◌, ◌≢◌, ℕ, ◌+◌, ◌<◌, ◌≤◌, ◌↔◌, [], ◌∷◌, ◌++◌, ◌==◌, if◌then◌else◌};
-ghost use Rattle.std.specs.Prelude.{length, map, Some, None, IfSome, slice_get, option_map, Ok, Err, IfOk, OnOk, OnErr, IsTrue};
+ghost use Rattle.std.specs.Prelude.{◌≡◌, ◌≢◌, ℕ, ◌+◌, ◌<◌, ◌≤◌, ◌↔◌, [], ◌∷◌, ◌++◌, ◌==◌, if◌then◌else◌, length, map, Some, None, IfSome, slice_get, option_map, Ok, Err, IfOk, OnOk, OnErr, IsTrue};
 ghost use Rattle.frame_headers.specs.Seen.{shown};
-ghost use Rattle.flow_table.specs.Flows.{Flow, Numbered, key_of, newest, number_among, with_segment};
-ghost use Rattle.flow_table.specs.Placing.{steered_to, counted_at};
-ghost use Rattle.flow_table.specs.Kept.{entry_shown, close_shown};
+ghost use Rattle.flow_table.specs.{Flows.{Flow, Numbered, key_of, newest, number_among, with_segment}, Placing.{steered_to, counted_at}, Kept.{entry_shown, close_shown}};
 
 use crate::close::Close;
 use crate::entry::{FlowEntry, Key};
@@ -32,9 +29,7 @@ pub(crate) struct FlowList {
 
 impl Model for FlowList {
     ghost use Rattle.std.specs.Prelude.{List, map, length, ◌≤◌};
-    ghost use Rattle.flow_table.specs.Flows.{Flow};
-    ghost use Rattle.flow_table.specs.Kept.{entry_shown};
-    ghost use Rattle.flow_table.specs.Newest.{HasNewest};
+    ghost use Rattle.flow_table.specs.{Flows.{Flow}, Kept.{entry_shown}, Newest.{HasNewest}};
 
     ghost Value = { List Flow };
 

@@ -4,11 +4,7 @@
 ghost use Rattle.std.specs.Prelude.{◌≡◌, ◌<◌, ◌^◌, length, map, IfOk};
 ghost use Rattle.frame_headers.specs.Seen.{segment_seen};
 ghost use Rattle.zr_kinds.specs.CopyingReceiver.{nothing_placed};
-ghost use Rattle.flow_table.specs.Steered.{steered_of};
-ghost use Rattle.flow_table.specs.CountedPart.{not_closed};
-ghost use Rattle.flow_table.specs.Flows.{flows_of};
-ghost use Rattle.flow_table.specs.Stream.{received_all, stream_of};
-ghost use Rattle.flow_table.specs.Plain.{steered_shown, flow_shown, placed_shown};
+ghost use Rattle.flow_table.specs.{Steered.{steered_of}, CountedPart.{not_closed}, Flows.{flows_of}, Stream.{received_all, stream_of}, Plain.{steered_shown, flow_shown, placed_shown}};
 
 mod flows;
 mod placed;

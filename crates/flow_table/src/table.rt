@@ -1,12 +1,9 @@
 //! The table of flows.
 
-ghost use Rattle.std.specs.Prelude.{◌≡◌, ◌≢◌, ℕ, ◌<◌, ◌≤◌, ◌↔◌, [], length, Ok, Err, Some, None, slice_get, option_map, nat_eq};
-ghost use Rattle.std.specs.Prelude.{IfOk, IfSome, OnErr, IsTrue, ◌⊎◌};
-ghost use Rattle.std.specs.List.{IsDistinct};
+ghost use Rattle.std.specs.{Prelude.{◌≡◌, ◌≢◌, ℕ, ◌<◌, ◌≤◌, ◌↔◌, [], length, Ok, Err, Some, None, slice_get, option_map, nat_eq, IfOk, IfSome, OnErr, IsTrue, ◌⊎◌}, List.{IsDistinct}};
 ghost use Rattle.zr_kinds.specs.Limits.{longest_payload};
 ghost use Rattle.frame_headers.specs.Seen.{shown};
-ghost use Rattle.flow_table.specs.Steered.{app_of};
-ghost use Rattle.flow_table.specs.Placing.{number_for, counted_for, Places, info_of};
+ghost use Rattle.flow_table.specs.{Steered.{app_of}, Placing.{number_for, counted_for, Places, info_of}};
 
 use crate::entry::FlowEntry;
 use crate::list::FlowList;

@@ -1,11 +1,7 @@
 -- The tag that went out last is told.
-use Rattle.std.proofs.Common.{◌≡◌, ℕ, ◌++◌, [], ◌∷◌, true, false, Some, None, refl, sym, ap, subst, ◌∙◌, ⊎_elim}
-use Rattle.std.specs.Prelude.{nat_eq, IsSome}
-use Rattle.std.specs.List.{AllByRecursion, IsDistinct}
-use Rattle.std.specs.Map.{keys_of, lookup, remove_entry}
-use Rattle.std.proofs.lemmas.Bool.{cases_Bool, eq-eqb, eqb-true}
-use Rattle.zc_forward.specs.Tags.{Tags, TakesTag}
-use Rattle.zc_forward.specs.Carriage.{AreOut}
+use Rattle.std.{proofs.Common.{◌≡◌, ℕ, ◌++◌, [], ◌∷◌, true, false, Some, None, refl, sym, ap, subst, ◌∙◌, ⊎_elim}, specs.Prelude.{nat_eq, IsSome}}
+use Rattle.std.{specs.{List.{AllByRecursion, IsDistinct}, Map.{keys_of, lookup, remove_entry}}, proofs.lemmas.Bool.{cases_Bool, eq-eqb, eqb-true}}
+use Rattle.zc_forward.specs.{Tags.{Tags, TakesTag}, Carriage.{AreOut}}
 
 -- no tag before it is the same
 all-front : (P : ℕ → Type 0) (rest : Tags) (e : ℕ × ℕ) → AllByRecursion P (keys_of (rest ++ e ∷ [])) → AllByRecursion P (keys_of rest) × P e.0

@@ -1,12 +1,7 @@
 -- At the end both seats are back, and the buffers of the pool are those that were asked for.
-use Rattle.std.proofs.Common.{◌≡◌, ℕ, List, [], ◌∷◌, refl, sym, subst, ◌∙◌, arith}
-use Rattle.std.specs.Prelude.{Contains}
-use Rattle.std.proofs.lemmas.List.Elements.{Contains-push}
+use Rattle.std.{proofs.{Common.{◌≡◌, ℕ, List, [], ◌∷◌, refl, sym, subst, ◌∙◌, arith}, lemmas.List.Elements.{Contains-push}}, specs.Prelude.{Contains}}
 use Rattle.area_layout.specs.Layout.{pool_buffers, shape_of}
-use Rattle.board_face.specs.NicCalls.{apps_of}
-use Rattle.board_face.specs.declared.views.parts.Setting.{Setting}
-use Rattle.board_face.specs.declared.views.nic.NicSide.{NicSide}
-use Rattle.board_face.specs.declared.views.app.AppSide.{AppSide}
+use Rattle.board_face.specs.{NicCalls.{apps_of}, declared.views.{parts.Setting.{Setting}, nic.NicSide.{NicSide}, app.AppSide.{AppSide}}}
 use Rattle.word_board.specs.Desk.{AllAreBack}
 
 -- the card and the only application are back

@@ -1,7 +1,5 @@
 //! A carrier that tells of its tags as it likes.
-ghost use Rattle.std.specs.Prelude.{◌≡◌, ◌<◌, ◌≤◌, [], nat_eq, true, false};
-ghost use Rattle.std.specs.Prelude.{None, Some};
-ghost use Rattle.std.specs.Map.{lookup};
+ghost use Rattle.std.specs.{Prelude.{◌≡◌, ◌<◌, ◌≤◌, [], nat_eq, true, false, None, Some}, Map.{lookup}};
 ghost use Rattle.zr_io.specs.Moved.{Rose};
 
 use arrayvec::ArrayVec;

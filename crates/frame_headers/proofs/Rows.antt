@@ -1,11 +1,8 @@
 -- The definition of a frame's class at frames whose class was worked out by hand: one segment that carries "hello",
 -- and the same with a change that each rule decides.
-use Rattle.std.specs.Prelude.{◌≡◌, ℕ, ◌+◌, List, [], ◌∷◌, ◌++◌, take, drop, replicate, codes}
-use Rattle.std.proofs.Common.{refl}
-use Rattle.frame_headers.specs.declared.segment.Addr.{Addr}
-use Rattle.frame_headers.specs.declared.segment.Addr.TheVariants.{V4, V6}
-use Rattle.frame_headers.specs.FrameClass.{FrameClass, Tcp, Other, Fragment, CutShort, Bad, class_of, packet_class, ipv4_class, ipv6_class, ipv6_from}
-use Rattle.frame_headers.specs.FrameClass.{tcp_class}
+use Rattle.std.{specs.Prelude.{◌≡◌, ℕ, ◌+◌, List, [], ◌∷◌, ◌++◌, take, drop, replicate, codes}, proofs.Common.{refl}}
+use Rattle.frame_headers.specs.declared.segment.Addr.{Addr, TheVariants.{V4, V6}}
+use Rattle.frame_headers.specs.FrameClass.{FrameClass, Tcp, Other, Fragment, CutShort, Bad, class_of, packet_class, ipv4_class, ipv6_class, ipv6_from, tcp_class}
 
 -- Ethernet's two addresses
 abbrev stations : List ℕ

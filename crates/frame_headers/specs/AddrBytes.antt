@@ -1,7 +1,6 @@
 -- The bytes of an address.
 use Rattle.std.specs.Prelude.{ℕ, List}
-use Rattle.frame_headers.specs.declared.segment.Addr.{Addr}
-use Rattle.frame_headers.specs.declared.segment.Addr.TheVariants.{V4, V6}
+use Rattle.frame_headers.specs.declared.segment.Addr.{Addr, TheVariants.{V4, V6}}
 
 abbrev pub bytes_of : Addr → List ℕ
 bytes_of (V4 bytes) = bytes

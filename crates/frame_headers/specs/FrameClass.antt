@@ -1,10 +1,8 @@
 -- The class of a frame: Ethernet with at most one VLAN tag, then IPv4 or IPv6, then TCP. In each definition
 -- the first rule that applies decides. Numbers in headers are big-endian.
-use Rattle.std.specs.Prelude.{ℕ, zero, suc, ◌+◌, ◌*◌, ◌/◌, ◌%◌, List, length, drop, slice_index, slice_range, nat_lt, ◌==◌}
-use Rattle.std.specs.Prelude.{if◌then◌else◌, Bool, ◌||◌, not}
+use Rattle.std.specs.Prelude.{ℕ, zero, suc, ◌+◌, ◌*◌, ◌/◌, ◌%◌, List, length, drop, slice_index, slice_range, nat_lt, ◌==◌, if◌then◌else◌, Bool, ◌||◌, not}
 use Rattle.byteorder.specs.Endian.{big_number}
-use Rattle.frame_headers.specs.declared.segment.Addr.{Addr}
-use Rattle.frame_headers.specs.declared.segment.Addr.TheVariants.{V4, V6}
+use Rattle.frame_headers.specs.declared.segment.Addr.{Addr, TheVariants.{V4, V6}}
 
 -- what a TCP frame holds
 pub record TcpSegment : Type 0 where

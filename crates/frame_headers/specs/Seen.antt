@@ -1,8 +1,6 @@
 -- What was seen of a frame, as its class.
 use Rattle.std.specs.Prelude.{Option, Some, None}
-use Rattle.frame_headers.specs.FrameClass.{TcpSegment, FrameClass, Tcp, Other, Fragment, CutShort, Bad}
-use Rattle.frame_headers.specs.declared.segment.Segment.{Segment}
-use Rattle.frame_headers.specs.declared.segment.Seen.{Seen}
+use Rattle.frame_headers.specs.{FrameClass.{TcpSegment, FrameClass, Tcp, Other, Fragment, CutShort, Bad}, declared.segment.{Segment.{Segment}, Seen.{Seen}}}
 use Rattle.frame_headers.specs.declared.segment.Seen.TheVariants as seen
 
 -- a segment as its values

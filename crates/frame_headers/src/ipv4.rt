@@ -1,7 +1,6 @@
 ghost use Rattle.std.specs.Prelude.{◌≡◌, ◌+◌, ◌≤◌, ◌<◌, ◌^◌, length, IfSome};
 ghost use Rattle.zr_kinds.specs.Limits.{longest_payload};
-ghost use Rattle.frame_headers.specs.FrameClass.{ipv4_class};
-ghost use Rattle.frame_headers.specs.Seen.{class_seen, segment_seen};
+ghost use Rattle.frame_headers.specs.{FrameClass.{ipv4_class}, Seen.{class_seen, segment_seen}};
 
 use crate::bytes::bytes_at;
 use crate::segment::{Addr, Seen};

@@ -1,7 +1,6 @@
 ghost use Rattle.std.specs.Prelude.{◌≡◌, ℕ, ◌+◌, ◌*◌, ◌≤◌, ◌<◌, ◌^◌, length, IfSome};
 ghost use Rattle.zr_kinds.specs.Limits.{longest_payload};
-ghost use Rattle.frame_headers.specs.FrameClass.{ipv6_class, ipv6_from, is_extension};
-ghost use Rattle.frame_headers.specs.Seen.{class_seen, segment_seen};
+ghost use Rattle.frame_headers.specs.{FrameClass.{ipv6_class, ipv6_from, is_extension}, Seen.{class_seen, segment_seen}};
 
 use crate::bytes::bytes_at;
 use crate::segment::{Addr, Seen};

@@ -10,6 +10,3 @@ mod tcp;
 
 pub use frame::read_frame;
 pub use segment::{Addr, Seen, Segment};
-
-#[cfg(test)]
-mod tests;

@@ -1,6 +1,4 @@
-ghost use Rattle.std.specs.Prelude.{[], ◌∷◌};
-ghost use Rattle.std.proofs.Common.{rules};
-ghost use Rattle.std.specs.Cmp.Rules.{hashing};
+ghost use Rattle.std.{specs.{Prelude.{[], ◌∷◌}, Cmp.Rules.{hashing}}, proofs.Common.{rules}};
 ghost use Rattle.frame_headers.specs.AddrBytes.{bytes_of};
 
 use std::hash::{Hash, Hasher};

@@ -1,6 +1,5 @@
 ghost use Rattle.std.specs.Prelude.{◌≡◌, ◌+◌, ◌≤◌, ◌<◌, ◌^◌, length, IfSome};
-ghost use Rattle.frame_headers.specs.FrameClass.{tcp_class};
-ghost use Rattle.frame_headers.specs.Seen.{class_seen, segment_seen};
+ghost use Rattle.frame_headers.specs.{FrameClass.{tcp_class}, Seen.{class_seen, segment_seen}};
 
 use crate::segment::{Addr, Seen, Segment};
 use byteorder::{BigEndian, ByteOrder};

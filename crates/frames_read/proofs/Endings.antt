@@ -1,28 +1,18 @@
 -- How the reading stands after one more record, and how it ends.
 use Rattle.std.proofs.Common.{◌≡◌, ◌≢◌, ℕ, List, [], ◌∷◌, ◌++◌, length, Option, None, Some, refl, sym, ap, subst, ◌∙◌}
-use Rattle.std.proofs.Common.{⊎_elim, inl, inr, append_assoc, append-nil, arith}
-use Rattle.std.specs.Prelude.{IfSome, ◌==◌}
-use Rattle.std.specs.Io.KnownBytes.{IsAtEnd}
-use Rattle.std.proofs.lemmas.Bool.{cond_both}
-use Rattle.zr_kinds.specs.Limits.{most_records}
-use Rattle.zr_kinds.specs.declared.fault.Fault.{Fault}
+use Rattle.std.{proofs.{Common.{⊎_elim, inl, inr, append_assoc, append-nil, arith}, lemmas.Bool.{cond_both}}, specs.{Prelude.{IfSome, ◌==◌}, Io.KnownBytes.{IsAtEnd}}}
+use Rattle.zr_kinds.specs.{Limits.{most_records}, declared.fault.Fault.{Fault}}
 use Rattle.zr_kinds.specs.declared.fault.Fault.TheVariants.{Memory, Usage, NotPcap, Version, LinkType, Cut, LongRecord, Read, Write, TooManyFlows}
 use Rattle.zr_kinds.specs.declared.fault.Fault.TheVariants.{TooManyFrames, BadBlock, BadRun}
-use Rattle.zr_io.specs.Moved.{Rose, Took}
-use Rattle.zr_io.proofs.Moved.{Took-then, Took-weaker, Rose-earlier}
-use Rattle.pcap_reader.specs.Records.{Captured, Records, no_record, with_record}
-use Rattle.pcap_reader.specs.Capture.{ShowsFault, BrokeOff, TakenShows, IsOutOfForm, OfFronts}
+use Rattle.zr_io.{specs.Moved.{Rose, Took}, proofs.Moved.{Took-then, Took-weaker, Rose-earlier}}
+use Rattle.pcap_reader.specs.{Records.{Captured, Records, no_record, with_record}, Capture.{ShowsFault, BrokeOff, TakenShows, IsOutOfForm, OfFronts}}
 use Rattle.pcap_reader.proofs.Joined.{fronts-then, fronts-weaker, Took-both}
-use Rattle.pcapng_reader.specs.Records.{Going, records_from, records_of}
-use Rattle.pcapng_reader.specs.Capture.{IsOpeningFault, IsRecordFault, WantsMemory}
-use Rattle.pcapng_reader.proofs.Goings.{wanting-cut}
-use Rattle.flow_table.specs.Steered.{SteeredTcp}
-use Rattle.flow_table.specs.Flows.{Flow, flows_of, number_of_flow}
+use Rattle.pcapng_reader.{specs.{Records.{Going, records_from, records_of}, Capture.{IsOpeningFault, IsRecordFault, WantsMemory}}, proofs.Goings.{wanting-cut}}
+use Rattle.flow_table.specs.{Steered.{SteeredTcp}, Flows.{Flow, flows_of, number_of_flow}}
 use Rattle.frames_read.specs.Ending.{Ending, ended_after, steered_in, steered_next, flow_ending, ending_at, frames_of, ended_of}
 use Rattle.frames_read.specs.Reading.{Holds, GoesThrough, HasRead, HasEnded, ShowsEnding, TakenEnds, LacksMemory, EndsAt, IsEnding, IsReadToEnd}
 use Rattle.frames_read.specs.Reading.{RunsOut, RunsOutBefore, IsShown}
-use Rattle.frames_read.proofs.Reading.{Holds-more, frames-append, ended_after-none, GoesThrough-nothing, GoesThrough-more, ended_of-end, ended_of-fault}
-use Rattle.frames_read.proofs.Reading.{ended_of-frame}
+use Rattle.frames_read.proofs.Reading.{Holds-more, frames-append, ended_after-none, GoesThrough-nothing, GoesThrough-more, ended_of-end, ended_of-fault, ended_of-frame}
 
 -- ---- all bytes of a source that tells them
 

@@ -1,16 +1,9 @@
 -- One frame more: its steered segment, and whether the reading ends there.
-use Rattle.std.proofs.Common.{◌≡◌, ◌≢◌, ℕ, suc, ◌+◌, List, [], ◌∷◌, ◌++◌, length, Some, option_to_list}
-use Rattle.std.proofs.Common.{refl, ap, ◌∙◌, arith}
-use Rattle.std.proofs.lemmas.Bool.{eq-eqb, ne_eqb}
-use Rattle.zr_kinds.specs.Limits.{most_records}
-use Rattle.zr_kinds.specs.declared.fault.Fault.TheVariants.{TooManyFrames}
-use Rattle.frame_headers.specs.FrameClass.{class_of}
-use Rattle.frame_headers.specs.Seen.{class_seen, segment_seen, segment_of}
-use Rattle.frame_headers.specs.declared.segment.Seen.{Seen}
+use Rattle.std.proofs.{Common.{◌≡◌, ◌≢◌, ℕ, suc, ◌+◌, List, [], ◌∷◌, ◌++◌, length, Some, option_to_list, refl, ap, ◌∙◌, arith}, lemmas.Bool.{eq-eqb, ne_eqb}}
+use Rattle.zr_kinds.specs.{Limits.{most_records}, declared.fault.Fault.TheVariants.{TooManyFrames}}
+use Rattle.frame_headers.specs.{FrameClass.{class_of}, Seen.{class_seen, segment_seen, segment_of}, declared.segment.Seen.{Seen}}
 use Rattle.frame_headers.specs.declared.segment.Seen.TheVariants as seen
-use Rattle.flow_table.specs.Steered.{steer, steered_of, segments_of}
-use Rattle.flow_table.specs.Flows.{flows_of}
-use Rattle.flow_table.proofs.FlowLaws.{steered_of-push}
+use Rattle.flow_table.{specs.{Steered.{steer, steered_of, segments_of}, Flows.{flows_of}}, proofs.FlowLaws.{steered_of-push}}
 use Rattle.frames_read.specs.Ending.{steered_in, steered_next, flow_ending, ending_at}
 
 -- ---- the steered segments

@@ -2,10 +2,8 @@
 use Rattle.std.proofs.Common.{◌≡◌, ℕ, List, [], ◌∷◌, ◌++◌, Option, None, Some, refl, sym, ap, ◌∙◌, append_assoc, append-nil}
 use Rattle.zr_kinds.specs.declared.fault.Fault.{Fault}
 use Rattle.pcap_reader.specs.Records.{Captured, Records, no_record, with_record}
-use Rattle.pcapng_reader.specs.Records.{Going, records_from, records_of}
-use Rattle.pcapng_reader.proofs.Goings.{records_from-none}
-use Rattle.frames_read.specs.Ending.{ending_at, ended_or, frames_of, ended_after, ended_of}
-use Rattle.frames_read.specs.Reading.{with_records, Holds, GoesThrough}
+use Rattle.pcapng_reader.{specs.Records.{Going, records_from, records_of}, proofs.Goings.{records_from-none}}
+use Rattle.frames_read.specs.{Ending.{ending_at, ended_or, frames_of, ended_after, ended_of}, Reading.{with_records, Holds, GoesThrough}}
 
 captured : List ℕ → ℕ → Captured
 captured frame original = record { frame = frame; original = original }

@@ -4,8 +4,7 @@ use Rattle.std.proofs.Common.{Some, is_some, option_to_list, refl, sym, ap, ◌�
 use Rattle.frame_headers.specs.FrameClass.{FrameClass, class_of}
 use Rattle.zr_kinds.specs.declared.outcome.Tally.{Tally}
 use Rattle.flow_table.specs.Steered.{SteeredTcp}
-use Rattle.frames_read.specs.Ending.{steered_in, steered_next}
-use Rattle.frames_read.specs.Tally.{is_tcp, is_other, is_fragment, is_cut_short, is_bad, count_of, tally_of, one_if, counted}
+use Rattle.frames_read.specs.{Ending.{steered_in, steered_next}, Tally.{is_tcp, is_other, is_fragment, is_cut_short, is_bad, count_of, tally_of, one_if, counted}}
 
 count-one : (b : Bool) (frame : List ℕ) → length (if b then frame ∷ [] else []) ≡ one_if b
 count-one true frame = refl

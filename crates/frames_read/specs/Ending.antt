@@ -1,14 +1,10 @@
 -- Where the reading of a list of frames ends, and which frames came before.
 use Rattle.std.specs.Prelude.{◌≡◌, ℕ, suc, List, [], ◌∷◌, ◌++◌, length, map, ◌==◌, if◌then◌else◌, Option, Some, None}
-use Rattle.zr_kinds.specs.Limits.{most_records}
-use Rattle.zr_kinds.specs.declared.fault.Fault.{Fault}
-use Rattle.zr_kinds.specs.declared.fault.Fault.TheVariants.{TooManyFlows, TooManyFrames}
+use Rattle.zr_kinds.specs.{Limits.{most_records}, declared.fault.Fault.{Fault, TheVariants.{TooManyFlows, TooManyFrames}}}
 use Rattle.pcap_reader.specs.Records.{Captured}
 use Rattle.pcapng_reader.specs.Records.{records_of}
-use Rattle.frame_headers.specs.FrameClass.{class_of}
-use Rattle.frame_headers.specs.Seen.{segment_of}
-use Rattle.flow_table.specs.Steered.{SteeredTcp, steered_of, segments_of, steer}
-use Rattle.flow_table.specs.Flows.{Flow, flows_of, number_of_flow}
+use Rattle.frame_headers.specs.{FrameClass.{class_of}, Seen.{segment_of}}
+use Rattle.flow_table.specs.{Steered.{SteeredTcp, steered_of, segments_of, steer}, Flows.{Flow, flows_of, number_of_flow}}
 
 -- the steered segments of a list of frames
 abbrev pub steered_in : List ℕ → List (List ℕ) → List SteeredTcp

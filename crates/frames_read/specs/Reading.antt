@@ -1,13 +1,9 @@
 -- What was read of a source since its reading began, and how it ended.
-use Rattle.std.specs.Prelude.{◌≡◌, ◌≢◌, ℕ, List, [], ◌∷◌, ◌++◌, Option, Some, None, IfSome, ◌⊎◌}
-use Rattle.std.specs.Io.KnownBytes.{IsAtEnd}
-use Rattle.zr_kinds.specs.declared.fault.Fault.{Fault}
-use Rattle.zr_kinds.specs.declared.fault.Fault.TheVariants.{Memory, NotPcap, Version, LinkType, Cut, LongRecord, Read, TooManyFlows, TooManyFrames, BadBlock}
+use Rattle.std.specs.{Prelude.{◌≡◌, ◌≢◌, ℕ, List, [], ◌∷◌, ◌++◌, Option, Some, None, IfSome, ◌⊎◌}, Io.KnownBytes.{IsAtEnd}}
+use Rattle.zr_kinds.specs.declared.fault.Fault.{Fault, TheVariants.{Memory, NotPcap, Version, LinkType, Cut, LongRecord, Read, TooManyFlows, TooManyFrames, BadBlock}}
 use Rattle.zr_io.specs.Moved.{Rose, Took}
-use Rattle.pcap_reader.specs.Records.{Captured, Records}
-use Rattle.pcap_reader.specs.Capture.{IsOutOfForm, OfFronts}
-use Rattle.pcapng_reader.specs.Records.{Going, records_from, records_of}
-use Rattle.pcapng_reader.specs.Capture.{WantsMemory}
+use Rattle.pcap_reader.specs.{Records.{Captured, Records}, Capture.{IsOutOfForm, OfFronts}}
+use Rattle.pcapng_reader.specs.{Records.{Going, records_from, records_of}, Capture.{WantsMemory}}
 use Rattle.flow_table.specs.Flows.{flows_of}
 use Rattle.frames_read.specs.Ending.{Ending, steered_in, steered_next, BeginsFlow, ending_at, frames_of, ended_after, ended_of}
 

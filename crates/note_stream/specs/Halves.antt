@@ -1,9 +1,7 @@
 -- What either half of a stream has out at its face.
 use Rattle.std.specs.Prelude.{◌≡◌, true, false, [], ◌∷◌, map, Option, option_to_list}
 use Rattle.zr_kinds.specs.declared.place.Place.{Place}
-use Rattle.board_face.specs.declared.views.parts.Filling.{Filling}
-use Rattle.board_face.specs.declared.views.nic.NicView.{NicView}
-use Rattle.board_face.specs.declared.views.app.AppView.{AppView}
+use Rattle.board_face.specs.declared.views.{parts.Filling.{Filling}, nic.NicView.{NicView}, app.AppView.{AppView}}
 
 -- The card runs, and what it has out is this buffer, if one, and this piece, if one.
 pub record IsSender (v : NicView) (own : Option Filling) (piece : Option Place) : Type 0 where

@@ -1,29 +1,14 @@
 -- A frame was accepted, or refused, once the earlier notes were sent.
-use Rattle.std.proofs.Common.{◌≡◌, ℕ, List, [], ◌∷◌, ◌++◌, length, refl, sym, ap, subst, ◌∙◌, arith, true, false, Option, Some, None}
-use Rattle.std.proofs.Common.{nat_le}
-use Rattle.std.specs.Prelude.{reverse, Bool, MatchBool}
-use Rattle.std.proofs.lemmas.List.{append-nil}
-use Rattle.std.proofs.lemmas.Bool.{leb-true, leb-false}
-use Rattle.board_face.specs.Looks.{NicLooksStay}
-use Rattle.board_face.specs.NicCalls.{NicOnlySaw}
-use Rattle.board_face.specs.NicEvents.{sent_linear, nic_saw}
-use Rattle.board_face.specs.declared.views.nic.NicLook.{NicLook}
-use Rattle.board_face.specs.declared.views.nic.NicView.{NicView}
-use Rattle.board_face.specs.declared.views.nic.SentNote.{SentNote}
-use Rattle.board_face.proofs.LookLemmas.{NicLooksStay-same, NicLooksStay-trans, NicLooksStay-nic_saw}
-use Rattle.page_pool.specs.declared.pool.Pending.{Pending}
-use Rattle.page_pool.specs.declared.pool.Short.{Short}
-use Rattle.page_pool.specs.declared.offer.Offer.{Offer}
-use Rattle.page_pool.specs.declared.offer.Verdict.{Verdict}
-use Rattle.page_pool.specs.declared.offer.Verdict.TheVariants.{Accepted, NoRoom, Busy}
-use Rattle.page_pool.specs.Pool.{PoolState, PoolStands, HasNonePending, OnlySends, IsNextApp, is_short, is_piece, all_notes}
-use Rattle.page_pool.specs.Searching.{empty}
-use Rattle.area_layout.specs.Layout.{least_size}
-use Rattle.page_pool.specs.Packing.{needed}
+use Rattle.std.proofs.Common.{◌≡◌, ℕ, List, [], ◌∷◌, ◌++◌, length, refl, sym, ap, subst, ◌∙◌, arith, true, false, Option, Some, None, nat_le}
+use Rattle.std.{specs.Prelude.{reverse, Bool, MatchBool}, proofs.lemmas.{List.{append-nil}, Bool.{leb-true, leb-false}}}
+use Rattle.board_face.specs.{Looks.{NicLooksStay}, NicCalls.{NicOnlySaw}, NicEvents.{sent_linear, nic_saw}, declared.views.nic.{NicLook.{NicLook}, NicView.{NicView}}}
+use Rattle.board_face.{specs.declared.views.nic.SentNote.{SentNote}, proofs.LookLemmas.{NicLooksStay-same, NicLooksStay-trans, NicLooksStay-nic_saw}}
+use Rattle.page_pool.specs.declared.{pool.{Pending.{Pending}, Short.{Short}}, offer.{Offer.{Offer}, Verdict.{Verdict, TheVariants.{Accepted, NoRoom, Busy}}}}
+use Rattle.page_pool.specs.{Pool.{PoolState, PoolStands, HasNonePending, OnlySends, IsNextApp, is_short, is_piece, all_notes}, Searching.{empty}, Packing.{needed}}
 use Rattle.page_pool.specs.Offer.{payload_of, packed, needed_for, short_note, Flushes, LooksFor, not_needed, Accepts, Refuses, Offers, KeepsRest}
-use Rattle.page_pool.specs.Placing.{PlacesSplit, LacksRoom, KeepsShort}
-use Rattle.page_pool.proofs.FramesShown.{whole_shows}
+use Rattle.page_pool.{specs.Placing.{PlacesSplit, LacksRoom, KeepsShort}, proofs.FramesShown.{whole_shows}}
 use Rattle.page_pool.proofs.Offering.{nothing_placed, none_not, LooksFor-keeps, looked-out}
+use Rattle.area_layout.specs.Layout.{least_size}
 
 -- ---- whose note is next
 

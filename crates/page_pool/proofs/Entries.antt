@@ -1,25 +1,13 @@
 -- One more entry was dealt with.
 use Rattle.std.proofs.Common.{◌≡◌, ℕ, ◌+◌, ◌-◌, ◌≤◌, ◌^◌, inl, inr, List, [], ◌∷◌, ◌++◌, length, append_assoc}
-use Rattle.std.proofs.Common.{length-append, cond, ⊎_elim, refl, sym, ◌∙◌, arith, Bool, true, false, min, max, if◌then◌else◌, ◌&&◌, nat_lt}
-use Rattle.std.proofs.Common.{Option, Some, None}
-use Rattle.std.proofs.lemmas.Bool.{cases_lt, lt-ltb, le-ltb}
-use Rattle.std.proofs.lemmas.List.{append-nil}
-use Rattle.std.proofs.lemmas.List.Sums.{sum_by-append}
-use Rattle.std.proofs.lemmas.List.Elements.{All-nil, All-push}
+use Rattle.std.proofs.Common.{length-append, cond, ⊎_elim, refl, sym, ◌∙◌, arith, Bool, true, false, min, max, if◌then◌else◌, ◌&&◌, nat_lt, Option, Some, None}
+use Rattle.std.{proofs.lemmas.{Bool.{cases_lt, lt-ltb, le-ltb}, List.{append-nil, Sums.{sum_by-append}, Elements.{All-nil, All-push}}}, specs.Prelude.{count_by}}
 use Rattle.area_layout.specs.Layout.{pool_buffers, judged}
-use Rattle.zr_kinds.specs.declared.outcome.PoolStats.{PoolStats}
-use Rattle.zr_kinds.specs.declared.ring.Rqe.{Rqe}
-use Rattle.board_face.specs.Looks.{NicLooksStay, same_nic_look}
-use Rattle.board_face.specs.NicEvents.{gave_up, honoured, passed_over, cache_room, holder_look, looks_by_stray}
-use Rattle.board_face.specs.declared.views.nic.Dealt.{Dealt}
-use Rattle.board_face.specs.declared.views.nic.Fate.TheVariants.{Honoured, Stray}
-use Rattle.board_face.specs.declared.views.nic.NicLook.{NicLook}
-use Rattle.board_face.specs.declared.views.nic.NicLook.TheVariants.{Owed, NotOwed, LastHolder}
-use Rattle.std.specs.Prelude.{count_by}
-use Rattle.board_face.specs.declared.views.nic.NicView.{NicView}
-use Rattle.board_face.proofs.LookLemmas.{NicLooksStay-same, NicLooksStay-trans, times-more}
-use Rattle.page_pool.specs.Dealing.{DealsWith, CachesFreed, is_freed, freed_in, CountsStrays, strays_in, IsRaised}
-use Rattle.page_pool.specs.Gathering.{DealsRing}
+use Rattle.zr_kinds.specs.declared.{outcome.PoolStats.{PoolStats}, ring.Rqe.{Rqe}}
+use Rattle.board_face.specs.{Looks.{NicLooksStay, same_nic_look}, NicEvents.{gave_up, honoured, passed_over, cache_room, holder_look, looks_by_stray}}
+use Rattle.board_face.specs.declared.views.nic.{Dealt.{Dealt}, Fate.TheVariants.{Honoured, Stray}, NicLook.{NicLook, TheVariants.{Owed, NotOwed, LastHolder}}}
+use Rattle.board_face.{specs.declared.views.nic.NicView.{NicView}, proofs.LookLemmas.{NicLooksStay-same, NicLooksStay-trans, times-more}}
+use Rattle.page_pool.specs.{Dealing.{DealsWith, CachesFreed, is_freed, freed_in, CountsStrays, strays_in, IsRaised}, Gathering.{DealsRing}}
 
 pub CountsStrays-none : (stats : PoolStats) → CountsStrays stats stats []
 CountsStrays-none stats = record { strays = inl (omega arith); others = refl }

@@ -1,16 +1,11 @@
 -- The notes of a frame show its payload.
-use Rattle.std.proofs.Common.{◌≡◌, ℕ, zero, suc, ◌+◌, ◌-◌, ◌<◌, ◌≤◌, min, List, [], ◌∷◌, ◌++◌, length, take, drop}
-use Rattle.std.proofs.Common.{append_assoc, refl, arith}
-use Rattle.std.proofs.lemmas.List.{append-nil}
-use Rattle.std.proofs.lemmas.List.Sums.{sum_by-cons}
-use Rattle.area_layout.specs.Layout.{Shape, IsLayout, size_of}
-use Rattle.area_layout.proofs.Words.{words_apart}
+use Rattle.std.proofs.Common.{◌≡◌, ℕ, zero, suc, ◌+◌, ◌-◌, ◌<◌, ◌≤◌, min, List, [], ◌∷◌, ◌++◌, length, take, drop, append_assoc, refl, arith}
+use Rattle.std.proofs.lemmas.List.{append-nil, Sums.{sum_by-cons}}
+use Rattle.area_layout.{specs.Layout.{Shape, IsLayout, size_of}, proofs.Words.{words_apart}}
 use Rattle.zr_kinds.specs.declared.place.Place.{Place}
 use Rattle.board_face.specs.declared.views.nic.SentNote.{SentNote}
-use Rattle.page_pool.specs.declared.offer.Offer.{Offer}
-use Rattle.page_pool.specs.Frames.{Offered, offered, ShowsPart, ShowRest, ShowsWhole, ShowsFrame, ShowFrames}
-use Rattle.page_pool.specs.Offer.{payload_of, split_note, split_notes, short_note}
-use Rattle.page_pool.specs.Placing.{fresh_places, room_in}
+use Rattle.page_pool.specs.{declared.offer.Offer.{Offer}, Frames.{Offered, offered, ShowsPart, ShowRest, ShowsWhole, ShowsFrame, ShowFrames}}
+use Rattle.page_pool.specs.{Offer.{payload_of, split_note, split_notes, short_note}, Placing.{fresh_places, room_in}}
 
 -- the note of a part
 shows_part : (o : Offer) (at : ℕ) (place : Place) → 0 < place.len → at + place.len ≤ length (payload_of o)

@@ -1,35 +1,16 @@
 -- What the steps of an offer come to.
-use Rattle.std.proofs.Common.{◌≡◌, ℕ, ◌%◌, ◌<◌, ◌≤◌, List, [], ◌∷◌, length, map, refl, sym, ap, subst, ◌∙◌, arith, true}
-use Rattle.std.proofs.Common.{false, Option, Some, None}
-use Rattle.std.specs.Prelude.{◌≢◌, option_to_list}
-use Rattle.std.proofs.lemmas.List.{append-nil}
-use Rattle.std.proofs.Math.Seq.{take-length}
-use Rattle.std.proofs.lemmas.List.Elements.{All-nil}
-use Rattle.zr_kinds.specs.Limits.{longest_payload}
-use Rattle.zr_kinds.specs.declared.outcome.PoolStats.{PoolStats}
-use Rattle.area_layout.specs.Layout.{IsLayout, least_size}
-use Rattle.area_layout.proofs.Words.{in_order}
-use Rattle.board_face.specs.Looks.{NicLooksStay, same_nic_look}
-use Rattle.board_face.specs.NicCalls.{apps_of}
-use Rattle.board_face.specs.NicEvents.{placed, holder_look}
-use Rattle.board_face.specs.Tokens.{next_start, next_place}
-use Rattle.board_face.specs.declared.views.parts.Setting.{Setting}
-use Rattle.board_face.specs.declared.views.parts.Filling.{Filling}
-use Rattle.board_face.specs.declared.views.nic.PlacedText.{PlacedText}
-use Rattle.board_face.specs.declared.views.nic.NicView.{NicView}
-use Rattle.board_face.proofs.ListLemmas.{same_filling-refl}
-use Rattle.board_face.proofs.LookLemmas.{NicLooksStay-same, NicLooksStay-trans, times-more}
-use Rattle.page_pool.specs.declared.pool.Pending.{Pending}
-use Rattle.page_pool.specs.declared.offer.Offer.{Offer}
-use Rattle.page_pool.specs.Frames.{offered, ShowRest}
-use Rattle.page_pool.specs.Packing.{buffers_for, fits, needed}
-use Rattle.page_pool.specs.Pool.{PoolState, PoolStands, HasNonePending, piece_notes}
-use Rattle.page_pool.specs.Searching.{SearchEnd, empty, AreToldOf, EndsBy, Searches}
+use Rattle.std.proofs.Common.{◌≡◌, ℕ, ◌%◌, ◌<◌, ◌≤◌, List, [], ◌∷◌, length, map, refl, sym, ap, subst, ◌∙◌, arith, true, false, Option, Some, None}
+use Rattle.std.{specs.Prelude.{◌≢◌, option_to_list}, proofs.{lemmas.List.{append-nil, Elements.{All-nil}}, Math.Seq.{take-length}}}
+use Rattle.zr_kinds.specs.{Limits.{longest_payload}, declared.outcome.PoolStats.{PoolStats}}
+use Rattle.area_layout.{specs.Layout.{IsLayout, least_size}, proofs.Words.{in_order}}
+use Rattle.board_face.specs.{Looks.{NicLooksStay, same_nic_look}, NicCalls.{apps_of}, NicEvents.{placed, holder_look}, Tokens.{next_start, next_place}}
+use Rattle.board_face.specs.declared.views.{parts.{Setting.{Setting}, Filling.{Filling}}, nic.{PlacedText.{PlacedText}, NicView.{NicView}}}
+use Rattle.board_face.proofs.{ListLemmas.{same_filling-refl}, LookLemmas.{NicLooksStay-same, NicLooksStay-trans, times-more}}
+use Rattle.page_pool.specs.{declared.{pool.Pending.{Pending}, offer.Offer.{Offer}}, Frames.{offered, ShowRest}, Packing.{buffers_for, fits, needed}}
+use Rattle.page_pool.specs.{Pool.{PoolState, PoolStands, HasNonePending, piece_notes}, Searching.{SearchEnd, empty, AreToldOf, EndsBy, Searches}}
 use Rattle.page_pool.specs.Offer.{payload_of, split_notes, packed, packed_into, last_of, ClosesCurrent, LooksFor, not_needed, searched}
-use Rattle.page_pool.specs.Placing.{PiecesStand, part_of, fresh_places, FillsFresh, FillsCurrent, PlacesSplit, LacksRoom}
-use Rattle.page_pool.proofs.FramesShown.{one_shows, fresh_shows}
-use Rattle.page_pool.proofs.Packed.{parts_places}
-use Rattle.page_pool.proofs.PlacedParts.{PiecesStand-part, still_needed}
+use Rattle.page_pool.{specs.Placing.{PiecesStand, part_of, fresh_places, FillsFresh, FillsCurrent, PlacesSplit, LacksRoom}, proofs.FramesShown.{one_shows, fresh_shows}}
+use Rattle.page_pool.proofs.{Packed.{parts_places}, PlacedParts.{PiecesStand-part, still_needed}}
 
 -- ---- closing and looking for buffers
 

@@ -1,13 +1,8 @@
 -- All notes show the frames that were accepted.
 use Rattle.std.proofs.Common.{◌≡◌, ℕ, List, refl, ap, ◌∙◌}
 use Rattle.board_face.specs.declared.views.nic.NicView.{NicView}
-use Rattle.page_pool.specs.declared.offer.Offer.{Offer}
-use Rattle.page_pool.specs.declared.offer.Verdict.{Verdict}
-use Rattle.page_pool.specs.declared.offer.Verdict.TheVariants.{Accepted, NoRoom, Busy}
-use Rattle.page_pool.specs.Frames.{Offered, offered, ShowFrames}
-use Rattle.page_pool.specs.Pool.{PoolState, all_notes}
-use Rattle.page_pool.specs.Offer.{Offers}
-use Rattle.page_pool.specs.Laws.{HasAccepted, none, offers, keeps, OfferIsShown, AcceptedAreShown}
+use Rattle.page_pool.specs.{declared.offer.{Offer.{Offer}, Verdict.{Verdict, TheVariants.{Accepted, NoRoom, Busy}}}, Frames.{Offered, offered, ShowFrames}}
+use Rattle.page_pool.specs.{Pool.{PoolState, all_notes}, Offer.{Offers}, Laws.{HasAccepted, none, offers, keeps, OfferIsShown, AcceptedAreShown}}
 use Rattle.page_pool.proofs.FramesShown.{ShowFrames-push}
 
 pub offer_shown : OfferIsShown

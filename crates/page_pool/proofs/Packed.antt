@@ -1,12 +1,9 @@
 -- The places of the packing are those of the fresh buffers, in order.
-use Rattle.std.proofs.Common.{◌≡◌, ℕ, zero, suc, ◌-◌, List, [], ◌∷◌, ◌++◌, length, map, min, append_assoc, length-append, refl, sym, ap}
-use Rattle.std.proofs.Common.{arith, Option}
+use Rattle.std.proofs.Common.{◌≡◌, ℕ, zero, suc, ◌-◌, List, [], ◌∷◌, ◌++◌, length, map, min, append_assoc, length-append, refl, sym, ap, arith, Option}
 use Rattle.std.specs.Prelude.{slice_index}
 use Rattle.area_layout.specs.Layout.{Shape, size_of}
 use Rattle.board_face.specs.declared.views.parts.Filling.{Filling}
-use Rattle.page_pool.specs.Packing.{fresh_parts}
-use Rattle.page_pool.specs.Offer.{place_of}
-use Rattle.page_pool.specs.Placing.{fresh_places}
+use Rattle.page_pool.specs.{Packing.{fresh_parts}, Offer.{place_of}, Placing.{fresh_places}}
 
 index_seam : (pre bs : List ℕ) (b : ℕ) → slice_index (pre ++ b ∷ bs) (length pre) ≡ b
 index_seam [] bs b = refl

@@ -1,12 +1,8 @@
 -- The parts of a packing.
 use Rattle.std.proofs.Common.{◌≡◌, ℕ, zero, suc, ◌+◌, ◌-◌, ◌*◌, ◌<◌, ◌≤◌, min, List, [], ◌∷◌, ◌++◌}
 use Rattle.std.proofs.Common.{length, append_assoc, length-append, refl, sym, ap, arith, true, false, Option, Some, None, All, sum_by, ⊎_elim, inl, inr, ◌∙◌}
-use Rattle.std.specs.Prelude.{slice_get}
-use Rattle.std.proofs.lemmas.Bool.{cases_Bool, cases_lt, leb-true}
-use Rattle.std.proofs.lemmas.Grind.{div_ceil_times}
-use Rattle.std.proofs.Math.Nat.{lt_of_mul-lt-mul_right, mul-le-mul_right}
-use Rattle.std.proofs.lemmas.List.Sums.{sum_by-cons}
-use Rattle.std.proofs.lemmas.List.Elements.{All-nil, All-cons, All-head, All-tail}
+use Rattle.std.{specs.Prelude.{slice_get}, proofs.lemmas.{Bool.{cases_Bool, cases_lt, leb-true}, Grind.{div_ceil_times}}}
+use Rattle.std.proofs.{Math.Nat.{lt_of_mul-lt-mul_right, mul-le-mul_right}, lemmas.List.{Sums.{sum_by-cons}, Elements.{All-nil, All-cons, All-head, All-tail}}}
 use Rattle.zr_kinds.specs.Limits.{longest_payload}
 use Rattle.page_pool.specs.Packing.{Current, Part, fresh, fits, buffers_for, fresh_parts, needed, packing, taken}
 use Rattle.page_pool.specs.Laws.{AreEnough, LiesWell, PackingIsWhole, PackingIsShort}

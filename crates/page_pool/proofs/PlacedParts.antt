@@ -1,34 +1,17 @@
 -- One more part was placed.
 use Rattle.std.proofs.Common.{◌≡◌, ℕ, zero, suc, ◌+◌, ◌-◌, ◌*◌, ◌<◌, ◌≤◌, min, List, [], ◌∷◌, ◌++◌, length, map, take, drop}
 use Rattle.std.proofs.Common.{append_assoc, length-append, inl, inr, refl, sym, ap, ◌∙◌, arith, true, ◌&&◌, nat_lt, Some}
-use Rattle.std.specs.Prelude.{◌≢◌, ◌⊎◌, Bool, false, if◌then◌else◌, reverse}
-use Rattle.std.proofs.lemmas.List.{append-nil, map-append, length-map, reverse-append, same_from_push}
-use Rattle.std.proofs.lemmas.Grind.{div_ceil_times}
-use Rattle.std.proofs.lemmas.List.Sums.{sum_by-cons, sum_by_push}
-use Rattle.std.proofs.Math.Nat.{lt_of_mul-lt-mul_right}
+use Rattle.std.{specs.Prelude.{◌≢◌, ◌⊎◌, Bool, false, if◌then◌else◌, reverse}, proofs.lemmas.List.{append-nil, map-append, length-map, reverse-append, same_from_push}}
+use Rattle.std.proofs.{lemmas.{Grind.{div_ceil_times}, List.Sums.{sum_by-cons, sum_by_push}}, Math.Nat.{lt_of_mul-lt-mul_right}}
 use Rattle.std.proofs.lemmas.List.Elements.{All-push, All-nil, All-contains, Contains-push}
-use Rattle.zr_kinds.specs.Limits.{longest_payload}
-use Rattle.zr_kinds.specs.declared.place.Place.{Place}
-use Rattle.board_face.specs.Looks.{same_nic_look}
-use Rattle.area_layout.specs.Layout.{Shape, IsLayout, pool_buffers, least_size, size_of}
-use Rattle.area_layout.proofs.Words.{in_order, words_apart}
-use Rattle.board_face.specs.Texts.{IsSplitNote}
-use Rattle.board_face.specs.Tokens.{next_place, filled_by, same_filling}
-use Rattle.board_face.specs.NicCalls.{TookBuffer, Closed, apps_of}
-use Rattle.board_face.specs.NicEvents.{placed, took, fresh, shut, cache_room, holder_look}
-use Rattle.board_face.specs.declared.views.parts.Setting.{Setting}
-use Rattle.board_face.specs.declared.views.parts.Filling.{Filling}
-use Rattle.board_face.specs.declared.views.nic.SentNote.{SentNote}
-use Rattle.board_face.specs.declared.views.nic.PlacedText.{PlacedText}
-use Rattle.board_face.specs.declared.views.nic.NicView.{NicView}
-use Rattle.board_face.proofs.ListLemmas.{same_filling-refl}
+use Rattle.zr_kinds.specs.{Limits.{longest_payload}, declared.place.Place.{Place}}
+use Rattle.board_face.specs.{Looks.{same_nic_look}, Texts.{IsSplitNote}, Tokens.{next_place, filled_by, same_filling}, NicCalls.{TookBuffer, Closed, apps_of}}
+use Rattle.board_face.specs.{NicEvents.{placed, took, fresh, shut, cache_room, holder_look}, declared.views.parts.{Setting.{Setting}, Filling.{Filling}}}
+use Rattle.board_face.{specs.declared.views.nic.{SentNote.{SentNote}, PlacedText.{PlacedText}, NicView.{NicView}}, proofs.ListLemmas.{same_filling-refl}}
 use Rattle.board_face.proofs.LookLemmas.{NicLooksStay-same, NicLooksStay-trans, times-more}
-use Rattle.page_pool.specs.declared.pool.Pending.{Pending}
-use Rattle.page_pool.specs.declared.offer.Offer.{Offer}
-use Rattle.page_pool.specs.Pool.{piece_notes}
-use Rattle.page_pool.specs.Packing.{buffers_for, fresh_parts}
-use Rattle.page_pool.specs.Offer.{payload_of, split_note, split_notes, last_of}
-use Rattle.page_pool.proofs.Entries.{grown, freed_by}
+use Rattle.area_layout.{specs.Layout.{Shape, IsLayout, pool_buffers, least_size, size_of}, proofs.Words.{in_order, words_apart}}
+use Rattle.page_pool.specs.{declared.{pool.Pending.{Pending}, offer.Offer.{Offer}}, Pool.{piece_notes}, Packing.{buffers_for, fresh_parts}}
+use Rattle.page_pool.{specs.Offer.{payload_of, split_note, split_notes, last_of}, proofs.Entries.{grown, freed_by}}
 use Rattle.page_pool.specs.Placing.{PiecesStand, part_of, fresh_places, room_in, FreshParts, IsLastHeld, FreshSoFar, FillsFresh}
 
 -- ---- numbers

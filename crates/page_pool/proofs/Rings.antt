@@ -1,20 +1,12 @@
 -- One more ring was drained.
 use Rattle.std.proofs.Common.{◌≡◌, ◌≢◌, ℕ, ◌+◌, ◌<◌, ◌≤◌, ◌⊎◌, inl, inr, List, [], ◌∷◌, ◌++◌, length, append_assoc}
-use Rattle.std.proofs.Common.{length-append, refl, sym, ◌∙◌, ap, arith, below_more, ⊎_elim, All}
-use Rattle.std.specs.Prelude.{AllPairs}
-use Rattle.std.proofs.lemmas.Bool.{cases_lt}
-use Rattle.std.proofs.lemmas.List.{append-nil}
-use Rattle.std.proofs.lemmas.List.Sums.{sum_by-append}
-use Rattle.std.proofs.lemmas.List.Elements.{All-append, All-push, All-head, All-tail, All-weaker, All-get_or, All-nil}
+use Rattle.std.{proofs.{Common.{length-append, refl, sym, ◌∙◌, ap, arith, below_more, ⊎_elim, All}, lemmas.Bool.{cases_lt}}, specs.Prelude.{AllPairs}}
+use Rattle.std.proofs.lemmas.List.{append-nil, Sums.{sum_by-append}, Elements.{All-append, All-push, All-head, All-tail, All-weaker, All-get_or, All-nil}}
 use Rattle.std.proofs.lemmas.List.Quantifiers.{all_pairs_push}
 use Rattle.zr_kinds.specs.declared.outcome.PoolStats.{PoolStats}
-use Rattle.board_face.specs.declared.views.nic.Dealt.{Dealt}
-use Rattle.board_face.specs.declared.views.nic.NicLook.TheVariants.{RingEmpty}
-use Rattle.board_face.specs.declared.views.nic.NicView.{NicView}
-use Rattle.board_face.proofs.ListLemmas.{eqb_same, not-eqb}
+use Rattle.board_face.{specs.declared.views.nic.{Dealt.{Dealt}, NicLook.TheVariants.{RingEmpty}, NicView.{NicView}}, proofs.ListLemmas.{eqb_same, not-eqb}}
 use Rattle.board_face.proofs.LookLemmas.{NicLooksStay-trans, NicRose-later, NicRose-before}
-use Rattle.page_pool.specs.Dealing.{DealsWith, DrainsFirst, CountsStrays, AreInTurn, IsRingDone, IsRaised, strays_in, entries_of}
-use Rattle.page_pool.specs.Gathering.{DrainsRing}
+use Rattle.page_pool.specs.{Dealing.{DealsWith, DrainsFirst, CountsStrays, AreInTurn, IsRingDone, IsRaised, strays_in, entries_of}, Gathering.{DrainsRing}}
 use Rattle.page_pool.proofs.Entries.{CountsStrays-none, CachesFreed-trans, DealsWith-none}
 
 -- ---- entries in turn

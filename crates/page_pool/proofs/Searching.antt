@@ -1,27 +1,16 @@
 -- One more ring was drained, or one more word swept.
 use Rattle.std.proofs.Common.{◌≡◌, ℕ, zero, suc, ◌+◌, ◌-◌, ◌<◌, ◌≤◌, ◌^◌, ◌⊎◌, inl, inr, List, [], ◌∷◌, ◌++◌}
 use Rattle.std.proofs.Common.{length, append_assoc, length-append, refl, sym, ◌∙◌, ap, arith, below_more, ⊎_elim, min, Bool, true, false}
-use Rattle.std.specs.Prelude.{◌≢◌, MatchBool}
-use Rattle.std.specs.Prelude.{◌||◌, nat_eq}
-use Rattle.std.specs.List.{list_any, range_with_len}
-use Rattle.std.proofs.lemmas.Bool.{true≢false, cases_lt, cases_Bool, eq-eqb}
-use Rattle.std.proofs.Math.Bool.{or-true}
-use Rattle.std.proofs.lemmas.List.{append-nil}
-use Rattle.std.proofs.lemmas.List.Folds.{list_any-append}
+use Rattle.std.{specs.{Prelude.{◌≢◌, MatchBool, ◌||◌, nat_eq}, List.{list_any, range_with_len}}, proofs.lemmas.Bool.{true≢false, cases_lt, cases_Bool, eq-eqb}}
+use Rattle.std.proofs.{Math.Bool.{or-true}, lemmas.List.{append-nil, Folds.{list_any-append}}}
 use Rattle.zr_kinds.specs.declared.outcome.PoolStats.{PoolStats}
 use Rattle.area_layout.specs.Layout.{pool_buffers}
-use Rattle.board_face.specs.Looks.{NicRose, same_nic_look, NicLooksStay}
-use Rattle.board_face.specs.NicEvents.{swept}
-use Rattle.board_face.specs.NicCalls.{apps_of, free_words_of, HasSweptAll, lost_of, sent_unsplit_bytes, SweptWord}
-use Rattle.board_face.specs.declared.views.nic.Dealt.{Dealt}
-use Rattle.board_face.specs.declared.views.nic.NicLook.TheVariants.{RingEmpty, Swept}
-use Rattle.board_face.specs.declared.views.nic.NicView.{NicView}
-use Rattle.board_face.proofs.LostLemmas.{buffers-accounted}
+use Rattle.board_face.specs.{Looks.{NicRose, same_nic_look, NicLooksStay}, NicEvents.{swept}}
+use Rattle.board_face.specs.{NicCalls.{apps_of, free_words_of, HasSweptAll, lost_of, sent_unsplit_bytes, SweptWord}, declared.views.nic.Dealt.{Dealt}}
+use Rattle.board_face.{specs.declared.views.nic.{NicLook.TheVariants.{RingEmpty, Swept}, NicView.{NicView}}, proofs.LostLemmas.{buffers-accounted}}
 use Rattle.board_face.proofs.LookLemmas.{NicLooksStay-same, NicLooksStay-trans, NicRose-later, NicRose-before, times-more}
-use Rattle.page_pool.specs.Dealing.{DealsWith, IsRaised}
-use Rattle.page_pool.specs.Gathering.{DrainsRing, Gathers, HasAtMost, RefillsFirst, SweepsFirst}
-use Rattle.page_pool.specs.Searching.{SearchEnd, fast, refill, slow, empty, enough, AreRingsDone, AreSwept, AreToldOf, Searches, LooksAhead}
-use Rattle.page_pool.specs.Pool.{PoolState}
+use Rattle.page_pool.specs.{Dealing.{DealsWith, IsRaised}, Gathering.{DrainsRing, Gathers, HasAtMost, RefillsFirst, SweepsFirst}}
+use Rattle.page_pool.specs.{Searching.{SearchEnd, fast, refill, slow, empty, enough, AreRingsDone, AreSwept, AreToldOf, Searches, LooksAhead}, Pool.{PoolState}}
 use Rattle.page_pool.proofs.Entries.{CountsStrays-none, CachesFreed-none, CachesFreed-trans}
 use Rattle.page_pool.proofs.Rings.{CountsStrays-more, AreInTurn-none, AreInTurn-ring, entries_of-own, entries_of-append}
 

@@ -1,22 +1,12 @@
 -- One more pending note was sent.
-use Rattle.std.proofs.Common.{◌≡◌, ◌<◌, List, [], ◌∷◌, ◌++◌, map, take, append_assoc, refl, sym, ◌∙◌, arith, Some, None, true, ℕ}
-use Rattle.std.proofs.lemmas.List.{append-nil}
+use Rattle.std.proofs.{Common.{◌≡◌, ◌<◌, List, [], ◌∷◌, ◌++◌, map, take, append_assoc, refl, sym, ◌∙◌, arith, Some, None, true, ℕ}, lemmas.List.{append-nil}}
 use Rattle.std.proofs.lemmas.List.Elements.{All-head, All-tail}
-use Rattle.board_face.specs.Texts.{IsSplitNote}
-use Rattle.board_face.specs.NicEvents.{sent, sent_linear, nic_saw, text_at}
-use Rattle.board_face.specs.NicCalls.{apps_of}
-use Rattle.board_face.specs.declared.views.nic.NicView.{NicView}
-use Rattle.board_face.specs.declared.views.nic.NicLook.{NicLook}
-use Rattle.board_face.specs.declared.views.nic.SentNote.{SentNote}
-use Rattle.board_face.specs.declared.views.nic.PlacedText.{PlacedText}
-use Rattle.zr_kinds.specs.declared.place.Note.{Note}
-use Rattle.zr_kinds.specs.declared.place.Place.{Place}
+use Rattle.board_face.specs.{Texts.{IsSplitNote}, NicEvents.{sent, sent_linear, nic_saw, text_at}, NicCalls.{apps_of}, declared.views.nic.NicView.{NicView}}
+use Rattle.board_face.specs.declared.views.nic.{NicLook.{NicLook}, SentNote.{SentNote}, PlacedText.{PlacedText}}
 use Rattle.board_face.proofs.LookLemmas.{NicLooksStay-same, NicLooksStay-trans, NicLooksStay-nic_saw}
-use Rattle.board_face.proofs.ListLemmas.{places-without_first, without-head, at_first-head, same_place-refl}
-use Rattle.board_face.specs.Lists.{without, at_first, same_place}
-use Rattle.page_pool.specs.declared.pool.Pending.{Pending}
-use Rattle.page_pool.specs.declared.pool.Short.{Short}
-use Rattle.page_pool.specs.Pool.{PoolState, PoolStands, OnlySends, all_notes, piece_notes}
+use Rattle.board_face.{proofs.ListLemmas.{places-without_first, without-head, at_first-head, same_place-refl}, specs.Lists.{without, at_first, same_place}}
+use Rattle.zr_kinds.specs.declared.place.{Note.{Note}, Place.{Place}}
+use Rattle.page_pool.specs.{declared.pool.{Pending.{Pending}, Short.{Short}}, Pool.{PoolState, PoolStands, OnlySends, all_notes, piece_notes}}
 
 pub OnlySends-none : (pool : PoolState) (v : NicView) → OnlySends pool pool v v
 OnlySends-none pool v = record

@@ -1,8 +1,6 @@
 -- The store of pending pieces has a note in each place.
-use Rattle.std.proofs.Common.{◌≡◌, List, [], ◌∷◌, ◌++◌, length, refl, ap, arith, Option, Some, None, IsSome}
-use Rattle.std.proofs.lemmas.List.Elements.{All-head, All-tail}
-use Rattle.page_pool.specs.declared.pool.Pending.{Pending}
-use Rattle.page_pool.specs.Pieces.{pending_of, AreThere}
+use Rattle.std.proofs.{Common.{◌≡◌, List, [], ◌∷◌, ◌++◌, length, refl, ap, arith, Option, Some, None, IsSome}, lemmas.List.Elements.{All-head, All-tail}}
+use Rattle.page_pool.specs.{declared.pool.Pending.{Pending}, Pieces.{pending_of, AreThere}}
 
 not-some : IsSome {T = Pending} None → ⊥
 not-some some = grind arith

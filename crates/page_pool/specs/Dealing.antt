@@ -1,18 +1,9 @@
 -- What is done with refill entries.
-use Rattle.std.specs.Prelude.{◌≡◌, ℕ, ◌+◌, ◌-◌, ◌^◌, ◌<◌, ◌≤◌, ◌⊎◌, ◌==◌, nat_lt, min, max, Bool, true, false, List}
-use Rattle.std.specs.Prelude.{◌++◌, length}
-use Rattle.std.specs.Prelude.{count_by, All, AllPairs}
+use Rattle.std.specs.Prelude.{◌≡◌, ℕ, ◌+◌, ◌-◌, ◌^◌, ◌<◌, ◌≤◌, ◌⊎◌, ◌==◌, nat_lt, min, max, Bool, true, false, List, ◌++◌, length, count_by, All, AllPairs}
 use Rattle.zr_kinds.specs.declared.outcome.PoolStats.{PoolStats}
-use Rattle.board_face.specs.Looks.{NicRose, NicLooksStay}
+use Rattle.board_face.specs.{Looks.{NicRose, NicLooksStay}, NicEvents.{cache_room}, NicCalls.{apps_of}, declared.views.nic.Fate.{Fate, TheVariants.{Honoured, Stray}}}
+use Rattle.board_face.specs.declared.views.nic.{Dealt.{Dealt}, NicLook.{NicLook, TheVariants.{RingEmpty, LastHolder}}, NicView.{NicView}}
 use Rattle.area_layout.specs.Layout.{pool_buffers}
-use Rattle.board_face.specs.NicEvents.{cache_room}
-use Rattle.board_face.specs.NicCalls.{apps_of}
-use Rattle.board_face.specs.declared.views.nic.Fate.{Fate}
-use Rattle.board_face.specs.declared.views.nic.Fate.TheVariants.{Honoured, Stray}
-use Rattle.board_face.specs.declared.views.nic.Dealt.{Dealt}
-use Rattle.board_face.specs.declared.views.nic.NicLook.{NicLook}
-use Rattle.board_face.specs.declared.views.nic.NicLook.TheVariants.{RingEmpty, LastHolder}
-use Rattle.board_face.specs.declared.views.nic.NicView.{NicView}
 
 -- A count rose by so many. It stays at 2^64 - 1 once it is there.
 abbrev pub IsRaised : ℕ → ℕ → ℕ → Type 0

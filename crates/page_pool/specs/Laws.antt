@@ -1,15 +1,9 @@
 -- Laws of packing, and of all frames that were offered.
-use Rattle.std.specs.Prelude.{◌≡◌, ℕ, ◌+◌, ◌%◌, ◌<◌, ◌≤◌, List, [], ◌∷◌, ◌++◌, length, sum_by, All, slice_get, Option}
-use Rattle.std.specs.Prelude.{Some, None}
+use Rattle.std.specs.Prelude.{◌≡◌, ℕ, ◌+◌, ◌%◌, ◌<◌, ◌≤◌, List, [], ◌∷◌, ◌++◌, length, sum_by, All, slice_get, Option, Some, None}
 use Rattle.zr_kinds.specs.Limits.{longest_payload}
 use Rattle.board_face.specs.declared.views.nic.NicView.{NicView}
-use Rattle.page_pool.specs.declared.offer.Offer.{Offer}
-use Rattle.page_pool.specs.declared.offer.Verdict.{Verdict}
-use Rattle.page_pool.specs.declared.offer.Verdict.TheVariants.{Accepted, NoRoom, Busy}
-use Rattle.page_pool.specs.Frames.{Offered, offered, ShowFrames}
-use Rattle.page_pool.specs.Packing.{Current, Target, current, fresh, Part, needed, packing, taken}
-use Rattle.page_pool.specs.Pool.{PoolState, new_pool, all_notes}
-use Rattle.page_pool.specs.Offer.{Offers}
+use Rattle.page_pool.specs.{declared.offer.{Offer.{Offer}, Verdict.{Verdict, TheVariants.{Accepted, NoRoom, Busy}}}, Frames.{Offered, offered, ShowFrames}}
+use Rattle.page_pool.specs.{Packing.{Current, Target, current, fresh, Part, needed, packing, taken}, Pool.{PoolState, new_pool, all_notes}, Offer.{Offers}}
 
 -- ---- packing
 

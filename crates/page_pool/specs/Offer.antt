@@ -1,27 +1,13 @@
 -- What becomes of a frame that is offered.
 use Rattle.std.specs.Prelude.{◌≡◌, ◌≢◌, ℕ, ◌+◌, ◌-◌, ◌<◌, ◌≤◌, nat_le, true, false, if◌then◌else◌, List, [], ◌∷◌, ◌++◌}
 use Rattle.std.specs.Prelude.{length, map, take, drop, reverse, slice_index, Option, Some, None}
-use Rattle.zr_kinds.specs.declared.place.Note.{Note}
-use Rattle.zr_kinds.specs.declared.place.Place.{Place}
-use Rattle.zr_kinds.specs.declared.outcome.PoolStats.{PoolStats}
+use Rattle.zr_kinds.specs.declared.{place.{Note.{Note}, Place.{Place}}, outcome.PoolStats.{PoolStats}}
 use Rattle.area_layout.specs.Layout.{pool_buffers, least_size, size_of}
-use Rattle.board_face.specs.Looks.{NicRose, NicLooksStay}
-use Rattle.board_face.specs.NicEvents.{fresh}
-use Rattle.board_face.specs.NicCalls.{Closed, HasSweptAll, sent_unsplit_bytes}
-use Rattle.board_face.specs.Tokens.{filled_by}
-use Rattle.board_face.specs.declared.views.parts.Setting.{Setting}
-use Rattle.board_face.specs.declared.views.parts.Filling.{Filling}
-use Rattle.board_face.specs.declared.views.nic.NicLook.TheVariants.{NoteInUse}
-use Rattle.board_face.specs.declared.views.nic.SentNote.{SentNote}
-use Rattle.board_face.specs.declared.views.nic.NicView.{NicView}
-use Rattle.page_pool.specs.declared.offer.Offer.{Offer}
-use Rattle.page_pool.specs.declared.offer.Verdict.{Verdict}
-use Rattle.page_pool.specs.declared.offer.Verdict.TheVariants.{Accepted, NoRoom, Busy}
-use Rattle.page_pool.specs.Frames.{offered, ShowsFrame}
-use Rattle.page_pool.specs.Packing.{Current, Target, Part, fits, needed, packing, taken}
-use Rattle.page_pool.specs.Packing.{current as in_current, fresh as in_fresh}
-use Rattle.page_pool.specs.Pool.{PoolState, OnlySends, IsNextApp, all_notes}
-use Rattle.page_pool.specs.Searching.{SearchEnd, empty, Searches}
+use Rattle.board_face.specs.{Looks.{NicRose, NicLooksStay}, NicEvents.{fresh}, NicCalls.{Closed, HasSweptAll, sent_unsplit_bytes}, Tokens.{filled_by}}
+use Rattle.board_face.specs.declared.views.{parts.{Setting.{Setting}, Filling.{Filling}}, nic.{NicLook.TheVariants.{NoteInUse}, SentNote.{SentNote}, NicView.{NicView}}}
+use Rattle.page_pool.specs.{declared.offer.{Offer.{Offer}, Verdict.{Verdict, TheVariants.{Accepted, NoRoom, Busy}}}, Frames.{offered, ShowsFrame}}
+use Rattle.page_pool.specs.Packing.{Current, Target, Part, fits, needed, packing, taken, current as in_current, fresh as in_fresh}
+use Rattle.page_pool.specs.{Pool.{PoolState, OnlySends, IsNextApp, all_notes}, Searching.{SearchEnd, empty, Searches}}
 
 -- ---- the notes of a frame
 

@@ -1,8 +1,7 @@
 -- Packing: where a payload that is split goes. It goes whole to the current buffer, at the next multiple of 64 behind what is
 -- used, where it fits there. Otherwise it fills fresh buffers from their begin, one after another. (Linux
 -- networking/page_pool: fragments of a page.) It is over numbers alone.
-use Rattle.std.specs.Prelude.{ℕ, zero, suc, ◌+◌, ◌-◌, nat_le, min, Bool, false, if◌then◌else◌, List, [], ◌∷◌, length, Option, Some, None}
-use Rattle.std.specs.Int.{div_ceil}
+use Rattle.std.specs.{Prelude.{ℕ, zero, suc, ◌+◌, ◌-◌, nat_le, min, Bool, false, if◌then◌else◌, List, [], ◌∷◌, length, Option, Some, None}, Int.{div_ceil}}
 use Rattle.board_face.specs.Tokens.{next_start}
 
 -- the current buffer: how many of its bytes are used, and how many it has

@@ -2,22 +2,13 @@
 use Rattle.std.specs.Prelude.{◌≡◌, ◌≢◌, ℕ, zero, suc, ◌+◌, ◌-◌, ◌%◌, ◌<◌, ◌≤◌, min, true, false, List, [], ◌∷◌}
 use Rattle.std.specs.Prelude.{◌++◌, length, map, reverse, sum_by, take, All, ◌⊎◌, Option, Some, None}
 use Rattle.zr_kinds.specs.declared.place.Place.{Place}
-use Rattle.board_face.specs.Looks.{NicLooksStay}
-use Rattle.board_face.specs.Texts.{IsSplitNote}
-use Rattle.board_face.specs.Tokens.{next_place, filled_by}
-use Rattle.board_face.specs.NicCalls.{apps_of, HasNothingIn}
-use Rattle.board_face.specs.declared.views.parts.Filling.{Filling}
-use Rattle.board_face.specs.declared.views.nic.NicView.{NicView}
-use Rattle.page_pool.specs.declared.pool.Pending.{Pending}
-use Rattle.page_pool.specs.declared.offer.Offer.{Offer}
-use Rattle.area_layout.specs.Layout.{Shape, least_size, size_of}
-use Rattle.board_face.specs.NicEvents.{placed}
-use Rattle.page_pool.specs.declared.pool.Short.{Short}
-use Rattle.page_pool.specs.Pool.{PoolState, PoolStands, piece_notes}
-use Rattle.page_pool.specs.Searching.{SearchEnd, empty}
-use Rattle.page_pool.specs.Frames.{offered, ShowRest}
+use Rattle.board_face.specs.{Looks.{NicLooksStay}, Texts.{IsSplitNote}, Tokens.{next_place, filled_by}, NicCalls.{apps_of, HasNothingIn}}
+use Rattle.board_face.specs.{declared.views.{parts.Filling.{Filling}, nic.NicView.{NicView}}, NicEvents.{placed}}
+use Rattle.page_pool.specs.{declared.{pool.{Pending.{Pending}, Short.{Short}}, offer.Offer.{Offer}}, Pool.{PoolState, PoolStands, piece_notes}}
+use Rattle.page_pool.specs.{Searching.{SearchEnd, empty}, Frames.{offered, ShowRest}}
 use Rattle.page_pool.specs.Offer.{payload_of, len_of, short_note, split_note, split_notes, packed, place_of, last_of, packed_into, LooksFor}
 use Rattle.page_pool.specs.Packing.{buffers_for, fits, needed, fresh_parts, packing, taken}
+use Rattle.area_layout.specs.Layout.{Shape, least_size, size_of}
 
 -- the pieces that are out are those of the pending notes, in order, and each note may be sent
 pub record PiecesStand (pieces : List Pending) (v : NicView) : Type 0 where

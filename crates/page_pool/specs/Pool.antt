@@ -1,18 +1,9 @@
 -- What the pool keeps between its calls, and how that stands to what its face has seen.
-use Rattle.std.specs.Prelude.{◌≡◌, ℕ, ◌+◌, ◌<◌, ◌≤◌, List, [], ◌∷◌, ◌++◌, length, map, take, All, Option, Some, None, IfSome}
-use Rattle.std.specs.Prelude.{option_to_list}
+use Rattle.std.specs.Prelude.{◌≡◌, ℕ, ◌+◌, ◌<◌, ◌≤◌, List, [], ◌∷◌, ◌++◌, length, map, take, All, Option, Some, None, IfSome, option_to_list}
 use Rattle.zr_kinds.specs.declared.outcome.PoolStats.{PoolStats}
-use Rattle.board_face.specs.Looks.{NicLooksStay}
-use Rattle.board_face.specs.Texts.{IsSplitNote, IsLinearNote}
-use Rattle.board_face.specs.NicEvents.{nic_ended}
-use Rattle.board_face.specs.NicCalls.{apps_of, Closed}
-use Rattle.board_face.specs.declared.views.parts.Setting.{Setting}
-use Rattle.board_face.specs.declared.views.parts.Filling.{Filling}
-use Rattle.board_face.specs.declared.views.nic.PlacedText.{PlacedText}
-use Rattle.board_face.specs.declared.views.nic.SentNote.{SentNote}
-use Rattle.board_face.specs.declared.views.nic.NicView.{NicView}
-use Rattle.page_pool.specs.declared.pool.Pending.{Pending}
-use Rattle.page_pool.specs.declared.pool.Short.{Short}
+use Rattle.board_face.specs.{Looks.{NicLooksStay}, Texts.{IsSplitNote, IsLinearNote}, NicEvents.{nic_ended}, NicCalls.{apps_of, Closed}}
+use Rattle.board_face.specs.declared.views.{parts.{Setting.{Setting}, Filling.{Filling}}, nic.{PlacedText.{PlacedText}, SentNote.{SentNote}, NicView.{NicView}}}
+use Rattle.page_pool.specs.declared.pool.{Pending.{Pending}, Short.{Short}}
 
 pub record PoolState : Type 0 where
   -- the greatest payload that isn't split

@@ -1,15 +1,10 @@
 -- The search for fresh buffers: in the cache, then in the refill rings, then on the free list.
-use Rattle.std.specs.Prelude.{◌≡◌, ℕ, ◌+◌, ◌<◌, ◌≤◌, ◌⊎◌, List, ◌++◌, length}
-use Rattle.std.specs.List.{range_with_len}
+use Rattle.std.specs.{Prelude.{◌≡◌, ℕ, ◌+◌, ◌<◌, ◌≤◌, ◌⊎◌, List, ◌++◌, length}, List.{range_with_len}}
 use Rattle.zr_kinds.specs.declared.outcome.PoolStats.{PoolStats}
-use Rattle.board_face.specs.Looks.{NicRose, NicLooksStay}
+use Rattle.board_face.specs.{Looks.{NicRose, NicLooksStay}, NicCalls.{apps_of, free_words_of, HasSweptAll, sent_unsplit_bytes}, declared.views.nic.Dealt.{Dealt}}
+use Rattle.board_face.specs.declared.views.nic.{NicLook.TheVariants.{Swept}, NicView.{NicView}}
 use Rattle.area_layout.specs.Layout.{pool_buffers}
-use Rattle.board_face.specs.NicCalls.{apps_of, free_words_of, HasSweptAll, sent_unsplit_bytes}
-use Rattle.board_face.specs.declared.views.nic.Dealt.{Dealt}
-use Rattle.board_face.specs.declared.views.nic.NicLook.TheVariants.{Swept}
-use Rattle.board_face.specs.declared.views.nic.NicView.{NicView}
-use Rattle.page_pool.specs.Dealing.{IsRaised, freed_in, AreInTurn, IsRingDone, strays_in}
-use Rattle.page_pool.specs.Pool.{PoolState}
+use Rattle.page_pool.specs.{Dealing.{IsRaised, freed_in, AreInTurn, IsRingDone, strays_in}, Pool.{PoolState}}
 
 -- A search that looks beyond the cache goes on until so many buffers are cached.
 abbrev pub enough : ℕ

@@ -1,12 +1,7 @@
 ghost use Rattle.std.specs.Prelude.{◌≡◌, ℕ, ◌+◌, ◌<◌};
 ghost use Rattle.zr_kinds.specs.declared.outcome.PoolStats.{PoolStats};
-ghost use Rattle.board_face.specs.Looks.{NicRose};
-ghost use Rattle.board_face.specs.NicCalls.{apps_of, NicOnlySaw};
-ghost use Rattle.board_face.specs.NicEvents.{nic_gist};
-ghost use Rattle.board_face.specs.declared.views.nic.NicLook.TheVariants.{RingEmpty};
-ghost use Rattle.page_pool.specs.Pool.{PoolStands};
-ghost use Rattle.page_pool.specs.Dealing.{DrainsRings};
-ghost use Rattle.page_pool.specs.Gathering.{DrainsRing};
+ghost use Rattle.board_face.specs.{Looks.{NicRose}, NicCalls.{apps_of, NicOnlySaw}, NicEvents.{nic_gist}, declared.views.nic.NicLook.TheVariants.{RingEmpty}};
+ghost use Rattle.page_pool.specs.{Pool.{PoolStands}, Dealing.{DrainsRings}, Gathering.{DrainsRing}};
 
 use crate::Pool;
 use board_face::{Entry, NicFace};

@@ -1,8 +1,5 @@
 ghost use Rattle.std.specs.Prelude.{◌≡◌, ℕ, MatchBool};
-ghost use Rattle.board_face.specs.Looks.{NicRose};
-ghost use Rattle.board_face.specs.NicCalls.{IsOpen};
-ghost use Rattle.board_face.specs.NicEvents.{nic_gist};
-ghost use Rattle.board_face.specs.declared.views.nic.NicLook.TheVariants.{NoteInUse};
+ghost use Rattle.board_face.specs.{Looks.{NicRose}, NicCalls.{IsOpen}, NicEvents.{nic_gist}, declared.views.nic.NicLook.TheVariants.{NoteInUse}};
 ghost use Rattle.page_pool.specs.Pool.{PoolStands, HasNonePending, IsNextApp, OnlySends};
 
 use crate::{Pending, Pool};

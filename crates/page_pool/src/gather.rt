@@ -1,6 +1,5 @@
 ghost use Rattle.std.specs.Prelude.{◌≡◌, ◌<◌, ◌≤◌, length, MatchBool};
-ghost use Rattle.page_pool.specs.Pool.{PoolStands};
-ghost use Rattle.page_pool.specs.Searching.{LooksAhead};
+ghost use Rattle.page_pool.specs.{Pool.{PoolStands}, Searching.{LooksAhead}};
 
 use crate::Pool;
 use crate::search::find_fresh;

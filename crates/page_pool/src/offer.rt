@@ -1,13 +1,7 @@
 ghost use Rattle.std.specs.Prelude.{◌≡◌, ℕ, ◌<◌, ◌≤◌, [], length, None, Some, MatchBool, MatchResult, option_to_list};
 ghost use Rattle.zr_kinds.specs.Limits.{longest_payload};
-ghost use Rattle.board_face.specs.Looks.{NicRose};
-ghost use Rattle.board_face.specs.NicCalls.{apps_of, IsOpen, NicOnlySaw};
-ghost use Rattle.board_face.specs.NicEvents.{nic_gist, sent_linear};
-ghost use Rattle.board_face.specs.declared.views.nic.NicLook.TheVariants.{NoteInUse};
-ghost use Rattle.page_pool.specs.declared.pool.Short.{Short as TheShort};
-ghost use Rattle.page_pool.specs.Pool.{PoolStands, HasNonePending, IsNextApp};
-ghost use Rattle.page_pool.specs.Offer.{Offers, KeepsRest, ClosesCurrent, short_note};
-ghost use Rattle.page_pool.specs.Placing.{FillsCurrent, LeavesCurrent, PlacesSplit, LacksRoom, KeepsShort};
+ghost use Rattle.board_face.specs.{Looks.{NicRose}, NicCalls.{apps_of, IsOpen, NicOnlySaw}, NicEvents.{nic_gist, sent_linear}, declared.views.nic.NicLook.TheVariants.{NoteInUse}};
+ghost use Rattle.page_pool.specs.{declared.pool.Short.{Short as TheShort}, Pool.{PoolStands, HasNonePending, IsNextApp}, Offer.{Offers, KeepsRest, ClosesCurrent, short_note}, Placing.{FillsCurrent, LeavesCurrent, PlacesSplit, LacksRoom, KeepsShort}};
 
 use crate::pieces::PendingPieces;
 use crate::placing::{place_fresh, place_part};

@@ -1,11 +1,8 @@
 ghost use Rattle.std.specs.Prelude.{◌≡◌, ◌+◌, ◌<◌, ◌≤◌, [], ◌∷◌, ◌++◌, length, take, drop, option_to_list};
 ghost use Rattle.zr_kinds.specs.Limits.{longest_payload};
 ghost use Rattle.area_layout.specs.Layout.{IsLayout, least_size};
-ghost use Rattle.board_face.specs.NicCalls.{apps_of, IsOpen};
-ghost use Rattle.board_face.specs.NicEvents.{placed};
-ghost use Rattle.board_face.specs.Tokens.{next_place, filled_by};
-ghost use Rattle.page_pool.specs.Packing.{buffers_for};
-ghost use Rattle.page_pool.specs.Placing.{part_of, FillsFresh};
+ghost use Rattle.board_face.specs.{NicCalls.{apps_of, IsOpen}, NicEvents.{placed}, Tokens.{next_place, filled_by}};
+ghost use Rattle.page_pool.specs.{Packing.{buffers_for}, Placing.{part_of, FillsFresh}};
 
 use crate::pieces::PendingPieces;
 use crate::{Offer, Pending};

@@ -1,10 +1,7 @@
 ghost use Rattle.std.specs.Prelude.{◌≡◌, ◌<◌, ◌≤◌};
 ghost use Rattle.zr_kinds.specs.Limits.{longest_payload};
-ghost use Rattle.board_face.specs.NicCalls.{HasNoToken};
-ghost use Rattle.board_face.specs.declared.views.nic.NicView.{NicView};
-ghost use Rattle.page_pool.specs.Offer.{fresh_for, packed};
-ghost use Rattle.page_pool.specs.Packing.{fits};
-ghost use Rattle.page_pool.specs.Pool.{new_pool, pending_count, PoolStands};
+ghost use Rattle.board_face.specs.{NicCalls.{HasNoToken}, declared.views.nic.NicView.{NicView}};
+ghost use Rattle.page_pool.specs.{Offer.{fresh_for, packed}, Packing.{fits}, Pool.{new_pool, pending_count, PoolStands}};
 
 use crate::pieces::PendingPieces;
 use board_face::{Own, Piece};

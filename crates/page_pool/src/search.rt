@@ -1,7 +1,6 @@
 ghost use Rattle.std.specs.Prelude.{◌≡◌, ◌≢◌, ◌<◌, ◌≤◌, length, MatchBool};
 ghost use Rattle.board_face.specs.NicCalls.{apps_of, free_words_of};
-ghost use Rattle.page_pool.specs.Gathering.{RefillsFirst, SweepsFirst};
-ghost use Rattle.page_pool.specs.Searching.{SearchEnd, empty, Searches};
+ghost use Rattle.page_pool.specs.{Gathering.{RefillsFirst, SweepsFirst}, Searching.{SearchEnd, empty, Searches}};
 
 use crate::drain::drain_ring;
 use board_face::NicFace;

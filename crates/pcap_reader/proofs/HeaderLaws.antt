@@ -1,17 +1,11 @@
 -- Laws of the file header.
 use Rattle.std.proofs.Common.{◌≡◌, ◌≢◌, ℕ, ◌+◌, ◌%◌, ◌<◌, ◌≤◌, nat_lt, nat_eq, ◌==◌, not, Bool, true, false, List, []}
 use Rattle.std.proofs.Common.{◌∷◌, ◌++◌, length, take, drop, Option, Some, None, refl, sym, ap, ◌∙◌, arith, length-append, lt-ltb, le-ltb}
-use Rattle.std.proofs.Common.{eq-eqb, ne_eqb, if◌then◌else◌}
-use Rattle.std.proofs.lemmas.List.{take-append-le, drop_at}
-use Rattle.std.proofs.lemmas.Bool.{cond-true, cond-false}
-use Rattle.std.specs.List.{starts_with}
-use Rattle.zr_kinds.specs.declared.fault.Fault.{Fault}
-use Rattle.zr_kinds.specs.declared.fault.Fault.TheVariants.{NotPcap, Version, LinkType, Cut}
-use Rattle.pcap_reader.specs.declared.order.ByteOrder.TheVariants.{Little, Big}
-use Rattle.pcap_reader.specs.Records.{ByteOrder, number, no_record, records_in, order_of}
+use Rattle.std.{proofs.{Common.{eq-eqb, ne_eqb, if◌then◌else◌}, lemmas.{List.{take-append-le, drop_at}, Bool.{cond-true, cond-false}}}, specs.List.{starts_with}}
+use Rattle.zr_kinds.specs.declared.fault.Fault.{Fault, TheVariants.{NotPcap, Version, LinkType, Cut}}
+use Rattle.pcap_reader.specs.{declared.order.ByteOrder.TheVariants.{Little, Big}, Records.{ByteOrder, number, no_record, records_in, order_of}}
 use Rattle.pcap_reader.specs.Records.{fields_fault, fault_behind, header_fault, after_header, behind_magic, records_of}
-use Rattle.pcap_reader.specs.Steps.{IsMagicOf, magic_in, fault_of_fields, behind_magic_in}
-use Rattle.pcap_reader.proofs.RecordLaws.{number-append, number_at-append}
+use Rattle.pcap_reader.{specs.Steps.{IsMagicOf, magic_in, fault_of_fields, behind_magic_in}, proofs.RecordLaws.{number-append, number_at-append}}
 
 abbrev starts : List ℕ → List ℕ → Bool
 starts bytes form = starts_with nat_eq bytes form

@@ -1,20 +1,13 @@
 -- How the steps of a reading go together.
-use Rattle.std.proofs.Common.{◌≡◌, ℕ, ◌<◌, ◌≤◌, List, [], ◌∷◌, ◌++◌, inl, inr, length, take, Option, Some, None, IfSome, refl, sym}
-use Rattle.std.proofs.Common.{Result, Ok, Err}
-use Rattle.std.proofs.Common.{ap, ◌∙◌, subst, arith, append-nil, length-append, length-take-le, take_all}
-use Rattle.std.proofs.lemmas.List.{append_cancel_right}
+use Rattle.std.proofs.Common.{◌≡◌, ℕ, ◌<◌, ◌≤◌, List, [], ◌∷◌, ◌++◌, inl, inr, length, take, Option, Some, None, IfSome, refl, sym, Result, Ok, Err}
+use Rattle.std.proofs.{Common.{ap, ◌∙◌, subst, arith, append-nil, length-append, length-take-le, take_all}, lemmas.List.{append_cancel_right}}
 use Rattle.std.specs.Io.KnownBytes.{Keeps, IsAtEnd, Consumes}
-use Rattle.zr_kinds.specs.Limits.{longest_record}
-use Rattle.zr_kinds.specs.declared.fault.Fault.{Fault}
-use Rattle.zr_kinds.specs.declared.fault.Fault.TheVariants.{Memory, NotPcap, Version, LinkType, Cut, LongRecord, Read}
-use Rattle.zr_io.specs.Moved.{Took}
-use Rattle.zr_io.proofs.Moved.{Took-nothing, Took-consumed, Took-then, Took-weaker}
+use Rattle.zr_kinds.specs.{Limits.{longest_record}, declared.fault.Fault.{Fault, TheVariants.{Memory, NotPcap, Version, LinkType, Cut, LongRecord, Read}}}
+use Rattle.zr_io.{specs.Moved.{Took}, proofs.Moved.{Took-nothing, Took-consumed, Took-then, Took-weaker}}
 use Rattle.pcap_reader.specs.Records.{ByteOrder, Records, no_record, with_record, captured_len, header_fault, records_in, records_of}
 use Rattle.pcap_reader.specs.Capture.{ShowsFault, BrokeOff, TakenShows, HeaderShows, TakenHeaderShows, IsOpeningFault, IsRecordFault, WantsMemory}
-use Rattle.pcap_reader.specs.Capture.{OfFronts, ClassicReading, Opens, OpensBehind}
-use Rattle.pcap_reader.specs.Steps.{Stops, HeaderStops, BreaksOff, IsHeaderOf, BodyStops}
-use Rattle.pcap_reader.specs.declared.capture.Record.{Record}
-use Rattle.pcap_reader.proofs.HeaderLaws.{records_of-fault, header_fault-cut}
+use Rattle.pcap_reader.specs.{Capture.{OfFronts, ClassicReading, Opens, OpensBehind}, Steps.{Stops, HeaderStops, BreaksOff, IsHeaderOf, BodyStops}}
+use Rattle.pcap_reader.{specs.declared.capture.Record.{Record}, proofs.HeaderLaws.{records_of-fault, header_fault-cut}}
 use Rattle.pcap_reader.proofs.RecordLaws.{records_in-whole, records_in-headless, records_in-none, records_in-long, records_in-bodiless}
 
 -- ---- facts of all the bytes that were left

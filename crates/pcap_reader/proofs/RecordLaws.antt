@@ -1,11 +1,8 @@
 -- Laws of records: a whole record at the front is the first, and one that is cut or too long is none.
 use Rattle.std.proofs.Common.{◌≡◌, ℕ, ◌+◌, ◌<◌, ◌≤◌, List, [], ◌∷◌, ◌++◌, length, take, drop, Option, Some, None, refl, sym, ap}
-use Rattle.std.proofs.Common.{◌∙◌, arith, append_assoc, length-append, length-drop, lt-ltb, le-ltb}
-use Rattle.std.proofs.lemmas.List.{drop-append-le, take_all, take_at, drop_at}
-use Rattle.zr_kinds.specs.Limits.{longest_record}
+use Rattle.std.proofs.{Common.{◌∙◌, arith, append_assoc, length-append, length-drop, lt-ltb, le-ltb}, lemmas.List.{drop-append-le, take_all, take_at, drop_at}}
+use Rattle.zr_kinds.specs.{Limits.{longest_record}, declared.fault.Fault.{Fault, TheVariants.{Cut, LongRecord}}}
 use Rattle.byteorder.specs.Numbers.{little_from-append, big_from-append}
-use Rattle.zr_kinds.specs.declared.fault.Fault.{Fault}
-use Rattle.zr_kinds.specs.declared.fault.Fault.TheVariants.{Cut, LongRecord}
 use Rattle.pcap_reader.specs.declared.order.ByteOrder.TheVariants.{Little, Big}
 use Rattle.pcap_reader.specs.Records.{ByteOrder, Records, number, no_record, with_record, captured_len, original_len, record_fault, after_record}
 use Rattle.pcap_reader.specs.Records.{records_behind, records_in}

@@ -1,9 +1,6 @@
 -- What opening a capture and reading its next record say.
-use Rattle.std.specs.Prelude.{◌≡◌, ℕ, ◌<◌, ◌≤◌, List, ◌++◌, length, Option, Some, None, Result, Ok, Err, IsErrOf, IfSome, ◌⊎◌}
-use Rattle.std.specs.Io.KnownBytes.{Keeps, IsAtEnd}
-use Rattle.zr_kinds.specs.Limits.{longest_record}
-use Rattle.zr_kinds.specs.declared.fault.Fault.{Fault}
-use Rattle.zr_kinds.specs.declared.fault.Fault.TheVariants.{Memory, NotPcap, Version, LinkType, Cut, LongRecord, Read, BadBlock}
+use Rattle.std.specs.{Prelude.{◌≡◌, ℕ, ◌<◌, ◌≤◌, List, ◌++◌, length, Option, Some, None, Result, Ok, Err, IsErrOf, IfSome, ◌⊎◌}, Io.KnownBytes.{Keeps, IsAtEnd}}
+use Rattle.zr_kinds.specs.{Limits.{longest_record}, declared.fault.Fault.{Fault, TheVariants.{Memory, NotPcap, Version, LinkType, Cut, LongRecord, Read, BadBlock}}}
 use Rattle.zr_io.specs.Moved.{Rose, Took}
 use Rattle.pcap_reader.specs.Records.{ByteOrder, Records, no_record, with_record, captured_len, header_fault, records_in, records_of}
 use Rattle.pcap_reader.specs.declared.capture.Record.{Record}

@@ -1,14 +1,11 @@
 -- The records of a classic pcap capture, and the first fault of its bytes. A file header of 24 bytes is followed by
 -- records, each of a header of 16 bytes (seconds, fraction, captured length, original length) and the captured bytes.
-use Rattle.std.specs.Prelude.{ℕ, zero, suc, ◌+◌, ◌%◌, List, [], ◌∷◌, length, take, drop, nat_eq, nat_lt, ◌==◌, if◌then◌else◌, not}
-use Rattle.std.specs.Prelude.{Option, Some, None}
+use Rattle.std.specs.Prelude.{ℕ, zero, suc, ◌+◌, ◌%◌, List, [], ◌∷◌, length, take, drop, nat_eq, nat_lt, ◌==◌, if◌then◌else◌, not, Option, Some, None}
 use Rattle.std.specs.List.{starts_with}
-use Rattle.zr_kinds.specs.Limits.{longest_record}
+use Rattle.zr_kinds.specs.{Limits.{longest_record}, declared.fault.Fault.{Fault, TheVariants.{NotPcap, Version, LinkType, Cut, LongRecord}}}
 use Rattle.byteorder.specs.Endian.{little_number, big_number}
 pub use Rattle.pcap_reader.specs.declared.order.ByteOrder.{ByteOrder}
 use Rattle.pcap_reader.specs.declared.order.ByteOrder.TheVariants.{Little, Big}
-use Rattle.zr_kinds.specs.declared.fault.Fault.{Fault}
-use Rattle.zr_kinds.specs.declared.fault.Fault.TheVariants.{NotPcap, Version, LinkType, Cut, LongRecord}
 
 -- the number in the first bytes, so many of them
 abbrev pub number : ByteOrder → ℕ → List ℕ → ℕ

@@ -1,14 +1,11 @@
 -- What the steps of a reading say: a part of known length, the file header, a record's header and its captured bytes.
 use Rattle.std.specs.Prelude.{◌≡◌, ℕ, ◌<◌, ◌≤◌, List, [], ◌∷◌, ◌++◌, length, take, Option, Some, None, Result, Ok, Err, IfSome}
 use Rattle.std.specs.Io.KnownBytes.{Keeps, IsAtEnd, Consumes}
-use Rattle.zr_kinds.specs.Limits.{longest_record}
-use Rattle.zr_kinds.specs.declared.fault.Fault.{Fault}
-use Rattle.zr_kinds.specs.declared.fault.Fault.TheVariants.{Memory, Cut, Read}
+use Rattle.zr_kinds.specs.{Limits.{longest_record}, declared.fault.Fault.{Fault, TheVariants.{Memory, Cut, Read}}}
 use Rattle.zr_io.specs.Moved.{Took}
 use Rattle.pcap_reader.specs.declared.order.ByteOrder.TheVariants.{Little, Big}
 use Rattle.pcap_reader.specs.Records.{ByteOrder, Records, captured_len, original_len, order_of, fields_fault, records_in, records_of}
-use Rattle.pcap_reader.specs.Capture.{ShowsFault, BrokeOff, TakenShows, HeaderShows, TakenHeaderShows, IsOpeningFault, IsRecordFault, IsOutOfForm}
-use Rattle.pcap_reader.specs.Capture.{OfFronts}
+use Rattle.pcap_reader.specs.Capture.{ShowsFault, BrokeOff, TakenShows, HeaderShows, TakenHeaderShows, IsOpeningFault, IsRecordFault, IsOutOfForm, OfFronts}
 use Rattle.pcap_reader.specs.declared.capture.Record.{Record}
 
 -- A fault is that of all the bytes, by what they read as, and those that were taken show it. Nothing was taken behind what is out

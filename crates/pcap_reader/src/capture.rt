@@ -1,7 +1,6 @@
 ghost use Rattle.std.specs.Prelude.{◌≡◌, ◌≤◌, None, Some, IfOk, IfSome, IsErrOf, MatchResult};
-ghost use Rattle.zr_kinds.specs.Limits.{longest_record};
+ghost use Rattle.zr_kinds.specs.{Limits.{longest_record}, declared.fault.Fault.TheVariants.{Memory}};
 ghost use Rattle.zr_io.specs.Moved.{Took};
-ghost use Rattle.zr_kinds.specs.declared.fault.Fault.TheVariants.{Memory};
 ghost use Rattle.pcap_reader.specs.Capture.{Opens, OpensBehind, Gives, HasReadCause, WantsMemory};
 
 use crate::filling::fill_whole;

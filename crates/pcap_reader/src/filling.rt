@@ -1,5 +1,4 @@
-ghost use Rattle.pcap_reader.specs.Capture.{HasReadCause};
-ghost use Rattle.pcap_reader.specs.Steps.{Fills, FillsWhole};
+ghost use Rattle.pcap_reader.specs.{Capture.{HasReadCause}, Steps.{Fills, FillsWhole}};
 
 use zr_io::Source;
 use zr_kinds::Fault;

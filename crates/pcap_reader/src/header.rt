@@ -1,7 +1,5 @@
 ghost use Rattle.std.specs.Prelude.{◌≡◌};
-ghost use Rattle.pcap_reader.specs.Capture.{HasReadCause};
-ghost use Rattle.pcap_reader.specs.Records.{order_of};
-ghost use Rattle.pcap_reader.specs.Steps.{TakesFields};
+ghost use Rattle.pcap_reader.specs.{Capture.{HasReadCause}, Records.{order_of}, Steps.{TakesFields}};
 
 use crate::filling::fill_whole;
 use crate::order::ByteOrder;

@@ -1,8 +1,6 @@
 ghost use Rattle.std.specs.Prelude.{◌≤◌, IfOk, IfSome, IsErrOf};
-ghost use Rattle.zr_kinds.specs.Limits.{longest_record};
-ghost use Rattle.zr_kinds.specs.declared.fault.Fault.TheVariants.{Memory};
-ghost use Rattle.pcap_reader.specs.Capture.{HasReadCause};
-ghost use Rattle.pcap_reader.specs.Steps.{TakesHeader, TakesBody};
+ghost use Rattle.zr_kinds.specs.{Limits.{longest_record}, declared.fault.Fault.TheVariants.{Memory}};
+ghost use Rattle.pcap_reader.specs.{Capture.{HasReadCause}, Steps.{TakesHeader, TakesBody}};
 
 use crate::capture::Record;
 use crate::filling::{fill, fill_whole};

@@ -1,22 +1,14 @@
 -- Laws of a block: its first bytes tell what it is, whatever follows them, and what is wrong with it.
 use Rattle.std.proofs.Common.{◌≡◌, ◌≢◌, ℕ, ◌+◌, ◌-◌, ◌%◌, ◌<◌, ◌≤◌, nat_lt, ◌==◌, not, Bool, true, false, ◌||◌, List, [], ◌∷◌}
-use Rattle.std.proofs.Common.{◌++◌, length, drop, Option, Some, None, if◌then◌else◌, refl, sym, ap, ◌∙◌, arith, length-append, lt-ltb, le-ltb}
-use Rattle.std.proofs.Common.{eq-eqb, ne_eqb}
-use Rattle.std.specs.Option.{unwrap_or}
-use Rattle.std.proofs.lemmas.Bool.{cond-true, cond-false, ltb-false}
-use Rattle.std.proofs.Math.Seq.{drop-append-add}
-use Rattle.zr_kinds.specs.declared.fault.Fault.{Fault}
-use Rattle.zr_kinds.specs.declared.fault.Fault.TheVariants.{Cut, BadBlock}
-use Rattle.pcap_reader.specs.declared.order.ByteOrder.{ByteOrder}
-use Rattle.pcap_reader.specs.declared.order.ByteOrder.TheVariants.{Little, Big}
-use Rattle.pcap_reader.specs.Records.{number, Records, no_record}
+use Rattle.std.proofs.Common.{◌++◌, length, drop, Option, Some, None, if◌then◌else◌, refl, sym, ap, ◌∙◌, arith, length-append, lt-ltb, le-ltb, eq-eqb, ne_eqb}
+use Rattle.std.{specs.Option.{unwrap_or}, proofs.{lemmas.Bool.{cond-true, cond-false, ltb-false}, Math.Seq.{drop-append-add}}}
+use Rattle.zr_kinds.specs.declared.fault.Fault.{Fault, TheVariants.{Cut, BadBlock}}
+use Rattle.pcap_reader.specs.{declared.order.ByteOrder.{ByteOrder, TheVariants.{Little, Big}}, Records.{number, Records, no_record}}
 use Rattle.pcap_reader.proofs.RecordLaws.{number-append, number_at-append}
 use Rattle.pcapng_reader.specs.declared.kind.Kind.TheVariants.{SectionHeader, InterfaceDescription, EnhancedPacket, SimplePacket, Other}
-use Rattle.pcapng_reader.specs.Blocks.{Section, Kind, is_section_header, kind_of, begin_len, fixed_len, order_told, order_in}
-use Rattle.pcapng_reader.specs.Blocks.{total_len, is_too_many, misfits}
+use Rattle.pcapng_reader.specs.Blocks.{Section, Kind, is_section_header, kind_of, begin_len, fixed_len, order_told, order_in, total_len, is_too_many, misfits}
 use Rattle.pcapng_reader.specs.Blocks.{fixed_fault, end_fault, or_else, fault_behind, kind_fault, block_fault, section_behind, with_block, after_block}
-use Rattle.pcapng_reader.specs.Blocks.{blocks_behind, blocks_in}
-use Rattle.pcapng_reader.specs.Steps.{IsBegun, MayCome}
+use Rattle.pcapng_reader.specs.{Blocks.{blocks_behind, blocks_in}, Steps.{IsBegun, MayCome}}
 
 -- ---- what bytes at the front tell, whatever follows them
 

@@ -1,20 +1,13 @@
 -- How the steps of reading a block go together.
 use Rattle.std.proofs.Common.{◌≡◌, ◌≢◌, ℕ, ◌+◌, ◌<◌, List, [], ◌++◌, length, drop, Option, Some, None, Ok, Err, sym}
 use Rattle.std.proofs.Common.{ap, ◌∙◌, subst, arith, append-nil, append_assoc, length-append}
-use Rattle.zr_kinds.specs.declared.fault.Fault.{Fault}
-use Rattle.zr_kinds.specs.declared.fault.Fault.TheVariants.{Memory, Version, LinkType, Cut, LongRecord, Read, BadBlock}
-use Rattle.zr_io.specs.Moved.{Took}
-use Rattle.zr_io.proofs.Moved.{Took-nothing, Took-then, Took-weaker}
-use Rattle.pcap_reader.specs.declared.order.ByteOrder.{ByteOrder}
-use Rattle.pcap_reader.specs.Records.{number}
-use Rattle.pcap_reader.specs.Steps.{BreaksOff}
-use Rattle.pcap_reader.specs.Capture.{OfFronts}
+use Rattle.zr_kinds.specs.declared.fault.Fault.{Fault, TheVariants.{Memory, Version, LinkType, Cut, LongRecord, Read, BadBlock}}
+use Rattle.zr_io.{specs.Moved.{Took}, proofs.Moved.{Took-nothing, Took-then, Took-weaker}}
+use Rattle.pcap_reader.specs.{declared.order.ByteOrder.{ByteOrder}, Records.{number}, Steps.{BreaksOff}, Capture.{OfFronts}}
 use Rattle.pcap_reader.proofs.Joined.{always, all_weaker, all_then, Keeps-same, no-fronts, fronts-short, fronts-weaker, Took-fronts}
-use Rattle.pcapng_reader.specs.Blocks.{Section, Kind, fixed_len, fixed_fault, block_fault}
-use Rattle.pcapng_reader.specs.Capture.{IsRecordFault}
+use Rattle.pcapng_reader.specs.{Blocks.{Section, Kind, fixed_len, fixed_fault, block_fault}, Capture.{IsRecordFault}}
 use Rattle.pcapng_reader.specs.Steps.{BlockShows, TakenBlockShows, BlockStops, IsBegun, MayCome, TakesEnd, fault_from, IsHeaderFault, IsInterfaceFault}
-use Rattle.pcapng_reader.specs.Steps.{IsPacketFault, IsCutBefore}
-use Rattle.pcapng_reader.proofs.BlockLaws.{head-cut, head-other}
+use Rattle.pcapng_reader.{specs.Steps.{IsPacketFault, IsCutBefore}, proofs.BlockLaws.{head-cut, head-other}}
 
 -- a later part broke off
 pub breaks-then : (a b c : Option (List ℕ)) (P Q R : List ℕ → Type 0) (fault : Fault) → ((xs ys : List ℕ) → P xs → Q ys → R (xs ++ ys)) → Took a b P

@@ -1,27 +1,18 @@
 -- A longer capture's records go on from a shorter one's: blocks, and either form.
 use Rattle.std.proofs.Common.{◌≡◌, ◌≢◌, ℕ, zero, suc, ◌+◌, ◌-◌, ◌<◌, ◌≤◌, nat_lt, ◌==◌, not, Bool, true, false, ◌||◌}
 use Rattle.std.proofs.Common.{List, [], ◌∷◌, ◌++◌, length, take, drop, Option, Some, None, refl, sym, ap, subst, ◌∙◌, arith, ⊎_elim, inl, inr, ◌⊎◌}
-use Rattle.std.proofs.Common.{append_assoc, length-append, length-drop, if◌then◌else◌}
-use Rattle.std.proofs.lemmas.Bool.{cases_lt, cases_eq, cond_both, cond-true, cond-false, ltb-false}
+use Rattle.std.proofs.{Common.{append_assoc, length-append, length-drop, if◌then◌else◌}, lemmas.Bool.{cases_lt, cases_eq, cond_both, cond-true, cond-false, ltb-false}}
 use Rattle.std.proofs.lemmas.List.{length-take-le, take-append-drop}
-use Rattle.zr_kinds.specs.Limits.{longest_record}
-use Rattle.zr_kinds.specs.declared.fault.Fault.{Fault}
-use Rattle.zr_kinds.specs.declared.fault.Fault.TheVariants.{LinkType, Cut, LongRecord, BadBlock, TooManyFlows}
-use Rattle.pcap_reader.specs.declared.order.ByteOrder.{ByteOrder}
+use Rattle.zr_kinds.specs.{Limits.{longest_record}, declared.fault.Fault.{Fault, TheVariants.{LinkType, Cut, LongRecord, BadBlock, TooManyFlows}}}
+use Rattle.pcap_reader.specs.{declared.order.ByteOrder.{ByteOrder}, Records.{number, Records, with_record}}
 use Rattle.pcap_reader.specs.Records as classic_form
-use Rattle.pcap_reader.specs.Records.{number, Records, with_record}
 use Rattle.pcapng_reader.specs.declared.kind.Kind.TheVariants.{SectionHeader, InterfaceDescription, EnhancedPacket, SimplePacket, Other}
 use Rattle.pcapng_reader.specs.Blocks.{Section, Kind, Interface, is_section_header, kind_of, begin_len, fixed_len, is_packet, order_told, total_len}
 use Rattle.pcapng_reader.specs.Blocks.{is_too_many, misfits, padded, packet_fault, interface_of, captured_len, original_len, fixed_fault, end_fault, or_else}
-use Rattle.pcapng_reader.specs.Blocks.{fault_behind, block_fault, section_behind, blocks_in, no_section}
-use Rattle.pcapng_reader.specs.Records.{records_of}
-use Rattle.pcapng_reader.specs.Steps.{IsBegun, MayCome}
+use Rattle.pcapng_reader.specs.{Blocks.{fault_behind, block_fault, section_behind, blocks_in, no_section}, Records.{records_of}, Steps.{IsBegun, MayCome}}
 use Rattle.pcapng_reader.proofs.BlockLaws.{section_header-append, begins_within, begun-front, fault-begin, fault-magic, fault-refused, fault-short}
-use Rattle.pcapng_reader.proofs.BlockLaws.{head-fault, head-cut, head-other, fits-room, blocks_in-none, blocks_in-fault}
-use Rattle.pcapng_reader.proofs.Heads.{may_come}
-use Rattle.pcapng_reader.proofs.WholeBlocks.{packet_keeps, block-passed, block-record}
-use Rattle.pcapng_reader.proofs.Forms.{opening-short}
-use Rattle.pcapng_reader.proofs.Goings.{opening-records}
+use Rattle.pcapng_reader.proofs.{BlockLaws.{head-fault, head-cut, head-other, fits-room, blocks_in-none, blocks_in-fault}, Heads.{may_come}}
+use Rattle.pcapng_reader.proofs.{WholeBlocks.{packet_keeps, block-passed, block-record}, Forms.{opening-short}, Goings.{opening-records}}
 use Rattle.pcapng_reader.proofs.ClassicGoes.{GoOn, no-first, one-first, classic-goes}
 
 -- ---- a block's fault is no flow too many

@@ -1,18 +1,13 @@
 -- A longer capture's records go on from a shorter one's: the classic form.
 use Rattle.std.proofs.Common.{◌≡◌, ◌≢◌, ℕ, zero, suc, ◌%◌, ◌<◌, ◌≤◌, nat_lt, nat_eq, ◌==◌, not, Bool, true, false, List, []}
 use Rattle.std.proofs.Common.{◌∷◌, ◌++◌, length, take, drop, Option, Some, None, refl, sym, ap, subst, ◌∙◌, arith, ⊎_elim}
-use Rattle.std.proofs.Common.{append_assoc, length-append, length-drop, lt-ltb, le-ltb, if◌then◌else◌}
-use Rattle.std.proofs.lemmas.Bool.{cases_lt, cond-true, cond-false}
-use Rattle.std.proofs.lemmas.List.{drop-append-le, length-take-le, take-append-drop, take-append-le}
-use Rattle.std.specs.List.{starts_with}
-use Rattle.zr_kinds.specs.Limits.{longest_record}
-use Rattle.zr_kinds.specs.declared.fault.Fault.{Fault}
-use Rattle.zr_kinds.specs.declared.fault.Fault.TheVariants.{Cut, LinkType, LongRecord, NotPcap, TooManyFlows, Version}
+use Rattle.std.proofs.{Common.{append_assoc, length-append, length-drop, lt-ltb, le-ltb, if◌then◌else◌}, lemmas.Bool.{cases_lt, cond-true, cond-false}}
+use Rattle.std.{proofs.lemmas.List.{drop-append-le, length-take-le, take-append-drop, take-append-le}, specs.List.{starts_with}}
+use Rattle.zr_kinds.specs.{Limits.{longest_record}, declared.fault.Fault.{Fault, TheVariants.{Cut, LinkType, LongRecord, NotPcap, TooManyFlows, Version}}}
 use Rattle.pcap_reader.specs.declared.order.ByteOrder.{ByteOrder}
 use Rattle.pcap_reader.specs.Records.{Captured, Records, after_header, behind_magic, captured_len, fields_fault, no_record, number, order_of}
 use Rattle.pcap_reader.specs.Records.{original_len, records_in, records_of, with_record}
-use Rattle.pcap_reader.proofs.RecordLaws.{number_at-append, records_in-bodiless, records_in-headless, records_in-long, records_in-none}
-use Rattle.pcap_reader.proofs.RecordLaws.{records_in-whole}
+use Rattle.pcap_reader.proofs.RecordLaws.{number_at-append, records_in-bodiless, records_in-headless, records_in-long, records_in-none, records_in-whole}
 use Rattle.pcap_reader.proofs.HeaderLaws.{order-same as order-alike}
 
 -- ---- records

@@ -1,27 +1,16 @@
 -- The two forms of a capture, told by its first four bytes.
-use Rattle.std.proofs.Common.{◌≡◌, ℕ, ◌<◌, Bool, true, false, List, ◌++◌, length, Option, Some, None, IfSome, Result, Ok, Err, refl, sym}
-use Rattle.std.specs.Result.{MatchResult}
-use Rattle.pcap_reader.specs.Steps.{BreaksOff}
-use Rattle.std.proofs.Common.{append_assoc, ap, ◌∙◌, subst, arith, if◌then◌else◌}
-use Rattle.std.specs.Io.KnownBytes.{Keeps, IsAtEnd, Consumes}
+use Rattle.std.{proofs.Common.{◌≡◌, ℕ, ◌<◌, Bool, true, false, List, ◌++◌, length, Option, Some, None, IfSome, Result, Ok, Err, refl, sym}, specs.Result.{MatchResult}}
+use Rattle.std.{proofs.Common.{append_assoc, ap, ◌∙◌, subst, arith, if◌then◌else◌}, specs.Io.KnownBytes.{Keeps, IsAtEnd, Consumes}}
 use Rattle.std.proofs.lemmas.Bool.{cond-true, cond-false}
-use Rattle.zr_kinds.specs.declared.fault.Fault.{Fault}
-use Rattle.zr_kinds.specs.declared.fault.Fault.TheVariants.{Memory, NotPcap, Version, LinkType, Cut, LongRecord, Read, BadBlock}
-use Rattle.zr_io.specs.Moved.{Took}
-use Rattle.zr_io.proofs.Moved.{Took-nothing, Took-consumed, Took-then, Took-weaker}
-use Rattle.pcap_reader.specs.declared.order.ByteOrder.{ByteOrder}
-use Rattle.pcap_reader.specs.declared.capture.Record.{Record}
+use Rattle.pcap_reader.specs.{Steps.{BreaksOff}, declared.{order.ByteOrder.{ByteOrder}, capture.Record.{Record}}, Records.{with_record}}
+use Rattle.pcap_reader.{specs.Capture.{HeaderShows, TakenHeaderShows, IsOutOfForm, OfFronts}, proofs.{HeaderLaws.{header_fault-cut}, RecordLaws.{records_in-none}}}
+use Rattle.pcap_reader.proofs.Joined.{always, all_weaker, all_then, fronts-then, fronts-short, fronts-weaker}
+use Rattle.zr_kinds.specs.declared.fault.Fault.{Fault, TheVariants.{Memory, NotPcap, Version, LinkType, Cut, LongRecord, Read, BadBlock}}
+use Rattle.zr_io.{specs.Moved.{Took}, proofs.Moved.{Took-nothing, Took-consumed, Took-then, Took-weaker}}
 use Rattle.pcap_reader.specs.Records as classic_form
 use Rattle.pcap_reader.specs.Capture as classic_capture
-use Rattle.pcap_reader.specs.Records.{with_record}
-use Rattle.pcap_reader.specs.Capture.{HeaderShows, TakenHeaderShows, IsOutOfForm, OfFronts}
-use Rattle.pcap_reader.proofs.HeaderLaws.{header_fault-cut}
-use Rattle.pcap_reader.proofs.RecordLaws.{records_in-none}
-use Rattle.pcap_reader.proofs.Joined.{always, all_weaker, all_then, fronts-then, fronts-short, fronts-weaker}
-use Rattle.pcapng_reader.specs.Blocks.{Section, is_section_header, block_fault, blocks_in, no_section}
-use Rattle.pcapng_reader.specs.Records.{classic, records_of, opening_fault}
-use Rattle.pcapng_reader.specs.Capture.{IsOpeningFault, IsRecordFault, Opens, Gives}
-use Rattle.pcapng_reader.specs.Steps.{BlockShows, TakenBlockShows, BlockStops, fault_from, IsHeaderFault}
+use Rattle.pcapng_reader.specs.{Blocks.{Section, is_section_header, block_fault, blocks_in, no_section}, Records.{classic, records_of, opening_fault}}
+use Rattle.pcapng_reader.specs.{Capture.{IsOpeningFault, IsRecordFault, Opens, Gives}, Steps.{BlockShows, TakenBlockShows, BlockStops, fault_from, IsHeaderFault}}
 use Rattle.pcapng_reader.proofs.BlockLaws.{section_header-append, fault-start}
 
 either_way : (b : Bool) (x y z : Option Fault) → x ≡ z → y ≡ z → (if b then x else y) ≡ z

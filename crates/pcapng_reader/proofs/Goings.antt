@@ -1,20 +1,14 @@
 -- How a reading of either form begins, goes on and breaks off.
-use Rattle.std.proofs.Common.{◌≡◌, ℕ, ◌<◌, Bool, true, false, if◌then◌else◌, List, [], ◌∷◌, length, Option, Some, None, Err, refl, sym}
-use Rattle.std.proofs.Common.{ap, ◌∙◌, arith, append-nil, inr}
-use Rattle.zr_kinds.specs.declared.fault.Fault.{Fault}
-use Rattle.zr_kinds.specs.declared.fault.Fault.TheVariants.{NotPcap, Version, LinkType, Cut, Read, BadBlock}
+use Rattle.std.proofs.Common.{◌≡◌, ℕ, ◌<◌, Bool, true, false, if◌then◌else◌, List, [], ◌∷◌, length, Option, Some, None, Err, refl, sym, ap, ◌∙◌, arith, append-nil, inr}
+use Rattle.zr_kinds.specs.declared.fault.Fault.{Fault, TheVariants.{NotPcap, Version, LinkType, Cut, Read, BadBlock}}
 use Rattle.zr_io.proofs.Moved.{Took-weaker}
 use Rattle.pcap_reader.specs.Records as classic_form
-use Rattle.pcap_reader.specs.Records.{no_record}
-use Rattle.pcap_reader.specs.Capture.{ShowsFault, BrokeOff, TakenShows, HeaderShows, TakenHeaderShows, OfFronts}
-use Rattle.pcap_reader.specs.Steps.{Stops}
+use Rattle.pcap_reader.specs.{Records.{no_record}, Capture.{ShowsFault, BrokeOff, TakenShows, HeaderShows, TakenHeaderShows, OfFronts}, Steps.{Stops}}
+use Rattle.pcap_reader.proofs.{RecordLaws.{records_in-none, records_in-bodiless}, Joined.{all_weaker, fronts-weaker}}
 use Rattle.pcap_reader.proofs.HeaderLaws as classic_header
-use Rattle.pcap_reader.proofs.RecordLaws.{records_in-none, records_in-bodiless}
-use Rattle.pcap_reader.proofs.Joined.{all_weaker, fronts-weaker}
 use Rattle.pcapng_reader.specs.declared.kind.Kind.TheVariants.{SectionHeader, InterfaceDescription, EnhancedPacket, SimplePacket, Other}
 use Rattle.pcapng_reader.specs.Blocks.{Kind, is_section_header, kind_of, fixed_len, block_fault, blocks_in, no_section}
-use Rattle.pcapng_reader.specs.Records.{Going, classic, blocks, records_from, records_of, opening_fault}
-use Rattle.pcapng_reader.specs.Capture.{IsOpeningFault, WantsMemory, Opens}
+use Rattle.pcapng_reader.specs.{Records.{Going, classic, blocks, records_from, records_of, opening_fault}, Capture.{IsOpeningFault, WantsMemory, Opens}}
 use Rattle.pcapng_reader.proofs.BlockLaws.{blocks_in-none, blocks_in-fault}
 
 -- where the bytes end

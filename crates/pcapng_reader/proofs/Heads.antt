@@ -1,22 +1,12 @@
 -- What the first bytes of a block tell.
 use Rattle.std.proofs.Common.{◌≡◌, ℕ, ◌+◌, ◌-◌, ◌<◌, ◌≤◌, List, ◌++◌, length, take, drop, Bool, true, false, ◌||◌, Option, Some, None, refl, sym}
-use Rattle.std.proofs.Common.{ap, ◌∙◌, subst, arith, append_assoc, length-append, option_copied, Bor, length-take-le, length-drop}
-use Rattle.std.proofs.Common.{Ok, Err, ⊎_elim}
-use Rattle.std.specs.Option.{ok_or}
-use Rattle.std.specs.Slice.{IsItemAt}
-use Rattle.std.specs.List.{slice_get}
-use Rattle.std.proofs.lemmas.Option.{slice_get_past, slice_get_read}
-use Rattle.std.proofs.lemmas.Bool.{cases_lt, cond-true}
+use Rattle.std.proofs.Common.{ap, ◌∙◌, subst, arith, append_assoc, length-append, option_copied, Bor, length-take-le, length-drop, Ok, Err, ⊎_elim}
+use Rattle.std.{specs.{Option.{ok_or}, Slice.{IsItemAt}, List.{slice_get}}, proofs.lemmas.{Option.{slice_get_past, slice_get_read}, Bool.{cases_lt, cond-true}}}
 use Rattle.std.proofs.lemmas.List.{take-append-drop, take-append-le, take_all}
-use Rattle.zr_kinds.specs.declared.fault.Fault.{Fault}
-use Rattle.zr_kinds.specs.declared.fault.Fault.TheVariants.{Cut, BadBlock}
-use Rattle.pcap_reader.specs.declared.order.ByteOrder.{ByteOrder}
-use Rattle.pcap_reader.specs.Records.{number}
-use Rattle.pcap_reader.proofs.RecordLaws.{number_at-append}
+use Rattle.zr_kinds.specs.declared.fault.Fault.{Fault, TheVariants.{Cut, BadBlock}}
+use Rattle.pcap_reader.{specs.{declared.order.ByteOrder.{ByteOrder}, Records.{number}}, proofs.RecordLaws.{number_at-append}}
 use Rattle.pcapng_reader.specs.Blocks.{Section, Kind, is_section_header, kind_of, begin_len, fixed_len, order_told, total_len, is_too_many, misfits, block_fault}
-use Rattle.pcapng_reader.specs.declared.kind.Kind.TheVariants.{SectionHeader}
-use Rattle.pcapng_reader.specs.declared.head.Head.{Head}
-use Rattle.pcapng_reader.specs.Steps.{IsBegun, MayCome, IsHead, head_bytes, IsCutBefore}
+use Rattle.pcapng_reader.specs.{declared.{kind.Kind.TheVariants.{SectionHeader}, head.Head.{Head}}, Steps.{IsBegun, MayCome, IsHead, head_bytes, IsCutBefore}}
 use Rattle.pcapng_reader.proofs.BlockLaws.{eight, begins_within, fixed_most, kind-append, order-append, begun-append, begun-front, fault-begin, fault-magic}
 use Rattle.pcapng_reader.proofs.BlockLaws.{fault-refused, fault-short, fault-start, section_header-append}
 

@@ -1,17 +1,11 @@
 -- Blocks that were passed over, and what comes behind them.
 use Rattle.std.proofs.Common.{◌≡◌, ℕ, ◌<◌, List, [], ◌∷◌, ◌++◌, length, Option, Some, None, Ok, Err, refl, sym}
-use Rattle.std.proofs.Common.{ap, ◌∙◌, subst, arith, inl, inr, append-nil, append_assoc, length-append}
-use Rattle.std.specs.Io.KnownBytes.{Keeps, IsAtEnd, Consumes}
-use Rattle.zr_kinds.specs.declared.fault.Fault.{Fault}
-use Rattle.zr_kinds.specs.declared.fault.Fault.TheVariants.{Memory, Version, LinkType, Cut, LongRecord, Read, BadBlock}
-use Rattle.zr_io.specs.Moved.{Took}
-use Rattle.zr_io.proofs.Moved.{Took-nothing, Took-consumed, Took-then}
-use Rattle.pcap_reader.specs.Records.{Records, no_record, with_record}
-use Rattle.pcap_reader.specs.Capture.{ShowsFault, BrokeOff, TakenShows, OfFronts}
+use Rattle.std.{proofs.Common.{ap, ◌∙◌, subst, arith, inl, inr, append-nil, append_assoc, length-append}, specs.Io.KnownBytes.{Keeps, IsAtEnd, Consumes}}
+use Rattle.zr_kinds.specs.declared.fault.Fault.{Fault, TheVariants.{Memory, Version, LinkType, Cut, LongRecord, Read, BadBlock}}
+use Rattle.zr_io.{specs.Moved.{Took}, proofs.Moved.{Took-nothing, Took-consumed, Took-then}}
+use Rattle.pcap_reader.specs.{Records.{Records, no_record, with_record}, Capture.{ShowsFault, BrokeOff, TakenShows, OfFronts}}
 use Rattle.pcap_reader.proofs.Joined.{always, all_weaker, all_then, fronts-then, fronts-short, fronts-weaker, Took-both}
-use Rattle.pcapng_reader.specs.Blocks.{Section, block_fault, blocks_in}
-use Rattle.pcapng_reader.specs.Records.{blocks}
-use Rattle.pcapng_reader.specs.Capture.{IsRecordFault, WantsHere, WantsAt, Gives}
+use Rattle.pcapng_reader.specs.{Blocks.{Section, block_fault, blocks_in}, Records.{blocks}, Capture.{IsRecordFault, WantsHere, WantsAt, Gives}}
 use Rattle.pcapng_reader.specs.Steps.{BlockShows, TakenBlockShows, BlockStops, IsCutBefore, fault_from, TakesStart}
 use Rattle.pcapng_reader.proofs.BlockLaws.{fault-start, blocks_in-none, blocks_in-fault}
 

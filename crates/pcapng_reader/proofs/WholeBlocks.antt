@@ -1,18 +1,11 @@
 -- A whole block: what it adds to the records, and what the rest of it is read for.
 use Rattle.std.proofs.Common.{◌≡◌, ℕ, ◌+◌, ◌<◌, ◌≤◌, List, [], ◌++◌, length, take, drop, true, false, Some, None, refl, sym}
-use Rattle.std.proofs.Common.{ap, ◌∙◌, subst, arith, append-nil, append_assoc, length-append}
-use Rattle.std.proofs.lemmas.List.{drop_at, take_at}
-use Rattle.std.proofs.lemmas.Bool.{cond-true, cond-false}
-use Rattle.zr_kinds.specs.Limits.{longest_record}
-use Rattle.zr_kinds.specs.declared.fault.Fault.TheVariants.{Cut}
-use Rattle.pcap_reader.specs.declared.order.ByteOrder.{ByteOrder}
-use Rattle.pcap_reader.specs.Records.{number, Records, with_record}
-use Rattle.pcap_reader.proofs.RecordLaws.{number_at-append}
+use Rattle.std.proofs.{Common.{ap, ◌∙◌, subst, arith, append-nil, append_assoc, length-append}, lemmas.{List.{drop_at, take_at}, Bool.{cond-true, cond-false}}}
+use Rattle.zr_kinds.specs.{Limits.{longest_record}, declared.fault.Fault.TheVariants.{Cut}}
+use Rattle.pcap_reader.{specs.{declared.order.ByteOrder.{ByteOrder}, Records.{number, Records, with_record}}, proofs.RecordLaws.{number_at-append}}
 use Rattle.pcapng_reader.specs.declared.kind.Kind.TheVariants.{SectionHeader, InterfaceDescription, EnhancedPacket, SimplePacket, Other}
 use Rattle.pcapng_reader.specs.Blocks.{Section, Kind, Interface, fixed_len, is_packet, limited, first_snaplen, captured_len, original_len, frame_of}
-use Rattle.pcapng_reader.specs.Blocks.{fixed_fault, block_fault, section_behind, with_block, blocks_in}
-use Rattle.pcapng_reader.specs.Capture.{WantsBytes, WantsHere}
-use Rattle.pcapng_reader.specs.Steps.{IsBegun, MayCome}
+use Rattle.pcapng_reader.specs.{Blocks.{fixed_fault, block_fault, section_behind, with_block, blocks_in}, Capture.{WantsBytes, WantsHere}, Steps.{IsBegun, MayCome}}
 use Rattle.pcapng_reader.proofs.BlockLaws.{begun-append, section_behind-append, head-cut, head-whole, blocks_in-whole, fits-room}
 
 -- ---- a packet's numbers, whatever follows its fixed bytes

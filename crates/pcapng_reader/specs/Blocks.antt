@@ -3,17 +3,11 @@
 -- forgets the interfaces before it. A packet is of an interface of its section. Times, options and all other blocks are
 -- passed over.
 use Rattle.std.specs.Prelude.{ℕ, zero, suc, ◌+◌, ◌-◌, ◌*◌, ◌/◌, ◌%◌, min, List, [], ◌∷◌, ◌++◌, length, take, drop, nat_eq, nat_lt, nat_le}
-use Rattle.std.specs.Prelude.{Bool, true, false, ◌==◌, ◌&&◌, ◌||◌, not, if◌then◌else◌, Option, Some, None, unwrap_or}
-use Rattle.std.specs.List.{starts_with, slice_get}
-use Rattle.zr_kinds.specs.Limits.{longest_record}
-use Rattle.zr_kinds.specs.declared.fault.Fault.{Fault}
-use Rattle.zr_kinds.specs.declared.fault.Fault.TheVariants.{Version, LinkType, Cut, LongRecord, BadBlock}
-use Rattle.pcap_reader.specs.declared.order.ByteOrder.TheVariants.{Little, Big}
-use Rattle.pcap_reader.specs.declared.order.ByteOrder.{ByteOrder}
-use Rattle.pcap_reader.specs.Records.{number, Records, no_record, with_record}
-pub use Rattle.pcapng_reader.specs.declared.kind.Kind.{Kind}
+use Rattle.std.specs.{Prelude.{Bool, true, false, ◌==◌, ◌&&◌, ◌||◌, not, if◌then◌else◌, Option, Some, None, unwrap_or}, List.{starts_with, slice_get}}
+use Rattle.zr_kinds.specs.{Limits.{longest_record}, declared.fault.Fault.{Fault, TheVariants.{Version, LinkType, Cut, LongRecord, BadBlock}}}
+use Rattle.pcap_reader.specs.{declared.order.ByteOrder.{TheVariants.{Little, Big}, ByteOrder}, Records.{number, Records, no_record, with_record}}
+pub use Rattle.pcapng_reader.specs.declared.{kind.Kind.{Kind}, section.Interface.{Interface}}
 use Rattle.pcapng_reader.specs.declared.kind.Kind.TheVariants.{SectionHeader, InterfaceDescription, EnhancedPacket, SimplePacket, Other}
-pub use Rattle.pcapng_reader.specs.declared.section.Interface.{Interface}
 
 -- how a section goes on: the order of its numbers, its interfaces, and how many blocks that are no packets came in the
 -- capture so far

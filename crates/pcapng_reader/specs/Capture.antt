@@ -1,18 +1,14 @@
 -- What opening a capture of either form and reading its next record say.
-use Rattle.std.specs.Prelude.{◌≡◌, ℕ, ◌<◌, ◌≤◌, List, ◌++◌, length, Option, Some, None, Result, Ok, Err, IfSome}
-use Rattle.std.specs.Io.KnownBytes.{IsAtEnd}
-use Rattle.zr_kinds.specs.Limits.{longest_record}
-use Rattle.zr_kinds.specs.declared.fault.Fault.{Fault}
-use Rattle.zr_kinds.specs.declared.fault.Fault.TheVariants.{Memory, NotPcap, Version, LinkType, Cut, LongRecord, Read, BadBlock}
+use Rattle.std.specs.{Prelude.{◌≡◌, ℕ, ◌<◌, ◌≤◌, List, ◌++◌, length, Option, Some, None, Result, Ok, Err, IfSome}, Io.KnownBytes.{IsAtEnd}}
+use Rattle.zr_kinds.specs.{Limits.{longest_record}, declared.fault.Fault.{Fault, TheVariants.{Memory, NotPcap, Version, LinkType, Cut, LongRecord, Read, BadBlock}}}
 use Rattle.zr_io.specs.Moved.{Took}
-use Rattle.pcap_reader.specs.Records.{no_record, with_record}
-use Rattle.pcap_reader.specs.Capture as classic_form
-use Rattle.pcap_reader.specs.Capture.{ShowsFault, BrokeOff, TakenShows, HeaderShows, TakenHeaderShows, IsOutOfForm, OfFronts}
+use Rattle.pcap_reader.specs.{Records.{no_record, with_record}, Capture.{ShowsFault, BrokeOff, TakenShows, HeaderShows, TakenHeaderShows, IsOutOfForm, OfFronts}}
 use Rattle.pcap_reader.specs.declared.capture.Record.{Record}
+use Rattle.pcap_reader.specs.Capture as classic_form
 use Rattle.pcapng_reader.specs.Blocks.{Section, Kind, kind_of, fixed_len, captured_len, block_fault, blocks_in}
 use Rattle.pcapng_reader.specs.declared.kind.Kind.TheVariants.{InterfaceDescription, EnhancedPacket, SimplePacket}
-pub use Rattle.pcapng_reader.specs.Records.{Going}
 use Rattle.pcapng_reader.specs.Records.{classic, blocks, records_from, records_of, opening_fault}
+pub use Rattle.pcapng_reader.specs.Records.{Going}
 
 -- a capture as its callers see it: how it goes on, and the fault that ended its reading
 pub record Reading : Type 0 where

@@ -1,9 +1,5 @@
 -- A capture's state, as the code keeps it, for its callers.
-use Rattle.pcapng_reader.specs.Capture.{Reading}
-use Rattle.pcapng_reader.specs.Records.{classic, blocks}
-use Rattle.pcapng_reader.specs.Steps.{told}
-use Rattle.pcapng_reader.specs.declared.any.Form.{Form}
-use Rattle.pcapng_reader.specs.declared.any.Form.TheVariants.{Classic, Blocks}
+use Rattle.pcapng_reader.specs.{Capture.{Reading}, Records.{classic, blocks}, Steps.{told}, declared.any.Form.{Form, TheVariants.{Classic, Blocks}}}
 
 abbrev pub reading_of : Form → Reading
 reading_of (Classic capture) = record { going = classic capture.order; fault = capture.fault }

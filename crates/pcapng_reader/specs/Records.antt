@@ -2,8 +2,7 @@
 use Rattle.std.specs.Prelude.{List, ℕ, if◌then◌else◌, Option}
 use Rattle.zr_kinds.specs.declared.fault.Fault.{Fault}
 use Rattle.pcap_reader.specs.Records as classic_form
-use Rattle.pcap_reader.specs.declared.order.ByteOrder.{ByteOrder}
-use Rattle.pcap_reader.specs.Records.{Records}
+use Rattle.pcap_reader.specs.{declared.order.ByteOrder.{ByteOrder}, Records.{Records}}
 pub use Rattle.pcapng_reader.specs.Blocks.{Section}
 use Rattle.pcapng_reader.specs.Blocks.{no_section, is_section_header, block_fault, blocks_in}
 

@@ -1,18 +1,12 @@
 -- What the steps of reading a block say.
 use Rattle.std.specs.Prelude.{◌≡◌, ◌≢◌, ℕ, ◌+◌, ◌-◌, ◌<◌, ◌≤◌, List, ◌++◌, length, take, drop, false, Option, Some, None, Result, Ok, Err, IfSome}
 use Rattle.std.specs.Io.KnownBytes.{Keeps, IsAtEnd, Consumes}
-use Rattle.zr_kinds.specs.Limits.{longest_record}
-use Rattle.zr_kinds.specs.declared.fault.Fault.{Fault}
-use Rattle.zr_kinds.specs.declared.fault.Fault.TheVariants.{Memory, Version, LinkType, Cut, LongRecord, Read, BadBlock}
+use Rattle.zr_kinds.specs.{Limits.{longest_record}, declared.fault.Fault.{Fault, TheVariants.{Memory, Version, LinkType, Cut, LongRecord, Read, BadBlock}}}
 use Rattle.zr_io.specs.Moved.{Took}
-use Rattle.pcap_reader.specs.declared.order.ByteOrder.{ByteOrder}
-use Rattle.pcap_reader.specs.Records.{number, with_record}
-use Rattle.pcap_reader.specs.Capture.{IsOutOfForm, OfFronts}
-use Rattle.pcap_reader.specs.Steps.{BreaksOff}
+use Rattle.pcap_reader.specs.{declared.order.ByteOrder.{ByteOrder}, Records.{number, with_record}, Capture.{IsOutOfForm, OfFronts}, Steps.{BreaksOff}}
 use Rattle.pcap_reader.specs.declared.capture.Record.{Record}
 use Rattle.pcapng_reader.specs.declared.section as code
-use Rattle.pcapng_reader.specs.declared.head.Head.{Head}
-use Rattle.pcapng_reader.specs.declared.blocks.BlockCapture.{BlockCapture}
+use Rattle.pcapng_reader.specs.declared.{head.Head.{Head}, blocks.BlockCapture.{BlockCapture}}
 use Rattle.pcapng_reader.specs.Blocks.{Section, Kind, Interface, kind_of, begin_len, fixed_len, order_told, total_len, is_too_many, misfits}
 use Rattle.pcapng_reader.specs.Blocks.{interface_of, captured_len, original_len, packet_fault, fixed_fault, block_fault, blocks_in, no_section}
 use Rattle.pcapng_reader.specs.Capture.{IsRecordFault}

@@ -1,7 +1,6 @@
 ghost use Rattle.std.specs.Prelude.{◌≡◌, ◌≤◌, None, Some, IfOk, IfSome, IsErrOf, MatchResult};
-ghost use Rattle.zr_kinds.specs.Limits.{longest_record};
+ghost use Rattle.zr_kinds.specs.{Limits.{longest_record}, declared.fault.Fault.TheVariants.{Memory}};
 ghost use Rattle.zr_io.specs.Moved.{Took};
-ghost use Rattle.zr_kinds.specs.declared.fault.Fault.TheVariants.{Memory};
 ghost use Rattle.pcap_reader.specs.Capture.{HasReadCause};
 ghost use Rattle.pcapng_reader.specs.Capture.{Opens, Gives, WantsMemory};
 
@@ -26,8 +25,7 @@ pub(crate) enum Form {
 }
 
 impl Model for AnyCapture {
-    ghost use Rattle.pcapng_reader.specs.Capture.{Reading};
-    ghost use Rattle.pcapng_reader.specs.Forms.{reading_of};
+    ghost use Rattle.pcapng_reader.specs.{Capture.{Reading}, Forms.{reading_of}};
 
     ghost Value = { Reading };
 

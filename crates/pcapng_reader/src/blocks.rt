@@ -1,13 +1,8 @@
 ghost use Rattle.std.specs.Prelude.{◌≡◌, ◌<◌, ◌≤◌, ◌++◌, IsTrue, None, Some, IfOk, IfNone, IfSome, IsErrOf, MatchResult};
-ghost use Rattle.zr_kinds.specs.Limits.{longest_record};
+ghost use Rattle.zr_kinds.specs.{Limits.{longest_record}, declared.fault.Fault.TheVariants.{Memory}};
 ghost use Rattle.zr_io.specs.Moved.{Took};
-ghost use Rattle.zr_kinds.specs.declared.fault.Fault.TheVariants.{Memory};
 ghost use Rattle.pcap_reader.specs.Capture.{HasReadCause};
-ghost use Rattle.pcapng_reader.specs.Blocks.{is_packet, is_section_header};
-ghost use Rattle.pcapng_reader.specs.Records.{blocks};
-ghost use Rattle.pcapng_reader.specs.Capture.{Gives, WantsMemory, WantsHere};
-ghost use Rattle.pcapng_reader.specs.Steps.{told, head_bytes, IsHead, IsHeaderFault, IsInterfaceFault, PassesBlock, TakesPacket, TakesBlock, TakesStart, OpensBlocks};
-ghost use Rattle.pcapng_reader.specs.declared.kind.Kind.TheVariants.{SectionHeader, InterfaceDescription, Other};
+ghost use Rattle.pcapng_reader.specs.{Blocks.{is_packet, is_section_header}, Records.{blocks}, Capture.{Gives, WantsMemory, WantsHere}, Steps.{told, head_bytes, IsHead, IsHeaderFault, IsInterfaceFault, PassesBlock, TakesPacket, TakesBlock, TakesStart, OpensBlocks}, declared.kind.Kind.TheVariants.{SectionHeader, InterfaceDescription, Other}};
 
 use crate::fill::{fill_part, read_end};
 use crate::head::{Head, START_LEN, read_head};

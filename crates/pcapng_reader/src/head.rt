@@ -1,7 +1,6 @@
 ghost use Rattle.std.specs.Prelude.{◌≡◌, ◌≤◌, ◌+◌, ◌-◌, length, IfOk};
 ghost use Rattle.pcap_reader.specs.Capture.{HasReadCause};
-ghost use Rattle.pcapng_reader.specs.Blocks.{fixed_len, kind_of, magic_order, order_told};
-ghost use Rattle.pcapng_reader.specs.Steps.{told, IsHead, TakesHead};
+ghost use Rattle.pcapng_reader.specs.{Blocks.{fixed_len, kind_of, magic_order, order_told}, Steps.{told, IsHead, TakesHead}};
 
 use crate::fill::fill_part;
 use crate::kind::Kind;

@@ -1,7 +1,5 @@
 ghost use Rattle.std.specs.Prelude.{◌≡◌, IsTrue, option_copied};
-ghost use Rattle.pcapng_reader.specs.Blocks.{is_packet};
-ghost use Rattle.pcapng_reader.specs.Steps.{told, IsHead, IsPacket, Judges, IsPacketOf};
-ghost use Rattle.pcapng_reader.specs.declared.kind.Kind.TheVariants.{EnhancedPacket, SimplePacket};
+ghost use Rattle.pcapng_reader.specs.{Blocks.{is_packet}, Steps.{told, IsHead, IsPacket, Judges, IsPacketOf}, declared.kind.Kind.TheVariants.{EnhancedPacket, SimplePacket}};
 
 use crate::head::Head;
 use crate::kind::Kind;

@@ -1,6 +1,5 @@
 ghost use Rattle.std.specs.Prelude.{◌≡◌, ◌+◌, ◌-◌, ◌^◌, ◌<◌, ◌||◌, []};
-ghost use Rattle.pcapng_reader.specs.Blocks.{limited, first_snaplen, is_too_many, misfits};
-ghost use Rattle.pcapng_reader.specs.Steps.{told};
+ghost use Rattle.pcapng_reader.specs.{Blocks.{limited, first_snaplen, is_too_many, misfits}, Steps.{told}};
 
 use crate::kind::Kind;
 use pcap_reader::ByteOrder;

@@ -1,28 +1,17 @@
 -- A loan is abandoned: it is out no more, and owed for good, so no count of holders or users changes.
-use Rattle.std.proofs.Common.{◌≡◌, ℕ, ◌-◌, ◌<◌, List, length, set, get_or, refl, ◌∙◌, arith, inl}
-use Rattle.std.proofs.lemmas.List.{length-set}
+use Rattle.std.proofs.{Common.{◌≡◌, ℕ, ◌-◌, ◌<◌, List, length, set, get_or, refl, ◌∙◌, arith, inl}, lemmas.List.{length-set}}
 use Rattle.zr_kinds.specs.declared.place.Place.{Place}
 use Rattle.area_layout.specs.Layout.{total}
-use Rattle.board_face.specs.Sides.{IsApp, app_at}
-use Rattle.board_face.specs.AppEvents.{abandoned}
-use Rattle.board_face.specs.AppCalls.{HasLoan}
-use Rattle.board_face.specs.declared.views.app.AppSide.{AppSide}
-use Rattle.board_face.proofs.AppLemmas.{app_count-abandoned, user_part-abandoned, EndedWereReturned-abandoned}
-use Rattle.board_face.proofs.RelayLemmas.{Relayed-app}
-use Rattle.board_face.proofs.IsFilledByOneLemmas.{IsFilledByOne-abandoned}
-use Rattle.board_face.proofs.OwnBufferLemmas.{AppLiesInOwn-abandoned}
-use Rattle.board_face.proofs.FillingsFitLemmas.{FillingsFit-same}
-use Rattle.board_face.proofs.AreShownLemmas.{AreShown-abandoned}
+use Rattle.board_face.specs.{Sides.{IsApp, app_at}, AppEvents.{abandoned}, AppCalls.{HasLoan}, declared.views.app.AppSide.{AppSide}}
+use Rattle.board_face.proofs.{AppLemmas.{app_count-abandoned, user_part-abandoned, EndedWereReturned-abandoned}, RelayLemmas.{Relayed-app}}
+use Rattle.board_face.proofs.{IsFilledByOneLemmas.{IsFilledByOne-abandoned}, OwnBufferLemmas.{AppLiesInOwn-abandoned}, FillingsFitLemmas.{FillingsFit-same}}
+use Rattle.board_face.proofs.{AreShownLemmas.{AreShown-abandoned}, WrittenLemmas.{loans-fewer, returned-more, owed-more, IsClear-fewer}}
 use Rattle.board_parts.specs.Counts.{user_at}
-use Rattle.plain_board.specs.Stand.{Arrays, Stand, byte_of}
-use Rattle.plain_board.specs.Returns.{loans_out}
-use Rattle.plain_board.specs.Sound.{IsSound}
+use Rattle.plain_board.specs.{Stand.{Arrays, Stand, byte_of}, Returns.{loans_out}, Sound.{IsSound}}
 use Rattle.plain_board.proofs.AppFrames.{IsSet-app, was-at_rest, AreCounted-app, was-returned, AreRelayed-kept, was-relayed, returns-app, was-returns}
 use Rattle.plain_board.proofs.AppFrames.{AreFlags-kept, AreFreeOnce-app, AreKept-app, AreDue-app, was-given, was-due, AreBooked-app, was-booked_loans}
 use Rattle.plain_board.proofs.AppFrames.{was-booked_filled, was-booked_raw, ArePhased-app, was-phased, was-own, OwnBuffers-app}
-use Rattle.plain_board.proofs.Users.{loans-there, user-other, user-lowered}
-use Rattle.plain_board.proofs.TokensLie.{loan-some, loan-none, loan-lies}
-use Rattle.board_face.proofs.WrittenLemmas.{loans-fewer, returned-more, owed-more, IsClear-fewer}
+use Rattle.plain_board.proofs.{Users.{loans-there, user-other, user-lowered}, TokensLie.{loan-some, loan-none, loan-lies}}
 
 module _ (board : Stand) (a : ℕ) (x : AppSide) (place : Place) (sound : IsSound board) (here : IsApp board.apps a x) (out : HasLoan x.view place) where
   abbrev now : AppSide

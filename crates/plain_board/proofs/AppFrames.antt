@@ -1,36 +1,18 @@
 -- What an event of one application leaves: all that it doesn't say of itself is as before.
-use Rattle.std.proofs.Common.{◌≡◌, ℕ, ◌+◌, ◌<◌, ◌≤◌, Bool, List, length, map, set, get_or, refl, ap, sym, ◌∙◌, subst, arith, inl}
-use Rattle.std.proofs.Common.{inr, ⊎_elim}
-use Rattle.std.specs.Prelude.{◌≢◌, ◌⊎◌, nat_eq, count_by, All}
-use Rattle.std.specs.List.{flat_map}
-use Rattle.std.proofs.lemmas.List.{get_or-set_same, get_or-set_other, length-set, map-set, set-set}
-use Rattle.std.proofs.lemmas.List.Elements.{All-set}
-use Rattle.std.proofs.Math.Seq.{map-set_same}
+use Rattle.std.proofs.Common.{◌≡◌, ℕ, ◌+◌, ◌<◌, ◌≤◌, Bool, List, length, map, set, get_or, refl, ap, sym, ◌∙◌, subst, arith, inl, inr, ⊎_elim}
+use Rattle.std.specs.{Prelude.{◌≢◌, ◌⊎◌, nat_eq, count_by, All}, List.{flat_map}}
+use Rattle.std.proofs.{lemmas.List.{get_or-set_same, get_or-set_other, length-set, map-set, set-set, Elements.{All-set}}, Math.Seq.{map-set_same}}
 use Rattle.std.proofs.lemmas.Bool.Decides.{eqb_tells}
 use Rattle.area_layout.specs.Layout.{total, pool_buffers}
-use Rattle.board_face.specs.Sides.{IsApp, side_in}
-use Rattle.board_face.specs.Counts.{pool_count, user_count, EndedWereReturned}
-use Rattle.board_face.specs.FreeOnce.{AreFreeOnce, free_places}
-use Rattle.board_face.specs.Relay.{Relayed}
-use Rattle.board_face.specs.Texts.{unsplit_bytes}
-use Rattle.board_face.specs.Used.{picked_buffers, used_buffers, HasFewPicks, PicksAreGiven}
-use Rattle.board_face.specs.OwnBuffers.{AppLiesInOwn, LieInOwn}
-use Rattle.board_face.specs.declared.views.nic.NicSide.{NicSide}
-use Rattle.board_face.specs.declared.views.app.AppSide.{AppSide}
-use Rattle.board_face.proofs.ListLemmas.{not-eqb}
-use Rattle.board_face.proofs.SideLemmas.{AreNumbered-set, IsApp-at}
-use Rattle.board_face.proofs.AppLemmas.{pool_count-app, user_count-app}
-use Rattle.board_face.proofs.Parts.{app_count, user_part, count-tally}
-use Rattle.board_face.proofs.OwnBufferLemmas.{LieInOwn-app, LieInOwn-side}
-use Rattle.board_face.proofs.Tallies.{weight, tally, tally-flat, total-set}
+use Rattle.board_face.specs.{Sides.{IsApp, side_in}, Counts.{pool_count, user_count, EndedWereReturned}, FreeOnce.{AreFreeOnce, free_places}, Relay.{Relayed}}
+use Rattle.board_face.specs.{Texts.{unsplit_bytes}, Used.{picked_buffers, used_buffers, HasFewPicks, PicksAreGiven}, OwnBuffers.{AppLiesInOwn, LieInOwn}}
+use Rattle.board_face.{specs.declared.views.{nic.NicSide.{NicSide}, app.AppSide.{AppSide}}, proofs.{ListLemmas.{not-eqb}, SideLemmas.{AreNumbered-set, IsApp-at}}}
+use Rattle.board_face.proofs.{AppLemmas.{pool_count-app, user_count-app}, Parts.{app_count, user_part, count-tally}, OwnBufferLemmas.{LieInOwn-app, LieInOwn-side}}
+use Rattle.board_face.{proofs.{Tallies.{weight, tally, tally-flat, total-set}, Counting.{count-append}}, specs.Blank.{blank_app}}
 use Rattle.board_parts.specs.Counts.{user_at}
-use Rattle.board_face.specs.Blank.{blank_app}
-use Rattle.plain_board.specs.declared.others.Others.{Others}
-use Rattle.plain_board.specs.Stand.{Arrays, Stand, setting_of, side_of}
-use Rattle.plain_board.specs.Returns.{AreReturns, entries_on_way, loans_out, reach_of}
+use Rattle.plain_board.specs.{declared.others.Others.{Others}, Stand.{Arrays, Stand, setting_of, side_of}, Returns.{AreReturns, entries_on_way, loans_out, reach_of}}
 use Rattle.plain_board.specs.Sound.{IsSound, IsRing, IsSet, IsAtRest, AreCounted, AreRelayed, AreFlags, AreKept, AreDue, AreBooked, IsPhased, ArePhased}
 use Rattle.plain_board.specs.Sound.{notes_of, refills_of, taken_of}
-use Rattle.board_face.proofs.Counting.{count-append}
 
 -- the card's pool is the board's
 pub pools : {board : Stand} → IsSound board → pool_buffers board.nic.view.setting.layout ≡ pool_buffers board.arrays.layout

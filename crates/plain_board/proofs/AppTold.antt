@@ -1,20 +1,9 @@
 -- An application learns something, and moves nothing.
-use Rattle.std.proofs.Common.{◌≡◌, ℕ, Bool, true, List, [], ◌∷◌, set, refl, arith}
-use Rattle.std.specs.Prelude.{All}
-use Rattle.board_face.specs.Sides.{IsApp, app_at}
-use Rattle.board_face.specs.Holders.{on_way}
-use Rattle.board_face.specs.AppEvents.{app_saw}
-use Rattle.board_face.specs.declared.views.app.AppLook.{AppLook}
-use Rattle.board_face.specs.declared.views.app.AppView.{AppView}
-use Rattle.board_face.specs.declared.views.app.AppSide.{AppSide}
-use Rattle.board_face.proofs.AppLemmas.{SameHoldings, app_count-same, user_part-same}
-use Rattle.board_face.proofs.RelayLemmas.{Relayed-app}
-use Rattle.board_face.proofs.IsFilledByOneLemmas.{IsFilledByOne-same}
-use Rattle.board_face.proofs.FillingsFitLemmas.{FillingsFit-same}
-use Rattle.board_face.proofs.AreShownLemmas.{AreShown-same}
-use Rattle.plain_board.specs.Stand.{Stand, byte_of}
-use Rattle.plain_board.specs.Returns.{entries_on_way, IsOfLoan}
-use Rattle.plain_board.specs.Sound.{IsSound}
+use Rattle.std.{proofs.Common.{◌≡◌, ℕ, Bool, true, List, [], ◌∷◌, set, refl, arith}, specs.Prelude.{All}}
+use Rattle.board_face.specs.{Sides.{IsApp, app_at}, Holders.{on_way}, AppEvents.{app_saw}, declared.views.app.{AppLook.{AppLook}, AppView.{AppView}, AppSide.{AppSide}}}
+use Rattle.board_face.proofs.{AppLemmas.{SameHoldings, app_count-same, user_part-same}, RelayLemmas.{Relayed-app}, IsFilledByOneLemmas.{IsFilledByOne-same}}
+use Rattle.board_face.proofs.{FillingsFitLemmas.{FillingsFit-same}, AreShownLemmas.{AreShown-same}}
+use Rattle.plain_board.specs.{Stand.{Stand, byte_of}, Returns.{entries_on_way, IsOfLoan}, Sound.{IsSound}}
 use Rattle.plain_board.proofs.AppFrames.{IsSet-app, was-at_rest, AreCounted-app, was-returned, AreRelayed-kept, was-relayed, returns-app, was-returns}
 use Rattle.plain_board.proofs.AppFrames.{AreFlags-kept, AreFreeOnce-app, AreKept-app, AreDue-app, was-given, was-due, AreBooked-kept}
 use Rattle.plain_board.proofs.AppFrames.{ArePhased-app, was-phased, OwnBuffers-kept}

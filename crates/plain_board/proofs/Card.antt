@@ -1,22 +1,11 @@
 -- What an event of the card leaves that sends nothing, deals with nothing and keeps the setting.
-use Rattle.std.proofs.Common.{◌≡◌, ℕ, ◌<◌, ◌≤◌, true, List, length, set, ap, sym, ◌∙◌, arith}
-use Rattle.std.specs.Prelude.{◌≢◌, All}
-use Rattle.std.proofs.lemmas.Bool.{false≢true}
+use Rattle.std.{proofs.{Common.{◌≡◌, ℕ, ◌<◌, ◌≤◌, true, List, length, set, ap, sym, ◌∙◌, arith}, lemmas.Bool.{false≢true}}, specs.Prelude.{◌≢◌, All}}
 use Rattle.std.proofs.lemmas.List.Elements.{All-weaker}
 use Rattle.area_layout.specs.Layout.{total}
-use Rattle.board_face.specs.Sides.{nic_at}
-use Rattle.board_face.specs.Holders.{lowered_in_hand}
-use Rattle.board_face.specs.Counts.{pool_count, EndedWereReturned}
-use Rattle.board_face.specs.NicCalls.{apps_of, IsOpen, HasNoToken}
-use Rattle.board_face.specs.declared.views.parts.Setting.{Setting}
-use Rattle.board_face.specs.declared.views.nic.NicView.{NicView}
-use Rattle.board_face.specs.declared.views.nic.NicSide.{NicSide}
-use Rattle.board_face.specs.declared.views.app.AppSide.{AppSide}
-use Rattle.board_face.proofs.NicLemmas.{user_count-nic}
-use Rattle.board_face.proofs.RelayLemmas.{Relayed-nic}
-use Rattle.plain_board.specs.Returns.{AreReturns}
-use Rattle.plain_board.specs.Stand.{Arrays, Stand}
-use Rattle.plain_board.specs.Sound.{IsSound, IsSet, AreCounted, AreRelayed, AreBooked, IsPhased, ArePhased}
+use Rattle.board_face.specs.{Sides.{nic_at}, Holders.{lowered_in_hand}, Counts.{pool_count, EndedWereReturned}, NicCalls.{apps_of, IsOpen, HasNoToken}}
+use Rattle.board_face.specs.declared.views.{parts.Setting.{Setting}, nic.{NicView.{NicView}, NicSide.{NicSide}}, app.AppSide.{AppSide}}
+use Rattle.board_face.proofs.{NicLemmas.{user_count-nic}, RelayLemmas.{Relayed-nic}}
+use Rattle.plain_board.specs.{Returns.{AreReturns}, Stand.{Arrays, Stand}, Sound.{IsSound, IsSet, AreCounted, AreRelayed, AreBooked, IsPhased, ArePhased}}
 use Rattle.zr_kinds.proofs.Lists.{counts-set}
 
 -- the board's setting is that of its arrays

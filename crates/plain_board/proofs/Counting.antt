@@ -1,12 +1,8 @@
 -- What the arrays count of a buffer is few, and nothing behind the area.
 use Rattle.std.proofs.Common.{◌≡◌, ℕ, ◌<◌, ◌≤◌, length, get_or, ap, sym, ◌∙◌, arith}
-use Rattle.area_layout.specs.Layout.{size_of}
-use Rattle.area_layout.proofs.Words.{words_apart}
-use Rattle.board_face.specs.Counts.{pool_count, user_count}
-use Rattle.board_face.proofs.FewLemmas.{pool_count-few}
-use Rattle.board_face.proofs.FreeLemmas.{user_count-le}
-use Rattle.plain_board.specs.Stand.{Stand}
-use Rattle.plain_board.specs.Sound.{IsSound}
+use Rattle.area_layout.{specs.Layout.{size_of}, proofs.Words.{words_apart}}
+use Rattle.board_face.{specs.Counts.{pool_count, user_count}, proofs.{FewLemmas.{pool_count-few}, FreeLemmas.{user_count-le}}}
+use Rattle.plain_board.specs.{Stand.{Stand}, Sound.{IsSound}}
 
 module _ (board : Stand) (sound : IsSound board) where
   pub holders-few : (b : ℕ) → pool_count b board.nic board.apps ≤ 65537

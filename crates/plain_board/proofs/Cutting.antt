@@ -1,27 +1,13 @@
 -- A piece is cut: its buffer, which is held already, has one holder more.
-use Rattle.std.proofs.Common.{◌≡◌, ℕ, ◌+◌, ◌<◌, set, get_or, refl, ap, ◌∙◌, arith, inl, inr, ⊎_elim}
-use Rattle.std.specs.Prelude.{◌==◌, ◌⊎◌, if◌then◌else◌}
+use Rattle.std.{proofs.Common.{◌≡◌, ℕ, ◌+◌, ◌<◌, set, get_or, refl, ap, ◌∙◌, arith, inl, inr, ⊎_elim}, specs.Prelude.{◌==◌, ◌⊎◌, if◌then◌else◌}}
 use Rattle.std.proofs.lemmas.List.{length-set}
 use Rattle.zr_kinds.specs.declared.place.Place.{Place}
-use Rattle.board_face.specs.Sides.{IsApp, app_at}
-use Rattle.board_face.specs.Counts.{pool_count}
-use Rattle.board_face.specs.AppCalls.{IsHere, HasHeld}
-use Rattle.board_face.specs.AppEvents.{cut}
-use Rattle.board_face.specs.FreeOnce.{AreFreeOnce, free_places}
-use Rattle.board_face.specs.declared.views.app.AppSide.{AppSide}
-use Rattle.board_face.proofs.ListLemmas.{not-eqb}
-use Rattle.board_face.proofs.Tallies.{weight}
-use Rattle.board_face.proofs.AppLemmas.{pool_count-app, app_count-cut}
-use Rattle.board_face.proofs.IsFilledByOneLemmas.{IsFilledByOne-cut}
-use Rattle.board_face.proofs.OwnBufferLemmas.{AppLiesInOwn-cut}
-use Rattle.board_face.proofs.AreShownLemmas.{AreShown-cut}
+use Rattle.board_face.specs.{Sides.{IsApp, app_at}, Counts.{pool_count}, AppCalls.{IsHere, HasHeld}, AppEvents.{cut}, FreeOnce.{AreFreeOnce, free_places}}
+use Rattle.board_face.{specs.declared.views.app.AppSide.{AppSide}, proofs.{ListLemmas.{not-eqb}, Tallies.{weight}, AppLemmas.{pool_count-app, app_count-cut}}}
+use Rattle.board_face.proofs.{IsFilledByOneLemmas.{IsFilledByOne-cut}, OwnBufferLemmas.{AppLiesInOwn-cut}, AreShownLemmas.{AreShown-cut}, Counting.{weight-other}}
 use Rattle.board_parts.specs.Free.{listed_in}
-use Rattle.plain_board.specs.Stand.{Stand, byte_of}
-use Rattle.plain_board.specs.Sound.{IsSound}
-use Rattle.plain_board.proofs.Lists.{same-or-other, raised}
-use Rattle.plain_board.proofs.AppFrames.{free_places-side, was-own}
+use Rattle.plain_board.{specs.{Stand.{Stand, byte_of}, Sound.{IsSound}}, proofs.{Lists.{same-or-other, raised}, AppFrames.{free_places-side, was-own}}}
 use Rattle.plain_board.proofs.HeldPieces.{is_held, of_area, there-pool, at-rest, IsSound-helds}
-use Rattle.board_face.proofs.Counting.{weight-other}
 
 -- a buffer with a holder more than the one or more that it had is no freer than it was
 once-more : (p p' f f' w : ℕ) → f ≡ (if p == 0 then 1 else 0) → f' ≡ f → p' ≡ p + w → (w ≡ 0) ⊎ (0 < p)

@@ -1,28 +1,13 @@
 -- The entry that is next in an application's ring is dealt with.
-use Rattle.std.proofs.Common.{◌≡◌, ℕ, suc, ◌+◌, ◌-◌, ◌≤◌, Bool, true, false, List, [], ◌∷◌, ◌++◌, length, map, drop}
-use Rattle.std.proofs.Common.{refl, ap, sym, ◌∙◌, arith, length-append}
-use Rattle.std.specs.Prelude.{◌≢◌, filter, count_by, ◌==◌, nat_lt, if◌then◌else◌}
-use Rattle.std.specs.List.{zip}
-use Rattle.std.proofs.lemmas.List.{drop-map}
-use Rattle.std.proofs.lemmas.List.Elements.{All-tail, All-push, All-weaker}
-use Rattle.std.proofs.lemmas.Bool.{ltb-false}
-use Rattle.std.proofs.Math.Seq.{drop-append_seam}
-use Rattle.zr_kinds.specs.declared.ring.Rqe.{Rqe}
-use Rattle.board_face.specs.Sides.{nic_at}
-use Rattle.board_face.specs.Holders.{lowered_in_hand, ended_in, owed_in}
-use Rattle.board_face.specs.Relay.{Relayed, dealt_entries, IsNoLoanStray}
-use Rattle.board_face.specs.declared.views.nic.Dealt.{Dealt}
-use Rattle.board_face.specs.declared.views.nic.NicView.{NicView}
-use Rattle.board_face.specs.declared.views.nic.NicSide.{NicSide}
-use Rattle.board_face.specs.declared.views.app.TakenNote.{TakenNote}
-use Rattle.board_face.specs.declared.views.app.WrittenEntry.{WrittenEntry}
-use Rattle.board_face.specs.declared.views.app.AppSide.{AppSide}
-use Rattle.board_face.proofs.NicLemmas.{ended_in-push}
-use Rattle.board_face.proofs.Parts.{owed-count}
+use Rattle.std.proofs.Common.{◌≡◌, ℕ, suc, ◌+◌, ◌-◌, ◌≤◌, Bool, true, false, List, [], ◌∷◌, ◌++◌, length, map, drop, refl, ap, sym, ◌∙◌, arith, length-append}
+use Rattle.std.{specs.{Prelude.{◌≢◌, filter, count_by, ◌==◌, nat_lt, if◌then◌else◌}, List.{zip}}, proofs.lemmas.List.{drop-map}}
+use Rattle.std.proofs.{lemmas.{List.Elements.{All-tail, All-push, All-weaker}, Bool.{ltb-false}}, Math.Seq.{drop-append_seam}}
+use Rattle.zr_kinds.{specs.declared.ring.Rqe.{Rqe}, proofs.Lists.{drop-after}}
+use Rattle.board_face.specs.{Sides.{nic_at}, Holders.{lowered_in_hand, ended_in, owed_in}, Relay.{Relayed, dealt_entries, IsNoLoanStray}}
+use Rattle.board_face.specs.declared.views.{nic.{Dealt.{Dealt}, NicView.{NicView}, NicSide.{NicSide}}, app.{TakenNote.{TakenNote}, WrittenEntry.{WrittenEntry}}}
+use Rattle.board_face.{specs.declared.views.app.AppSide.{AppSide}, proofs.{NicLemmas.{ended_in-push}, Parts.{owed-count}}}
 pub use Rattle.board_face.proofs.DealtLemmas.{length-mapped, dealt-more, dealt-same, zip-push}
-use Rattle.plain_board.specs.Returns.{entries_on_way, returns, abandoned_in, reach_of, IsNamed, IsOfLoan, AreReturns}
-use Rattle.plain_board.specs.Sound.{IsPhased, ArePhased}
-use Rattle.zr_kinds.proofs.Lists.{drop-after}
+use Rattle.plain_board.specs.{Returns.{entries_on_way, returns, abandoned_in, reach_of, IsNamed, IsOfLoan, AreReturns}, Sound.{IsPhased, ArePhased}}
 
 -- ---- the front
 

@@ -1,32 +1,16 @@
 -- All have left, so nobody has a buffer, nothing is on its way, and each pool buffer is free once.
-use Rattle.std.proofs.Common.{◌≡◌, ℕ, ◌+◌, ◌*◌, ◌<◌, ◌≤◌, List, [], ◌++◌, length, map}
-use Rattle.std.proofs.Common.{get_or, refl, ap, sym, ◌∙◌, arith, ⊎_elim, length-drop}
-use Rattle.std.specs.Prelude.{◌==◌, ◌/◌, ◌%◌, All, nat_eq, count_by, if◌then◌else◌}
-use Rattle.std.specs.List.{flat_map}
-use Rattle.std.proofs.Math.Nat.{mul-le-mul_left}
-use Rattle.std.proofs.lemmas.List.{append-nil, get_or_default}
-use Rattle.std.proofs.lemmas.Bool.{cases_lt}
+use Rattle.std.proofs.Common.{◌≡◌, ℕ, ◌+◌, ◌*◌, ◌<◌, ◌≤◌, List, [], ◌++◌, length, map, get_or, refl, ap, sym, ◌∙◌, arith, ⊎_elim, length-drop}
+use Rattle.std.{specs.{Prelude.{◌==◌, ◌/◌, ◌%◌, All, nat_eq, count_by, if◌then◌else◌}, List.{flat_map}}, proofs.Math.Nat.{mul-le-mul_left}}
+use Rattle.std.proofs.lemmas.{List.{append-nil, get_or_default}, Bool.{cases_lt}}
 use Rattle.area_layout.specs.Layout.{pool_buffers, total as all_buffers}
-use Rattle.board_face.specs.Sides.{IsApp}
-use Rattle.board_face.specs.AppCalls.{CanLeave}
-use Rattle.board_face.specs.Counts.{pool_count, user_count}
-use Rattle.board_face.specs.Holders.{on_way, ended_in, returned_in, returning_count}
-use Rattle.board_face.specs.Relay.{as_taken, dealt_entries}
-use Rattle.board_face.specs.declared.views.app.WrittenEntry.{WrittenEntry}
-use Rattle.board_face.specs.declared.views.app.AppSide.{AppSide}
-use Rattle.board_face.proofs.SideLemmas.{IsApp-at}
+use Rattle.board_face.specs.{Sides.{IsApp}, AppCalls.{CanLeave}, Counts.{pool_count, user_count}, Holders.{on_way, ended_in, returned_in, returning_count}}
+use Rattle.board_face.{specs.{Relay.{as_taken, dealt_entries}, declared.views.app.{WrittenEntry.{WrittenEntry}, AppSide.{AppSide}}}, proofs.SideLemmas.{IsApp-at}}
 use Rattle.board_face.proofs.Tallies.{weight, tally, tally-flat}
 use Rattle.board_face.proofs.Parts.{nic_count, app_count, helds_in, spares_in, loans_in, notes_in, owed_count, returned_in-count, pool_count-parts, count-tally}
-use Rattle.board_face.proofs.FreeLemmas.{user_count-le}
-use Rattle.board_face.proofs.RelayLemmas.{way-taken}
-use Rattle.board_parts.specs.Free.{listed_in, listed_below}
-use Rattle.board_parts.proofs.FreeLists.{IsEachOnce-free, free-fit}
-use Rattle.plain_board.specs.Stand.{Stand}
-use Rattle.plain_board.specs.Finish.{IsOver, free_of, IsEachOnce, HasNoCounts, IsServed, BoardsEndWell}
-use Rattle.plain_board.specs.Sound.{IsSound, IsPhased}
-use Rattle.plain_board.proofs.Dealing.{entries-relayed}
-use Rattle.board_face.proofs.Counting.{total-zero}
-use Rattle.plain_board.proofs.AppFrames.{pools}
+use Rattle.board_face.proofs.{FreeLemmas.{user_count-le}, RelayLemmas.{way-taken}, Counting.{total-zero}}
+use Rattle.board_parts.{specs.Free.{listed_in, listed_below}, proofs.FreeLists.{IsEachOnce-free, free-fit}}
+use Rattle.plain_board.specs.{Stand.{Stand}, Finish.{IsOver, free_of, IsEachOnce, HasNoCounts, IsServed, BoardsEndWell}, Sound.{IsSound, IsPhased}}
+use Rattle.plain_board.proofs.{Dealing.{entries-relayed}, AppFrames.{pools}}
 
 -- ---- nobody has anything
 

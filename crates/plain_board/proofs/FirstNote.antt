@@ -1,19 +1,11 @@
 -- The next note of an application is as it was sent, and its piece shares no byte with what the application has.
-use Rattle.std.proofs.Common.{◌≡◌, ℕ, ◌<◌, true, false, length, ap, ◌∙◌, subst, sym}
-use Rattle.std.specs.Prelude.{◌==◌, All}
+use Rattle.std.{proofs.Common.{◌≡◌, ℕ, ◌<◌, true, false, length, ap, ◌∙◌, subst, sym}, specs.Prelude.{◌==◌, All}}
 use Rattle.std.proofs.lemmas.List.Elements.{All-head, All-filter, All-drop}
 use Rattle.zr_kinds.specs.declared.place.Note.{Note}
 use Rattle.area_layout.specs.Layout.{LiesIn, pool_buffers}
-use Rattle.board_face.specs.Sides.{IsApp}
-use Rattle.board_face.specs.Holders.{sent_to, on_way}
-use Rattle.board_face.specs.Texts.{IsSplitNote, IsLinearNote}
-use Rattle.board_face.specs.AppCalls.{IsNewPlace}
-use Rattle.board_face.specs.declared.views.app.AppSide.{AppSide}
-use Rattle.plain_board.specs.Stand.{Stand}
-use Rattle.plain_board.specs.Sound.{IsSound, IsProper}
-use Rattle.plain_board.proofs.AppFrames.{has-setting}
-use Rattle.board_face.specs.Laws.{IsNextNote}
-use Rattle.board_face.proofs.NewNotes.{new-of_pool, new-lies, new-apart}
+use Rattle.board_face.specs.{Sides.{IsApp}, Holders.{sent_to, on_way}, Texts.{IsSplitNote, IsLinearNote}, AppCalls.{IsNewPlace}, declared.views.app.AppSide.{AppSide}}
+use Rattle.board_face.{specs.Laws.{IsNextNote}, proofs.NewNotes.{new-of_pool, new-lies, new-apart}}
+use Rattle.plain_board.{specs.{Stand.{Stand}, Sound.{IsSound, IsProper}}, proofs.AppFrames.{has-setting}}
 
 module _ (board : Stand) (a : ℕ) (x : AppSide) (sound : IsSound board) (here : IsApp board.apps a x) (note : Note) (next : IsNextNote board.nic x note) where
   proper : IsProper next.next

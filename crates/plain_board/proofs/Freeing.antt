@@ -1,15 +1,9 @@
 -- A buffer whose last holder goes enters the cache or the free list.
-use Rattle.std.proofs.Common.{◌≡◌, ℕ, ◌+◌, ◌<◌, ◌≤◌, Bool, true, false, List, [], ◌∷◌, ◌++◌, length, set, refl, ap, sym}
-use Rattle.std.proofs.Common.{subst, arith, ⊎_elim, length-append}
-use Rattle.std.specs.Prelude.{◌≢◌, ◌&&◌, nat_eq, count_by, ◌==◌, if◌then◌else◌, nat_lt}
-use Rattle.std.proofs.lemmas.List.{get_or-set_same, get_or-set_other, length-set}
-use Rattle.std.proofs.lemmas.Bool.Decides.{eqb_tells}
-use Rattle.std.proofs.lemmas.Bool.{ltb-true}
-use Rattle.board_face.specs.NicEvents.{cached, cache_room}
-use Rattle.board_face.proofs.Tallies.{weight}
-use Rattle.board_parts.specs.Free.{listed_in}
-use Rattle.board_parts.specs.Free.{relisted}
-use Rattle.board_face.proofs.Counting.{weight-swap, count-push}
+use Rattle.std.proofs.Common.{◌≡◌, ℕ, ◌+◌, ◌<◌, ◌≤◌, Bool, true, false, List, [], ◌∷◌, ◌++◌, length, set, refl, ap, sym, subst, arith, ⊎_elim, length-append}
+use Rattle.std.{specs.Prelude.{◌≢◌, ◌&&◌, nat_eq, count_by, ◌==◌, if◌then◌else◌, nat_lt}, proofs.lemmas.List.{get_or-set_same, get_or-set_other, length-set}}
+use Rattle.std.proofs.lemmas.Bool.{Decides.{eqb_tells}, ltb-true}
+use Rattle.board_face.{specs.NicEvents.{cached, cache_room}, proofs.{Tallies.{weight}, Counting.{weight-swap, count-push}}}
+use Rattle.board_parts.specs.Free.{listed_in, relisted}
 
 pub and-right : (c d : Bool) → (c && d) ≡ true → d ≡ true
 and-right true d e = e

@@ -1,40 +1,20 @@
 -- A loan is given back by an entry behind all on their way: it is out no more, and owed until the card deals with the entry.
-use Rattle.std.proofs.Common.{◌≡◌, ℕ, ◌-◌, ◌<◌, true, List, [], ◌∷◌, ◌++◌, length, map, set, get_or, refl, ap, sym, ◌∙◌}
-use Rattle.std.proofs.Common.{subst, arith, inl}
-use Rattle.std.specs.Prelude.{All, Some}
-use Rattle.std.proofs.lemmas.List.{length-set, get_or-set_same, get_or-set_other}
-use Rattle.std.proofs.lemmas.List.Elements.{All-set}
+use Rattle.std.{proofs.Common.{◌≡◌, ℕ, ◌-◌, ◌<◌, true, List, [], ◌∷◌, ◌++◌, length, map, set, get_or, refl, ap, sym, ◌∙◌, subst, arith, inl}, specs.Prelude.{All, Some}}
+use Rattle.std.proofs.lemmas.List.{length-set, get_or-set_same, get_or-set_other, Elements.{All-set}}
 use Rattle.circular_buffer.specs.Buffer.{Buffer, buffer}
-use Rattle.zr_kinds.specs.declared.place.Place.{Place}
-use Rattle.zr_kinds.specs.declared.ring.Rqe.{Rqe}
-use Rattle.area_layout.specs.Layout.{total, judged, LiesIn}
-use Rattle.area_layout.proofs.Words.{place_judged}
-use Rattle.board_face.specs.Sides.{IsApp, app_at}
-use Rattle.board_face.specs.AppEvents.{gave, entry_of}
-use Rattle.board_face.specs.AppCalls.{HasLoan}
-use Rattle.board_face.specs.Relay.{Relayed}
-use Rattle.board_face.specs.declared.views.app.WrittenEntry.{WrittenEntry}
-use Rattle.board_face.specs.declared.views.app.AppSide.{AppSide}
-use Rattle.board_face.proofs.AppLemmas.{app_count-gave, user_part-gave, EndedWereReturned-abandoned}
-use Rattle.board_face.proofs.RelayLemmas.{Relayed-wrote}
-use Rattle.board_face.proofs.IsFilledByOneLemmas.{IsFilledByOne-gave}
-use Rattle.board_face.proofs.OwnBufferLemmas.{AppLiesInOwn-abandoned}
-use Rattle.board_face.proofs.FillingsFitLemmas.{FillingsFit-same}
-use Rattle.board_face.proofs.AreShownLemmas.{AreShown-gave}
-use Rattle.board_parts.specs.Rings.{ring_in, pushed}
-use Rattle.board_parts.specs.Counts.{user_at}
-use Rattle.plain_board.specs.Stand.{Arrays, Stand, byte_of}
-use Rattle.plain_board.specs.Returns.{AreReturns, entries_on_way, reach_of}
-use Rattle.plain_board.proofs.RingSlots.{IsRing-at, IsRing-pushed}
+use Rattle.zr_kinds.specs.declared.{place.Place.{Place}, ring.Rqe.{Rqe}}
+use Rattle.area_layout.{specs.Layout.{total, judged, LiesIn}, proofs.Words.{place_judged}}
+use Rattle.board_face.specs.{Sides.{IsApp, app_at}, AppEvents.{gave, entry_of}, AppCalls.{HasLoan}, Relay.{Relayed}, declared.views.app.WrittenEntry.{WrittenEntry}}
+use Rattle.board_face.{specs.declared.views.app.AppSide.{AppSide}, proofs.AppLemmas.{app_count-gave, user_part-gave, EndedWereReturned-abandoned}}
+use Rattle.board_face.proofs.{RelayLemmas.{Relayed-wrote}, IsFilledByOneLemmas.{IsFilledByOne-gave}, OwnBufferLemmas.{AppLiesInOwn-abandoned}}
+use Rattle.board_face.proofs.{FillingsFitLemmas.{FillingsFit-same}, AreShownLemmas.{AreShown-gave}, WrittenLemmas.{AreReturns-gave}}
+use Rattle.board_parts.specs.{Rings.{ring_in, pushed}, Counts.{user_at}}
+use Rattle.plain_board.{specs.{Stand.{Arrays, Stand, byte_of}, Returns.{AreReturns, entries_on_way, reach_of}}, proofs.RingSlots.{IsRing-at, IsRing-pushed}}
 use Rattle.plain_board.specs.Sound.{IsRing, IsSound, notes_of, refills_of, taken_of}
 use Rattle.plain_board.proofs.AppFrames.{IsSet-app, was-at_rest, has-setting, AreCounted-app, was-returned, AreRelayed-app, was-relayed, returns-app}
 use Rattle.plain_board.proofs.AppFrames.{was-returns, AreFlags-kept, AreFreeOnce-app, AreKept-app, AreDue-app, was-given, was-due, AreBooked-app}
-use Rattle.plain_board.proofs.AppFrames.{was-booked_filled, was-booked_raw, ArePhased-app, was-phased, was-own, OwnBuffers-app}
-use Rattle.plain_board.proofs.Users.{user-other}
-use Rattle.plain_board.proofs.TokensLie.{loan-none, loan-lies}
-use Rattle.plain_board.proofs.Abandoning.{loans-rest}
-use Rattle.board_face.proofs.WrittenLemmas.{AreReturns-gave}
-use Rattle.plain_board.proofs.Writing.{way-longer, reach-longer, dealt-within}
+use Rattle.plain_board.proofs.{AppFrames.{was-booked_filled, was-booked_raw, ArePhased-app, was-phased, was-own, OwnBuffers-app}, Users.{user-other}}
+use Rattle.plain_board.proofs.{TokensLie.{loan-none, loan-lies}, Abandoning.{loans-rest}, Writing.{way-longer, reach-longer, dealt-within}}
 
 module _ (board : Stand) (a : ℕ) (x : AppSide) (place : Place) (sound : IsSound board) (here : IsApp board.apps a x) (out : HasLoan x.view place) where
   abbrev now : AppSide

@@ -1,36 +1,18 @@
 -- A held piece lies in its buffer, which has few holders; an event of held pieces alone leaves all but counts and the free list.
-use Rattle.std.proofs.Common.{◌≡◌, ℕ, ◌+◌, ◌<◌, ◌≤◌, Bool, List, length, set, get_or, refl, ap, ◌∙◌, arith, ⊎_elim}
-use Rattle.std.specs.Prelude.{count_by}
+use Rattle.std.{proofs.Common.{◌≡◌, ℕ, ◌+◌, ◌<◌, ◌≤◌, Bool, List, length, set, get_or, refl, ap, ◌∙◌, arith, ⊎_elim}, specs.Prelude.{count_by}}
 use Rattle.std.proofs.lemmas.Bool.{cases_lt, lt-ltb}
 use Rattle.zr_kinds.specs.declared.place.Place.{Place}
-use Rattle.area_layout.specs.Layout.{size_of, total as all_buffers}
-use Rattle.area_layout.proofs.Words.{words_apart}
-use Rattle.board_face.specs.Lists.{same_place}
-use Rattle.board_face.specs.Sides.{IsApp, app_at}
-use Rattle.board_face.specs.Counts.{pool_count}
-use Rattle.board_face.specs.Places.{places_of, ends_behind}
-use Rattle.board_face.specs.FreeOnce.{AreFreeOnce}
-use Rattle.board_face.specs.Fillings.{IsFilledByOne}
-use Rattle.board_face.specs.OwnBuffers.{AppLiesInOwn}
-use Rattle.board_face.specs.Shown.{AreShown}
-use Rattle.board_face.specs.AppCalls.{IsHere, HasHeld}
-use Rattle.board_face.specs.declared.views.app.HeldPiece.{HeldPiece}
-use Rattle.board_face.specs.declared.views.app.AppSide.{AppSide}
-use Rattle.board_face.proofs.ListLemmas.{eqb_same, same_place-refl, same_place-is}
-use Rattle.board_face.proofs.Tallies.{weight, tally-without}
-use Rattle.board_face.proofs.Parts.{app_count, pool_count-parts, count-tally}
-use Rattle.board_face.proofs.PlaceTallies.{in_buffer, app_places, places-parts, in-own}
-use Rattle.board_face.proofs.AppLemmas.{app_count-released}
-use Rattle.board_face.proofs.RelayLemmas.{Relayed-app}
-use Rattle.board_face.proofs.FewLemmas.{pool_count-few}
-use Rattle.board_face.proofs.FillingsFitLemmas.{FillingsFit-same}
+use Rattle.area_layout.{specs.Layout.{size_of, total as all_buffers}, proofs.Words.{words_apart}}
+use Rattle.board_face.specs.{Lists.{same_place}, Sides.{IsApp, app_at}, Counts.{pool_count}, Places.{places_of, ends_behind}, FreeOnce.{AreFreeOnce}}
+use Rattle.board_face.specs.{Fillings.{IsFilledByOne}, OwnBuffers.{AppLiesInOwn}, Shown.{AreShown}, AppCalls.{IsHere, HasHeld}}
+use Rattle.board_face.{specs.declared.views.app.{HeldPiece.{HeldPiece}, AppSide.{AppSide}}, proofs.ListLemmas.{eqb_same, same_place-refl, same_place-is}}
+use Rattle.board_face.proofs.{Tallies.{weight, tally-without}, Parts.{app_count, pool_count-parts, count-tally}}
+use Rattle.board_face.proofs.{PlaceTallies.{in_buffer, app_places, places-parts, in-own}, AppLemmas.{app_count-released}, RelayLemmas.{Relayed-app}}
+use Rattle.board_face.proofs.{FewLemmas.{pool_count-few}, FillingsFitLemmas.{FillingsFit-same}, LiesLemmas.{total-at}}
 use Rattle.board_parts.specs.Free.{listed_in}
-use Rattle.plain_board.specs.Stand.{Arrays, Stand, byte_of}
-use Rattle.plain_board.specs.Sound.{IsSound, IsAtRest}
-use Rattle.board_face.proofs.LiesLemmas.{total-at}
+use Rattle.plain_board.specs.{Stand.{Arrays, Stand, byte_of}, Sound.{IsSound, IsAtRest}}
 use Rattle.plain_board.proofs.AppFrames.{IsSet-app, was-at_rest, AreCounted-app, was-returned, AreRelayed-kept, was-relayed, returns-app, was-returns}
-use Rattle.plain_board.proofs.AppFrames.{AreFlags-kept, AreKept-app, AreDue-app, was-given, was-due, AreBooked-kept}
-use Rattle.plain_board.proofs.AppFrames.{ArePhased-app, was-phased, OwnBuffers-app}
+use Rattle.plain_board.proofs.AppFrames.{AreFlags-kept, AreKept-app, AreDue-app, was-given, was-due, AreBooked-kept, ArePhased-app, was-phased, OwnBuffers-app}
 
 -- ---- a held piece
 

@@ -1,53 +1,26 @@
 -- An entry gives a reference back.
 use Rattle.std.proofs.Common.{◌≡◌, ℕ, ◌+◌, ◌-◌, ◌*◌, ◌<◌, ◌≤◌, Bool, true, false, List, ◌∷◌, length, set, get_or, refl, ap}
-use Rattle.std.proofs.Common.{sym, ◌∙◌, subst, arith, ⊎_elim, inl, inr, Some}
-use Rattle.std.specs.Prelude.{◌≢◌, ◌&&◌, nat_eq, nat_lt, count_by, ◌==◌, if◌then◌else◌, All}
-use Rattle.std.proofs.lemmas.List.{get_or_default, length-set, get_or-set_same, get_or-set_other}
-use Rattle.std.proofs.lemmas.List.Elements.{All-push, All-contains}
-use Rattle.std.proofs.lemmas.Nat.{mul-add-lt}
-use Rattle.std.proofs.lemmas.Bool.{cases_Bool, cases_lt, ltb-true, lt-ltb}
-use Rattle.std.proofs.lemmas.Bool.Decides.{eqb_tells}
-use Rattle.zr_kinds.specs.declared.ring.Rqe.{Rqe}
+use Rattle.std.{proofs.Common.{sym, ◌∙◌, subst, arith, ⊎_elim, inl, inr, Some}, specs.Prelude.{◌≢◌, ◌&&◌, nat_eq, nat_lt, count_by, ◌==◌, if◌then◌else◌, All}}
+use Rattle.std.proofs.lemmas.{List.{get_or_default, length-set, get_or-set_same, get_or-set_other, Elements.{All-push, All-contains}}, Nat.{mul-add-lt}}
+use Rattle.std.proofs.lemmas.Bool.{cases_Bool, cases_lt, ltb-true, lt-ltb, Decides.{eqb_tells}}
+use Rattle.zr_kinds.{specs.declared.ring.Rqe.{Rqe}, proofs.{Lists.{counts-set}, Booleans.{and-true}}}
 use Rattle.area_layout.specs.Layout.{pool_buffers, total, judged}
-use Rattle.board_face.specs.NicEvents.{honoured, gave_up, holder_look}
-use Rattle.board_face.specs.Looks.{NicRose}
-use Rattle.board_face.specs.Judged.{IsHonouredAsNamed}
-use Rattle.board_face.specs.NicCalls.{FreedEntry, HonouredEntry}
-use Rattle.board_face.specs.declared.views.nic.NicLook.TheVariants.{Owed}
-use Rattle.board_face.proofs.LookLemmas.{NicRose-nic_saw, NicRose-before, NicRose-later, NicLooksStay-nic_saw}
-use Rattle.board_face.specs.Sides.{nic_at, IsApp}
-use Rattle.board_face.specs.Holders.{lowered_in_hand, ended_in, owed_in, returned_in}
-use Rattle.board_face.specs.Counts.{pool_count, user_count, EndedWereReturned}
-use Rattle.board_face.specs.FreeOnce.{free_places}
-use Rattle.board_face.specs.declared.views.nic.Dealt.{Dealt}
-use Rattle.board_face.specs.declared.views.nic.Fate.TheVariants.{Honoured}
-use Rattle.board_face.specs.declared.views.nic.NicView.{NicView}
-use Rattle.board_face.specs.declared.views.nic.NicSide.{NicSide}
-use Rattle.board_face.specs.declared.views.app.AppSide.{AppSide}
-use Rattle.board_face.proofs.ListLemmas.{eqb_same, not-eqb}
+use Rattle.board_face.specs.{NicEvents.{honoured, gave_up, holder_look}, Looks.{NicRose}, Judged.{IsHonouredAsNamed}, NicCalls.{FreedEntry, HonouredEntry}}
+use Rattle.board_face.{specs.declared.views.nic.NicLook.TheVariants.{Owed}, proofs.LookLemmas.{NicRose-nic_saw, NicRose-before, NicRose-later, NicLooksStay-nic_saw}}
+use Rattle.board_face.specs.{Sides.{nic_at, IsApp}, Holders.{lowered_in_hand, ended_in, owed_in, returned_in}, Counts.{pool_count, user_count, EndedWereReturned}}
+use Rattle.board_face.specs.{FreeOnce.{free_places}, declared.views.nic.{Dealt.{Dealt}, Fate.TheVariants.{Honoured}, NicView.{NicView}, NicSide.{NicSide}}}
+use Rattle.board_face.{specs.declared.views.app.AppSide.{AppSide}, proofs.ListLemmas.{eqb_same, not-eqb}}
 use Rattle.board_face.proofs.NicLemmas.{Owes, pool_count-honoured, user_count-honoured, honoured-other, honoured-target}
-use Rattle.board_face.proofs.Parts.{returned_in-count, loans_in, owed_count, count-tally, user_count-own, owed-count}
-use Rattle.board_face.proofs.Tallies.{weight}
-use Rattle.board_face.proofs.FillingsFitLemmas.{FillingsFit-nic}
-use Rattle.board_face.proofs.IsFilledByOneLemmas.{IsFilledByOne-honoured, IsFilledByOne-gave_up}
-use Rattle.board_face.proofs.OwnBufferLemmas.{LieInOwn-nic}
-use Rattle.board_face.proofs.AreShownLemmas.{AreShown-honoured, AreShown-gave_up}
-use Rattle.board_parts.specs.Free.{listed_in}
-use Rattle.board_parts.specs.Counts.{user_at}
-use Rattle.plain_board.specs.Stand.{Stand, byte_of}
-use Rattle.plain_board.specs.Returns.{AreReturns, is_some_of, returns, names, abandoned_in}
-use Rattle.plain_board.specs.Sound.{IsSound, refills_of}
-use Rattle.plain_board.proofs.Lists.{same-or-other, same-user}
-use Rattle.plain_board.proofs.Card.{IsSet-nic, none-lowered}
-use Rattle.plain_board.proofs.Freeing.{and-right, cache_after, listed_after, places-after, cache-grows, cache-short, length-listed_after}
-use Rattle.plain_board.proofs.Shutting.{used-nowhere}
-use Rattle.board_face.proofs.SideLemmas.{IsApp-at}
-use Rattle.plain_board.proofs.Popping.{same-app, other-number, ring_then, AreRelayed-popped, AreBooked-popped}
-use Rattle.plain_board.proofs.Dealing.{HasFront, HasFront-relayed, AreReturns-dealt, AreReturns-other, ArePhased-dealt}
+use Rattle.board_face.proofs.{Parts.{returned_in-count, loans_in, owed_count, count-tally, user_count-own, owed-count}, Tallies.{weight}}
+use Rattle.board_face.proofs.{FillingsFitLemmas.{FillingsFit-nic}, IsFilledByOneLemmas.{IsFilledByOne-honoured, IsFilledByOne-gave_up}, OwnBufferLemmas.{LieInOwn-nic}}
+use Rattle.board_face.proofs.{AreShownLemmas.{AreShown-honoured, AreShown-gave_up}, SideLemmas.{IsApp-at}}
 use Rattle.board_face.proofs.Counting.{weight-same, weight-other, weight-none, count-first, once-freed}
-use Rattle.zr_kinds.proofs.Lists.{counts-set}
-use Rattle.zr_kinds.proofs.Booleans.{and-true}
-use Rattle.plain_board.proofs.AppFrames.{pools}
+use Rattle.board_parts.specs.{Free.{listed_in}, Counts.{user_at}}
+use Rattle.plain_board.specs.{Stand.{Stand, byte_of}, Returns.{AreReturns, is_some_of, returns, names, abandoned_in}, Sound.{IsSound, refills_of}}
+use Rattle.plain_board.proofs.{Lists.{same-or-other, same-user}, Card.{IsSet-nic, none-lowered}}
+use Rattle.plain_board.proofs.{Freeing.{and-right, cache_after, listed_after, places-after, cache-grows, cache-short, length-listed_after}, Shutting.{used-nowhere}}
+use Rattle.plain_board.proofs.Popping.{same-app, other-number, ring_then, AreRelayed-popped, AreBooked-popped}
+use Rattle.plain_board.proofs.{Dealing.{HasFront, HasFront-relayed, AreReturns-dealt, AreReturns-other, ArePhased-dealt}, AppFrames.{pools}}
 
 -- the entry gave its reference back, which was the last of its buffer, or not
 abbrev pub honoured_if : NicView → ℕ → Rqe → ℕ → Bool → NicView

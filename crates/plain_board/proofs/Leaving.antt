@@ -1,17 +1,9 @@
 -- An application leaves, of which no token is out.
-use Rattle.std.proofs.Common.{ℕ, true, set, refl, ◌∙◌, arith}
-use Rattle.std.proofs.lemmas.List.{length-set}
-use Rattle.board_face.specs.Sides.{IsApp, app_at}
-use Rattle.board_face.specs.AppCalls.{CanLeave}
-use Rattle.board_face.specs.AppEvents.{left_board}
-use Rattle.board_face.specs.declared.views.app.AppSide.{AppSide}
-use Rattle.board_face.proofs.AppLemmas.{SameHoldings, app_count-same, user_part-same}
-use Rattle.board_face.proofs.RelayLemmas.{Relayed-app}
-use Rattle.board_face.proofs.IsFilledByOneLemmas.{IsFilledByOne-same}
-use Rattle.board_face.proofs.FillingsFitLemmas.{FillingsFit-same}
-use Rattle.board_face.proofs.AreShownLemmas.{AreShown-same}
-use Rattle.plain_board.specs.Stand.{Stand, byte_of}
-use Rattle.plain_board.specs.Sound.{IsSound}
+use Rattle.std.proofs.{Common.{ℕ, true, set, refl, ◌∙◌, arith}, lemmas.List.{length-set}}
+use Rattle.board_face.specs.{Sides.{IsApp, app_at}, AppCalls.{CanLeave}, AppEvents.{left_board}, declared.views.app.AppSide.{AppSide}}
+use Rattle.board_face.proofs.{AppLemmas.{SameHoldings, app_count-same, user_part-same}, RelayLemmas.{Relayed-app}, IsFilledByOneLemmas.{IsFilledByOne-same}}
+use Rattle.board_face.proofs.{FillingsFitLemmas.{FillingsFit-same}, AreShownLemmas.{AreShown-same}}
+use Rattle.plain_board.specs.{Stand.{Stand, byte_of}, Sound.{IsSound}}
 use Rattle.plain_board.proofs.AppFrames.{IsSet-app, was-at_rest, AreCounted-app, was-returned, AreRelayed-kept, was-relayed, returns-app, was-returns}
 use Rattle.plain_board.proofs.AppFrames.{AreFlags-app, AreFreeOnce-app, AreKept-app, AreDue-app, was-given, was-due, AreBooked-kept}
 use Rattle.plain_board.proofs.AppFrames.{ArePhased-app, was-phased, OwnBuffers-kept}

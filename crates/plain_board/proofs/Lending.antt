@@ -1,26 +1,13 @@
 -- A held piece is lent: its reference is the loan's from then on.
-use Rattle.std.proofs.Common.{◌≡◌, ℕ, ◌+◌, ◌<◌, [], ◌∷◌, ◌++◌, set, get_or, refl, ap, arith}
-use Rattle.std.specs.Prelude.{◌==◌, ◌&&◌}
-use Rattle.std.proofs.lemmas.Bool.{eq-eqb}
+use Rattle.std.{proofs.{Common.{◌≡◌, ℕ, ◌+◌, ◌<◌, [], ◌∷◌, ◌++◌, set, get_or, refl, ap, arith}, lemmas.Bool.{eq-eqb}}, specs.Prelude.{◌==◌, ◌&&◌}}
 use Rattle.zr_kinds.specs.declared.place.Place.{Place}
 use Rattle.area_layout.specs.Layout.{total}
-use Rattle.board_face.specs.Sides.{IsApp, app_at}
-use Rattle.board_face.specs.AppEvents.{lent, held_origin, helds_without}
-use Rattle.board_face.specs.AppCalls.{HasHeld, CanLend}
-use Rattle.board_face.specs.declared.views.app.LentPiece.{LentPiece}
-use Rattle.board_face.specs.declared.views.app.AppSide.{AppSide}
-use Rattle.board_face.proofs.Tallies.{weight, tally-push}
-use Rattle.board_face.proofs.Parts.{count-tally}
-use Rattle.board_face.proofs.AppLemmas.{app_count-lent, user_part-lent}
-use Rattle.board_face.proofs.IsFilledByOneLemmas.{IsFilledByOne-lent}
-use Rattle.board_face.proofs.OwnBufferLemmas.{AppLiesInOwn-lent}
-use Rattle.board_face.proofs.FillingsFitLemmas.{FillingsFit-same}
-use Rattle.board_face.proofs.AreShownLemmas.{AreShown-lent}
+use Rattle.board_face.specs.{Sides.{IsApp, app_at}, AppEvents.{lent, held_origin, helds_without}, AppCalls.{HasHeld, CanLend}, declared.views.app.LentPiece.{LentPiece}}
+use Rattle.board_face.{specs.declared.views.app.AppSide.{AppSide}, proofs.{Tallies.{weight, tally-push}, Parts.{count-tally}}}
+use Rattle.board_face.proofs.{AppLemmas.{app_count-lent, user_part-lent}, IsFilledByOneLemmas.{IsFilledByOne-lent}, OwnBufferLemmas.{AppLiesInOwn-lent}}
+use Rattle.board_face.proofs.{FillingsFitLemmas.{FillingsFit-same}, AreShownLemmas.{AreShown-lent}}
 use Rattle.board_parts.specs.Counts.{user_at}
-use Rattle.plain_board.specs.Stand.{Stand, byte_of}
-use Rattle.plain_board.specs.Sound.{IsSound}
-use Rattle.plain_board.proofs.AppFrames.{was-booked_filled, was-own}
-use Rattle.plain_board.proofs.TokensLie.{held-lies}
+use Rattle.plain_board.{specs.{Stand.{Stand, byte_of}, Sound.{IsSound}}, proofs.{AppFrames.{was-booked_filled, was-own}, TokensLie.{held-lies}}}
 use Rattle.plain_board.proofs.OnLoan.{IsSound-on_loan}
 
 pub held-within : (board : Stand) (a : ℕ) (x : AppSide) (place : Place) (sound : IsSound board) (here : IsApp board.apps a x) (out : HasHeld x.view place)

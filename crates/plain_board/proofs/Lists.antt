@@ -1,10 +1,6 @@
 -- Lists of counts, and the cache.
-use Rattle.std.proofs.Common.{◌≡◌, ℕ, zero, suc, ◌+◌, ◌-◌, ◌*◌, ◌<◌, List, [], ◌∷◌, ◌++◌}
-use Rattle.std.proofs.Common.{length, take, set, get_or, ap, sym, ◌∙◌, arith, inl, inr, ⊎_elim, subst, Some}
-use Rattle.std.specs.Prelude.{◌≢◌, ◌⊎◌, ◌/◌, ◌==◌, slice_get}
-use Rattle.std.proofs.lemmas.List.{get_or-set_same, get_or-set_other}
-use Rattle.std.proofs.lemmas.Nat.{div-mul-add}
-use Rattle.std.proofs.lemmas.Bool.Decides.{eqb_tells}
+use Rattle.std.proofs.Common.{◌≡◌, ℕ, zero, suc, ◌+◌, ◌-◌, ◌*◌, ◌<◌, List, [], ◌∷◌, ◌++◌, length, take, set, get_or, ap, sym, ◌∙◌, arith, inl, inr, ⊎_elim, subst, Some}
+use Rattle.std.{specs.Prelude.{◌≢◌, ◌⊎◌, ◌/◌, ◌==◌, slice_get}, proofs.lemmas.{List.{get_or-set_same, get_or-set_other}, Nat.{div-mul-add}, Bool.Decides.{eqb_tells}}}
 use Rattle.circular_buffer.specs.Buffer.{last_item}
 use Rattle.board_face.proofs.Tallies.{weight}
 

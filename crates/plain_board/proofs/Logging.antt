@@ -1,40 +1,16 @@
 -- What a call of a face changes of a board's sides, and that the log goes on to tell of them.
 use Rattle.std.proofs.Common.{◌≡◌, ℕ, ◌^◌, ◌<◌, Bool, true, false, List, [], length, map, set, refl, ap, sym, ◌∙◌, arith}
-use Rattle.std.specs.Prelude.{MatchBool, MatchResult, Result, Ok, Err}
-use Rattle.std.proofs.lemmas.List.{length-set}
-use Rattle.run_records.specs.declared.event.Event.{Event}
-use Rattle.run_records.specs.LegalRun.{HasSmallNumbers}
-use Rattle.run_records.specs.Setting.{total_buffers}
+use Rattle.std.{specs.Prelude.{MatchBool, MatchResult, Result, Ok, Err}, proofs.lemmas.List.{length-set}}
+use Rattle.run_records.specs.{declared.event.Event.{Event}, LegalRun.{HasSmallNumbers}, Setting.{total_buffers}}
 use Rattle.area_layout.specs.Layout.{total as all_buffers}
-use Rattle.board_face.specs.Blank.{blank_app}
-use Rattle.board_face.specs.Laws.{AllSides, Scrubs, by_card, pool_of, scrubbed_by}
-use Rattle.board_face.specs.NicCalls.{DealtWith}
-use Rattle.board_face.specs.NicEvents.{nic_saw}
-use Rattle.board_face.specs.Opened.{new_nic}
-use Rattle.board_face.specs.declared.answers.Entry.{Entry}
-use Rattle.board_face.specs.declared.answers.Entry.TheVariants.{Freed, Honoured, Stray, Empty}
-use Rattle.board_face.specs.declared.views.nic.NicLook.TheVariants.{RingEmpty}
-use Rattle.board_face.specs.Sides.{IsApp, app_at, nic_at}
-use Rattle.board_face.specs.declared.views.nic.NicView.{NicView}
-use Rattle.board_face.specs.declared.views.nic.NicSide.{NicSide}
-use Rattle.board_face.specs.declared.views.app.AppView.{AppView}
-use Rattle.board_face.specs.declared.views.app.AppSide.{AppSide}
-use Rattle.event_log.specs.Fills.{AreShort}
+use Rattle.board_face.specs.{Blank.{blank_app}, Laws.{AllSides, Scrubs, by_card, pool_of, scrubbed_by}, NicCalls.{DealtWith}, NicEvents.{nic_saw}, Opened.{new_nic}}
+use Rattle.board_face.specs.declared.{answers.Entry.{Entry, TheVariants.{Freed, Honoured, Stray, Empty}}, views.nic.NicLook.TheVariants.{RingEmpty}}
+use Rattle.board_face.specs.{Sides.{IsApp, app_at, nic_at}, declared.views.{nic.{NicView.{NicView}, NicSide.{NicSide}}, app.{AppView.{AppView}, AppSide.{AppSide}}}}
 use Rattle.board_face.proofs.CountLaws.{scrub_law}
-use Rattle.event_log.specs.IsLogged.{AreSound, KeepsLog, Logs, run_of}
-use Rattle.event_log.specs.Logs.{Kept, logged}
-use Rattle.event_log.specs.ScrubLaw.{scrub_logged, scrub_of, scrubbed_sides}
-use Rattle.event_log.proofs.OneSide.{one_side-law}
-use Rattle.event_log.proofs.Scrubs.{scrubbed-law}
-use Rattle.event_log.proofs.Settings.{total-same}
-use Rattle.event_log.proofs.ShortFills.{fills-law}
-use Rattle.event_log.proofs.SoundSides.{sound-law}
-use Rattle.plain_board.specs.Events.{IsNoReturn, TookOwed}
-use Rattle.plain_board.specs.Recorded.{IsRecorded}
-use Rattle.plain_board.specs.Stand.{Stand, setting_of, sides_of, side_of, others_of}
-use Rattle.plain_board.specs.Sound.{IsSound, taken_of, notes_of, refills_of}
-use Rattle.plain_board.proofs.AppFrames.{here-of}
-use Rattle.plain_board.proofs.Counting.{holders-few}
+use Rattle.event_log.specs.{Fills.{AreShort}, IsLogged.{AreSound, KeepsLog, Logs, run_of}, Logs.{Kept, logged}, ScrubLaw.{scrub_logged, scrub_of, scrubbed_sides}}
+use Rattle.event_log.proofs.{OneSide.{one_side-law}, Scrubs.{scrubbed-law}, Settings.{total-same}, ShortFills.{fills-law}, SoundSides.{sound-law}}
+use Rattle.plain_board.specs.{Events.{IsNoReturn, TookOwed}, Recorded.{IsRecorded}, Stand.{Stand, setting_of, sides_of, side_of, others_of}}
+use Rattle.plain_board.{specs.Sound.{IsSound, taken_of, notes_of, refills_of}, proofs.{AppFrames.{here-of}, Counting.{holders-few}}}
 
 -- what holds of a board's contents makes its sides sound
 pub sides-sound : (board : Stand) → IsSound board → AreSound (sides_of board)

@@ -1,15 +1,8 @@
 -- Buffers of swept words that are neither cached nor were taken are no more than the bytes of unsplit notes.
-use Rattle.std.proofs.Common.{◌≡◌, ℕ, ◌≤◌, length, map, take, ap, sym, ◌∙◌, arith}
-use Rattle.std.proofs.lemmas.List.{take-append-le}
-use Rattle.std.proofs.Math.Seq.{take-length}
-use Rattle.board_face.specs.NicCalls.{lost_of, sent_unsplit_bytes}
-use Rattle.board_face.specs.Sides.{IsApp}
-use Rattle.board_face.specs.Holders.{sent_to}
-use Rattle.board_face.specs.Relay.{as_taken}
-use Rattle.board_face.specs.declared.views.app.AppSide.{AppSide}
+use Rattle.std.proofs.{Common.{◌≡◌, ℕ, ◌≤◌, length, map, take, ap, sym, ◌∙◌, arith}, lemmas.List.{take-append-le}, Math.Seq.{take-length}}
+use Rattle.board_face.specs.{NicCalls.{lost_of, sent_unsplit_bytes}, Sides.{IsApp}, Holders.{sent_to}, Relay.{as_taken}, declared.views.app.AppSide.{AppSide}}
 use Rattle.board_face.proofs.Losing.{lost-bound as few-lost}
-use Rattle.plain_board.specs.Stand.{Stand}
-use Rattle.plain_board.specs.Sound.{IsSound}
+use Rattle.plain_board.specs.{Stand.{Stand}, Sound.{IsSound}}
 
 module _ (board : Stand) (sound : IsSound board) where
   taken-first : (a : ℕ) (app : AppSide) → IsApp board.apps a app

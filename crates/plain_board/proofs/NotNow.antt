@@ -1,36 +1,16 @@
 -- What an answer 'not now' implies of the role's own view, by what was seen.
 use Rattle.std.proofs.Common.{◌≡◌, ℕ, ◌<◌, ◌≤◌, Bool, true, false, List, [], ◌∷◌, length, drop, get_or, refl, ap, sym, ◌∙◌, arith, ⊎_elim, length-drop, zero, suc}
-use Rattle.std.proofs.lemmas.List.{length-map}
-use Rattle.std.specs.Prelude.{◌+◌, ◌==◌}
+use Rattle.std.{proofs.lemmas.List.{length-map}, specs.Prelude.{◌+◌, ◌==◌}}
 use Rattle.circular_buffer.specs.Buffer.{buffer}
 use Rattle.area_layout.specs.Layout.{pool_buffers, total}
-use Rattle.board_face.specs.Sides.{IsApp, side_in}
-use Rattle.board_face.specs.NotNow.{HasSentRingful, HasWrittenRingful, HasWritten, HasPushedRaw, HasUsedReserve}
-use Rattle.board_face.specs.Returns.{is_raw}
-use Rattle.board_face.specs.Holders.{sent_to}
-use Rattle.board_face.specs.Counts.{pool_count}
-use Rattle.board_face.specs.Relay.{dealt_entries}
-use Rattle.board_face.specs.AppEvents.{app_gist, reserve_of}
-use Rattle.board_face.specs.Blank.{blank_app}
-use Rattle.board_face.specs.declared.views.app.LentPiece.{LentPiece}
-use Rattle.board_face.specs.declared.views.app.AppSide.{AppSide}
-use Rattle.board_face.proofs.Tallies.{tally}
-use Rattle.board_face.proofs.Parts.{count-tally}
-use Rattle.board_face.proofs.SideLemmas.{IsApp-at}
+use Rattle.board_face.specs.{Sides.{IsApp, side_in}, NotNow.{HasSentRingful, HasWrittenRingful, HasWritten, HasPushedRaw, HasUsedReserve}, Returns.{is_raw}}
+use Rattle.board_face.specs.{Holders.{sent_to}, Counts.{pool_count}, Relay.{dealt_entries}, AppEvents.{app_gist, reserve_of}, Blank.{blank_app}}
+use Rattle.board_face.{specs.declared.views.app.{LentPiece.{LentPiece}, AppSide.{AppSide}}, proofs.{Tallies.{tally}, Parts.{count-tally}, SideLemmas.{IsApp-at}}}
 use Rattle.board_face.proofs.RelayLemmas.{way-taken}
-use Rattle.board_parts.specs.Rings.{ring_in}
-use Rattle.board_parts.specs.Free.{IsPicked}
-use Rattle.plain_board.specs.Stand.{Stand, others_of}
-use Rattle.plain_board.specs.Sound.{IsSound, notes_of, refills_of}
-use Rattle.plain_board.specs.Returns.{entries_on_way}
-use Rattle.plain_board.specs.Seen.{IsFoundLowest}
-use Rattle.plain_board.proofs.AppFrames.{has-setting, was-phased, was-relayed}
-use Rattle.plain_board.proofs.Reserves.{own-users, reserve-own}
-use Rattle.plain_board.proofs.OwnSide.{unlisted-cached, listed-free}
-use Rattle.plain_board.proofs.Sparing.{is_unheld}
-use Rattle.plain_board.proofs.Settling.{reach-some, is-some}
-use Rattle.plain_board.proofs.Quieting.{entries-many}
-use Rattle.plain_board.proofs.Writing.{way-many}
+use Rattle.board_parts.specs.{Rings.{ring_in}, Free.{IsPicked}}
+use Rattle.plain_board.specs.{Stand.{Stand, others_of}, Sound.{IsSound, notes_of, refills_of}, Returns.{entries_on_way}, Seen.{IsFoundLowest}}
+use Rattle.plain_board.proofs.{AppFrames.{has-setting, was-phased, was-relayed}, Reserves.{own-users, reserve-own}, OwnSide.{unlisted-cached, listed-free}}
+use Rattle.plain_board.proofs.{Sparing.{is_unheld}, Settling.{reach-some, is-some}, Quieting.{entries-many}, Writing.{way-many}}
 
 -- ---- refill entries: those on their way were written
 

@@ -1,41 +1,18 @@
 -- A note is sent.
-use Rattle.std.proofs.Common.{◌≡◌, ℕ, ◌<◌, ◌≤◌, Bool, true, false, List, [], ◌∷◌, ◌++◌, length, map, take, set, get_or, refl, ap}
-use Rattle.std.proofs.Common.{sym, ◌∙◌, subst, arith, ⊎_elim}
-use Rattle.std.specs.Prelude.{◌≢◌, ◌==◌, if◌then◌else◌, Contains}
-use Rattle.std.proofs.lemmas.Bool.{false≢true}
-use Rattle.std.proofs.lemmas.List.{map-append, length-set, get_or-set_same, get_or-set_other}
-use Rattle.std.proofs.lemmas.List.Elements.{All-set, All-push}
-use Rattle.std.proofs.lemmas.Bool.Decides.{eqb_tells}
+use Rattle.std.proofs.Common.{◌≡◌, ℕ, ◌<◌, ◌≤◌, Bool, true, false, List, [], ◌∷◌, ◌++◌, length, map, take, set, get_or, refl, ap, sym, ◌∙◌, subst, arith, ⊎_elim}
+use Rattle.std.{specs.Prelude.{◌≢◌, ◌==◌, if◌then◌else◌, Contains}, proofs.lemmas.{Bool.{false≢true}, List.{map-append, length-set, get_or-set_same, get_or-set_other}}}
+use Rattle.std.proofs.lemmas.{List.Elements.{All-set, All-push}, Bool.Decides.{eqb_tells}}
 use Rattle.circular_buffer.specs.Buffer.{Buffer, buffer}
 use Rattle.zr_kinds.specs.declared.place.Note.{Note}
-use Rattle.board_face.specs.NicEvents.{sent, sent_linear, text_at}
-use Rattle.board_face.specs.NicCalls.{IsOpen, HasPiece}
-use Rattle.board_face.specs.Texts.{IsSplitNote, IsLinearNote}
-use Rattle.board_face.specs.Fillings.{IsFilledByOne}
-use Rattle.board_face.specs.OwnBuffers.{LieInOwn}
-use Rattle.board_face.specs.Shown.{AreShown}
-use Rattle.board_face.specs.Holders.{sent_to}
-use Rattle.board_face.proofs.NicLemmas.{pool_count-sent, pool_count-sent_linear}
-use Rattle.board_face.specs.Sides.{nic_at, IsApp}
-use Rattle.board_face.specs.Counts.{pool_count}
-use Rattle.board_face.specs.Relay.{Relayed, as_taken}
-use Rattle.board_face.specs.declared.views.nic.SentNote.{SentNote}
-use Rattle.board_face.specs.declared.views.nic.NicView.{NicView}
-use Rattle.board_face.specs.declared.views.app.AppSide.{AppSide}
-use Rattle.board_face.proofs.FreeLemmas.{free_places-nic}
-use Rattle.board_face.proofs.FillingsFitLemmas.{FillingsFit-nic}
-use Rattle.board_face.proofs.IsFilledByOneLemmas.{IsFilledByOne-sent, IsFilledByOne-sent_linear}
-use Rattle.board_face.proofs.OwnBufferLemmas.{LieInOwn-sent, LieInOwn-sent_linear}
-use Rattle.board_face.proofs.AreShownLemmas.{AreShown-sent, AreShown-sent_linear}
-use Rattle.board_face.proofs.RelayLemmas.{taken-within, Relayed-sent, Relayed-sent_other}
-use Rattle.board_parts.specs.declared.slots.NoteSlot.{NoteSlot}
-use Rattle.board_parts.specs.Free.{listed_in}
-use Rattle.plain_board.specs.Stand.{Arrays, Stand, byte_of}
-use Rattle.board_parts.specs.Rings.{pushed}
-use Rattle.plain_board.specs.Sound.{IsSound, IsRing, AreRelayed, IsProper, refills_of, notes_of, taken_of}
-use Rattle.plain_board.proofs.RingSlots.{IsRing-pushed}
-use Rattle.board_face.proofs.SideLemmas.{IsApp-at}
-use Rattle.plain_board.proofs.Card.{IsSet-nic, AreCounted-same, AreReturns-nic, AreBooked-nic, ArePhased-open}
+use Rattle.board_face.specs.{NicEvents.{sent, sent_linear, text_at}, NicCalls.{IsOpen, HasPiece}, Texts.{IsSplitNote, IsLinearNote}, Fillings.{IsFilledByOne}}
+use Rattle.board_face.{specs.{OwnBuffers.{LieInOwn}, Shown.{AreShown}, Holders.{sent_to}}, proofs.NicLemmas.{pool_count-sent, pool_count-sent_linear}}
+use Rattle.board_face.specs.{Sides.{nic_at, IsApp}, Counts.{pool_count}, Relay.{Relayed, as_taken}, declared.views.nic.{SentNote.{SentNote}, NicView.{NicView}}}
+use Rattle.board_face.{specs.declared.views.app.AppSide.{AppSide}, proofs.{FreeLemmas.{free_places-nic}, FillingsFitLemmas.{FillingsFit-nic}}}
+use Rattle.board_face.proofs.{IsFilledByOneLemmas.{IsFilledByOne-sent, IsFilledByOne-sent_linear}, OwnBufferLemmas.{LieInOwn-sent, LieInOwn-sent_linear}}
+use Rattle.board_face.proofs.{AreShownLemmas.{AreShown-sent, AreShown-sent_linear}, RelayLemmas.{taken-within, Relayed-sent, Relayed-sent_other}, SideLemmas.{IsApp-at}}
+use Rattle.board_parts.specs.{declared.slots.NoteSlot.{NoteSlot}, Free.{listed_in}, Rings.{pushed}}
+use Rattle.plain_board.specs.{Stand.{Arrays, Stand, byte_of}, Sound.{IsSound, IsRing, AreRelayed, IsProper, refills_of, notes_of, taken_of}}
+use Rattle.plain_board.proofs.{RingSlots.{IsRing-pushed}, Card.{IsSet-nic, AreCounted-same, AreReturns-nic, AreBooked-nic, ArePhased-open}}
 use Rattle.plain_board.proofs.Popping.{same-app, other-number}
 
 -- no more changed than what was sent, and the pieces

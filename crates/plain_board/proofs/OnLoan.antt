@@ -1,33 +1,17 @@
 -- What was held or filled is on loan: one user more, and no holder more or less.
-use Rattle.std.proofs.Common.{◌≡◌, ℕ, ◌+◌, ◌<◌, ◌^◌, true, false, List, length, set, get_or, refl, sym, ◌∙◌, arith}
-use Rattle.std.proofs.Common.{inl}
-use Rattle.std.specs.Prelude.{◌==◌, All}
+use Rattle.std.{proofs.Common.{◌≡◌, ℕ, ◌+◌, ◌<◌, ◌^◌, true, false, List, length, set, get_or, refl, sym, ◌∙◌, arith, inl}, specs.Prelude.{◌==◌, All}}
 use Rattle.std.proofs.lemmas.List.{length-set}
 use Rattle.area_layout.specs.Layout.{total}
-use Rattle.board_face.specs.Sides.{IsApp, app_at}
-use Rattle.board_face.specs.AppCalls.{CanLend}
-use Rattle.board_face.specs.Fillings.{FillingsFit, IsFilledByOne}
-use Rattle.board_face.specs.OwnBuffers.{AppLiesInOwn}
-use Rattle.board_face.specs.Shown.{AreShown}
-use Rattle.board_face.specs.declared.views.app.HeldPiece.{HeldPiece}
-use Rattle.board_face.specs.declared.views.app.LentPiece.{LentPiece}
-use Rattle.board_face.specs.declared.views.app.SpareOwn.{SpareOwn}
-use Rattle.board_face.specs.declared.views.app.AppSide.{AppSide}
-use Rattle.board_face.proofs.Tallies.{weight}
-use Rattle.board_face.proofs.Parts.{app_count, user_part, count-tally}
-use Rattle.board_face.proofs.FreeLemmas.{user_count-le}
-use Rattle.board_face.proofs.RelayLemmas.{Relayed-app}
+use Rattle.board_face.specs.{Sides.{IsApp, app_at}, AppCalls.{CanLend}, Fillings.{FillingsFit, IsFilledByOne}, OwnBuffers.{AppLiesInOwn}, Shown.{AreShown}}
+use Rattle.board_face.{specs.declared.views.app.{HeldPiece.{HeldPiece}, LentPiece.{LentPiece}, SpareOwn.{SpareOwn}, AppSide.{AppSide}}, proofs.Tallies.{weight}}
+use Rattle.board_face.proofs.{Parts.{app_count, user_part, count-tally}, FreeLemmas.{user_count-le}, RelayLemmas.{Relayed-app}}
 use Rattle.board_parts.specs.Counts.{user_at}
-use Rattle.plain_board.specs.Stand.{Arrays, Stand, byte_of}
-use Rattle.plain_board.specs.Returns.{loans_out, IsClear, entries_on_way}
-use Rattle.plain_board.specs.Sound.{IsSound}
+use Rattle.plain_board.specs.{Stand.{Arrays, Stand, byte_of}, Returns.{loans_out, IsClear, entries_on_way}, Sound.{IsSound}}
 use Rattle.plain_board.proofs.AppFrames.{IsSet-app, was-at_rest, AreCounted-app, was-returned, AreRelayed-kept, was-relayed, returns-app, was-returns}
 use Rattle.plain_board.proofs.AppFrames.{AreFlags-kept, AreFreeOnce-app, AreKept-app, AreDue-app, was-given, was-due, AreBooked-app, was-booked_loans}
-use Rattle.plain_board.proofs.AppFrames.{was-booked_raw, ArePhased-app, was-phased, OwnBuffers-app}
-use Rattle.plain_board.proofs.Users.{loans-there, users-there, user-other, user-raised}
+use Rattle.plain_board.proofs.{AppFrames.{was-booked_raw, ArePhased-app, was-phased, OwnBuffers-app}, Users.{loans-there, users-there, user-other, user-raised}}
+use Rattle.plain_board.proofs.{TokensLie.{part-le}, Counting.{holders-few}}
 pub use Rattle.board_face.proofs.ReturnLemmas.{IsClear-of_loans}
-use Rattle.plain_board.proofs.TokensLie.{part-le}
-use Rattle.plain_board.proofs.Counting.{holders-few}
 
 module _ (board : Stand) (a : ℕ) (x : AppSide) (buffer : ℕ) (sound : IsSound board) (here : IsApp board.apps a x)
     (within : buffer < total board.arrays.layout) where

@@ -1,34 +1,16 @@
 -- A board that was just opened.
 use Rattle.std.proofs.Common.{◌≡◌, ℕ, zero, suc, ◌*◌, ◌<◌, ◌≤◌, true, false, List, [], ◌∷◌, length, map, get_or, replicate}
-use Rattle.std.proofs.Common.{refl, ap, sym, ◌∙◌, subst, arith, length-drop}
-use Rattle.std.specs.Prelude.{◌==◌, All}
-use Rattle.std.proofs.lemmas.Bool.{false≢true}
-use Rattle.std.proofs.lemmas.List.{length-replicate, get_or-replicate}
-use Rattle.std.proofs.Math.ListN.{get_or-eq_default}
-use Rattle.std.proofs.lemmas.List.Elements.{All-nil, All-replicate}
+use Rattle.std.{proofs.{Common.{refl, ap, sym, ◌∙◌, subst, arith, length-drop}, lemmas.Bool.{false≢true}}, specs.Prelude.{◌==◌, All}}
+use Rattle.std.proofs.{lemmas.List.{length-replicate, get_or-replicate, Elements.{All-nil, All-replicate}}, Math.ListN.{get_or-eq_default}}
 use Rattle.circular_buffer.specs.Buffer.{Buffer, buffer}
 use Rattle.area_layout.specs.Layout.{Shape, IsLayout, pool_buffers, total, begin_of}
-use Rattle.board_face.specs.Opened.{new_nic, new_app}
-use Rattle.board_face.specs.Sides.{IsApp}
-use Rattle.board_face.specs.Holders.{ended_in}
-use Rattle.zr_kinds.specs.declared.place.Place.{Place}
-use Rattle.board_face.specs.Counts.{EndedWereReturned}
-use Rattle.board_face.specs.Relay.{Relayed}
-use Rattle.board_face.specs.OwnBuffers.{AppLiesInOwn}
-use Rattle.board_face.specs.Judged.{IsHonouredAsNamed}
-use Rattle.board_face.specs.Used.{HasFewPicks, PicksAreGiven}
-use Rattle.board_face.specs.declared.views.parts.Setting.{Setting}
-use Rattle.board_face.specs.declared.views.app.AppSide.{AppSide}
-use Rattle.board_face.proofs.Tallies.{weight}
-use Rattle.board_face.proofs.OpenedLemmas.{length-new_apps, numbered-new_apps, All-new, hands-new, count-new, users-new}
+use Rattle.board_face.specs.{Opened.{new_nic, new_app}, Sides.{IsApp}, Holders.{ended_in}, Counts.{EndedWereReturned}, Relay.{Relayed}, OwnBuffers.{AppLiesInOwn}}
+use Rattle.board_face.specs.{Judged.{IsHonouredAsNamed}, Used.{HasFewPicks, PicksAreGiven}, declared.views.{parts.Setting.{Setting}, app.AppSide.{AppSide}}}
+use Rattle.board_face.proofs.{Tallies.{weight}, OpenedLemmas.{length-new_apps, numbered-new_apps, All-new, hands-new, count-new, users-new}}
 use Rattle.board_face.proofs.OpenedLemmas.{all-alike, IsNew, FillingsFit-opened, IsFilledByOne-opened, AreShown-opened}
-use Rattle.zr_kinds.specs.declared.ring.Rqe.{Rqe}
-use Rattle.board_parts.specs.declared.slots.NoteSlot.{NoteSlot}
-use Rattle.plain_board.specs.Returns.{AreReturns, entries_on_way, loans_out, reach_of}
-use Rattle.board_parts.specs.Opened.{new_apps}
-use Rattle.board_parts.specs.Free.{listed_in}
-use Rattle.board_parts.specs.Counts.{user_at}
-use Rattle.plain_board.specs.Stand.{Stand, new_stand, byte_of}
+use Rattle.zr_kinds.specs.declared.{place.Place.{Place}, ring.Rqe.{Rqe}}
+use Rattle.board_parts.specs.{declared.slots.NoteSlot.{NoteSlot}, Opened.{new_apps}, Free.{listed_in}, Counts.{user_at}}
+use Rattle.plain_board.specs.{Returns.{AreReturns, entries_on_way, loans_out, reach_of}, Stand.{Stand, new_stand, byte_of}}
 use Rattle.plain_board.specs.Sound.{IsRing, IsSound, IsAtRest, IsProper, IsPhased}
 
 left-new : (s : Setting) (first n : ℕ) → replicate n false ≡ map (λ app. app.view.left) (new_apps s first n)

@@ -1,32 +1,14 @@
 -- A filled spare is lent: its reference is the loan's from then on, and its text the loan's.
-use Rattle.std.proofs.Common.{◌≡◌, ℕ, zero, suc, ◌+◌, ◌<◌, Bool, true, false, cond, List, [], ◌∷◌, ◌++◌, length, map, set, get_or}
-use Rattle.std.proofs.Common.{refl, ap, sym, ◌∙◌, arith}
-use Rattle.std.specs.Prelude.{◌==◌, ◌&&◌, All, Contains}
-use Rattle.std.proofs.lemmas.Bool.{eq-eqb, false≢true}
-use Rattle.std.proofs.lemmas.List.Elements.{All-head, All-tail}
-use Rattle.board_face.specs.Lists.{at_first}
-use Rattle.board_face.specs.Tokens.{same_filling}
-use Rattle.board_face.specs.Sides.{IsApp, app_at}
-use Rattle.board_face.specs.AppEvents.{lent_own, own_bytes, owns_without, begin_place}
-use Rattle.board_face.specs.AppCalls.{HasSpare, CanLend, IsFilled}
-use Rattle.board_face.specs.declared.views.parts.Filling.{Filling}
-use Rattle.board_face.specs.declared.views.app.Origin.TheVariants.{Copied as of_copy}
-use Rattle.board_face.specs.declared.views.app.LentPiece.{LentPiece}
-use Rattle.board_face.specs.declared.views.app.SpareOwn.{SpareOwn}
-use Rattle.board_face.specs.declared.views.app.AppSide.{AppSide}
-use Rattle.board_face.proofs.ListLemmas.{All-without, same_filling-is, same_filling-refl}
-use Rattle.board_face.proofs.Tallies.{weight, tally-push}
-use Rattle.board_face.proofs.Parts.{count-tally}
-use Rattle.board_face.proofs.AppLemmas.{app_count-lent_own, user_part-lent_own}
-use Rattle.board_face.proofs.IsFilledByOneLemmas.{IsFilledByOne-lent_own}
-use Rattle.board_face.proofs.OwnBufferLemmas.{AppLiesInOwn-lent_own}
-use Rattle.board_face.proofs.FillingsFitLemmas.{FillingsFit-lent_own}
-use Rattle.board_face.proofs.AreShownLemmas.{AreShown-lent_own}
+use Rattle.std.proofs.Common.{◌≡◌, ℕ, zero, suc, ◌+◌, ◌<◌, Bool, true, false, cond, List, [], ◌∷◌, ◌++◌, length, map, set, get_or, refl, ap, sym, ◌∙◌, arith}
+use Rattle.std.{specs.Prelude.{◌==◌, ◌&&◌, All, Contains}, proofs.lemmas.{Bool.{eq-eqb, false≢true}, List.Elements.{All-head, All-tail}}}
+use Rattle.board_face.specs.{Lists.{at_first}, Tokens.{same_filling}, Sides.{IsApp, app_at}, AppEvents.{lent_own, own_bytes, owns_without, begin_place}}
+use Rattle.board_face.specs.{AppCalls.{HasSpare, CanLend, IsFilled}, declared.views.{parts.Filling.{Filling}, app.Origin.TheVariants.{Copied as of_copy}}}
+use Rattle.board_face.specs.declared.views.app.{LentPiece.{LentPiece}, SpareOwn.{SpareOwn}, AppSide.{AppSide}}
+use Rattle.board_face.proofs.{ListLemmas.{All-without, same_filling-is, same_filling-refl}, Tallies.{weight, tally-push}, Parts.{count-tally}}
+use Rattle.board_face.proofs.{AppLemmas.{app_count-lent_own, user_part-lent_own}, IsFilledByOneLemmas.{IsFilledByOne-lent_own}, OwnBufferLemmas.{AppLiesInOwn-lent_own}}
+use Rattle.board_face.proofs.{FillingsFitLemmas.{FillingsFit-lent_own}, AreShownLemmas.{AreShown-lent_own}}
 use Rattle.board_parts.specs.Counts.{user_at}
-use Rattle.plain_board.specs.Stand.{Stand, byte_of}
-use Rattle.plain_board.specs.Sound.{IsSound}
-use Rattle.plain_board.proofs.AppFrames.{was-booked_filled, was-own}
-use Rattle.plain_board.proofs.TokensLie.{spare-within}
+use Rattle.plain_board.{specs.{Stand.{Stand, byte_of}, Sound.{IsSound}}, proofs.{AppFrames.{was-booked_filled, was-own}, TokensLie.{spare-within}}}
 use Rattle.plain_board.proofs.OnLoan.{IsSound-on_loan}
 
 -- ---- how many bytes the spare has

@@ -1,26 +1,13 @@
 -- What an application knows of itself counts as its side does: before its scrub nothing was taken by one, and then it owes nothing.
-use Rattle.std.proofs.Common.{◌≡◌, ℕ, ◌+◌, ◌-◌, ◌<◌, ◌≤◌, Bool, true, false, List, [], ◌∷◌, set, refl, ap, sym, ◌∙◌, arith}
-use Rattle.std.proofs.Common.{length-drop}
-use Rattle.std.specs.Prelude.{◌==◌, nat_eq, count_by, if◌then◌else◌, All}
-use Rattle.std.specs.List.{flat_map}
-use Rattle.std.proofs.lemmas.List.{set-set}
-use Rattle.std.proofs.lemmas.List.Elements.{All-head, All-tail}
+use Rattle.std.proofs.Common.{◌≡◌, ℕ, ◌+◌, ◌-◌, ◌<◌, ◌≤◌, Bool, true, false, List, [], ◌∷◌, set, refl, ap, sym, ◌∙◌, arith, length-drop}
+use Rattle.std.{specs.{Prelude.{◌==◌, nat_eq, count_by, if◌then◌else◌, All}, List.{flat_map}}, proofs.lemmas.List.{set-set, Elements.{All-head, All-tail}}}
 use Rattle.area_layout.specs.Layout.{pool_buffers, total as all_buffers}
-use Rattle.board_face.specs.Sides.{IsApp}
-use Rattle.board_face.specs.Holders.{returning_in_hand, returned_in, ended_in}
-use Rattle.board_face.specs.Counts.{pool_count, user_count}
-use Rattle.board_face.specs.AppEvents.{app_gist}
-use Rattle.board_face.specs.declared.views.app.LentPiece.{LentPiece}
-use Rattle.board_face.specs.declared.views.app.AppSide.{AppSide}
-use Rattle.board_face.proofs.Tallies.{weight, tally, total, tally-flat}
-use Rattle.board_face.proofs.Parts.{app_count, user_part, loans_in, owed_count, returned_in-count, count-tally}
-use Rattle.board_face.proofs.AppLemmas.{pool_count-app, user_count-app}
-use Rattle.board_face.specs.Blank.{blank_app}
+use Rattle.board_face.specs.{Sides.{IsApp}, Holders.{returning_in_hand, returned_in, ended_in}, Counts.{pool_count, user_count}, AppEvents.{app_gist}}
+use Rattle.board_face.{specs.declared.views.app.{LentPiece.{LentPiece}, AppSide.{AppSide}}, proofs.Tallies.{weight, tally, total, tally-flat}}
+use Rattle.board_face.proofs.{Parts.{app_count, user_part, loans_in, owed_count, returned_in-count, count-tally}, AppLemmas.{pool_count-app, user_count-app}}
+use Rattle.board_face.{specs.Blank.{blank_app}, proofs.OpenedLemmas.{all-alike}}
 use Rattle.board_parts.specs.Free.{listed_in, HasNoneListed}
-use Rattle.board_face.proofs.OpenedLemmas.{all-alike}
-use Rattle.plain_board.specs.Stand.{Stand, others_of}
-use Rattle.plain_board.specs.Seen.{self_of, all_of, HasNothingListed}
-use Rattle.plain_board.specs.Sound.{IsSound, IsAtRest}
+use Rattle.plain_board.specs.{Stand.{Stand, others_of}, Seen.{self_of, all_of, HasNothingListed}, Sound.{IsSound, IsAtRest}}
 use Rattle.plain_board.proofs.AppFrames.{has-setting, was-at_rest, was-phased}
 
 -- applications at rest have no buffer in hand

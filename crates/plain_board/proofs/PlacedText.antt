@@ -1,33 +1,15 @@
 -- A text is placed: its buffer has one holder more, and the area has the text where the buffer's next bytes go.
-use Rattle.std.proofs.Common.{◌≡◌, ℕ, ◌+◌, ◌^◌, ◌<◌, ◌≤◌, List, length, set, get_or, refl, ap, sym, ◌∙◌, subst, arith, ⊎_elim}
-use Rattle.std.proofs.Common.{inl, inr}
-use Rattle.std.specs.Prelude.{◌⊎◌, ◌==◌, if◌then◌else◌}
-use Rattle.std.proofs.lemmas.List.{length-set}
-use Rattle.area_layout.specs.Layout.{pool_buffers, total, size_of, begin_of, LiesIn}
-use Rattle.area_layout.proofs.Words.{words_apart}
-use Rattle.board_face.specs.NicEvents.{placed}
-use Rattle.board_face.specs.NicCalls.{IsOpen, HasOwn}
-use Rattle.board_face.specs.Sides.{nic_at}
-use Rattle.board_face.specs.Counts.{pool_count}
-use Rattle.board_face.specs.FreeOnce.{free_places}
-use Rattle.board_face.specs.declared.views.parts.Filling.{Filling}
-use Rattle.board_face.proofs.Tallies.{weight}
-use Rattle.board_face.proofs.NicLemmas.{pool_count-placed}
-use Rattle.board_face.proofs.FreeLemmas.{free_places-nic}
-use Rattle.board_face.proofs.FewLemmas.{pool_count-few}
-use Rattle.board_face.proofs.FillingsFitLemmas.{FillingsFit-own, FillingsFit-placed}
-use Rattle.board_face.proofs.IsFilledByOneLemmas.{IsFilledByOne-placed}
-use Rattle.board_face.proofs.OwnBufferLemmas.{LieInOwn-placed}
-use Rattle.board_face.proofs.AreShownLemmas.{AreShown-placed}
-use Rattle.board_parts.specs.Area.{stored}
-use Rattle.board_parts.specs.Free.{listed_in}
-use Rattle.plain_board.specs.Stand.{Stand, byte_of}
-use Rattle.plain_board.specs.Sound.{IsSound}
-use Rattle.plain_board.proofs.Lists.{same-or-other}
-use Rattle.plain_board.proofs.Shutting.{of_pool, is_held, used-nowhere}
+use Rattle.std.proofs.Common.{◌≡◌, ℕ, ◌+◌, ◌^◌, ◌<◌, ◌≤◌, List, length, set, get_or, refl, ap, sym, ◌∙◌, subst, arith, ⊎_elim, inl, inr}
+use Rattle.std.{specs.Prelude.{◌⊎◌, ◌==◌, if◌then◌else◌}, proofs.lemmas.List.{length-set}}
+use Rattle.area_layout.{specs.Layout.{pool_buffers, total, size_of, begin_of, LiesIn}, proofs.Words.{words_apart}}
+use Rattle.board_face.specs.{NicEvents.{placed}, NicCalls.{IsOpen, HasOwn}, Sides.{nic_at}, Counts.{pool_count}, FreeOnce.{free_places}}
+use Rattle.board_face.{specs.declared.views.parts.Filling.{Filling}, proofs.{Tallies.{weight}, NicLemmas.{pool_count-placed}, FreeLemmas.{free_places-nic}}}
+use Rattle.board_face.proofs.{FewLemmas.{pool_count-few}, FillingsFitLemmas.{FillingsFit-own, FillingsFit-placed}, IsFilledByOneLemmas.{IsFilledByOne-placed}}
+use Rattle.board_face.proofs.{OwnBufferLemmas.{LieInOwn-placed}, AreShownLemmas.{AreShown-placed}, Counting.{weight-same, weight-other}}
+use Rattle.board_parts.specs.{Area.{stored}, Free.{listed_in}}
+use Rattle.plain_board.{specs.{Stand.{Stand, byte_of}, Sound.{IsSound}}, proofs.{Lists.{same-or-other}, Shutting.{of_pool, is_held, used-nowhere}}}
 use Rattle.plain_board.proofs.Card.{IsSet-nic, AreCounted-nic, AreRelayed-nic, AreReturns-nic, AreBooked-nic, ArePhased-open}
 use Rattle.plain_board.proofs.Storing.{in_area as stored-in_area, length-stored, stored_then, byte_upto, IsShown-stored, StoresAt-last, AreShown-before}
-use Rattle.board_face.proofs.Counting.{weight-same, weight-other}
 
 -- a buffer that has a holder may have one more, and is free neither before nor after
 once-placed : (p p' f w : ℕ) → f ≡ (if p == 0 then 1 else 0) → p' ≡ p + w → (w ≡ 0) ⊎ (0 < p) → f ≡ (if p' == 0 then 1 else 0)

@@ -1,45 +1,23 @@
 -- An application looks for its next note.
-use Rattle.std.proofs.Common.{◌≡◌, ℕ, ◌<◌, Bool, true, false, List, [], ◌∷◌, ◌++◌, length, map, take, drop, set, get_or, refl, ap, sym}
-use Rattle.std.proofs.Common.{◌∙◌, arith}
-use Rattle.std.specs.Prelude.{if◌then◌else◌}
-use Rattle.std.proofs.lemmas.List.{length-set, length-map, map-append, nil_from_length, get_or-set_same, get_or-set_other}
-use Rattle.std.proofs.lemmas.List.Elements.{All-set}
-use Rattle.std.proofs.lemmas.List.Sums.{sum_by-append}
+use Rattle.std.proofs.Common.{◌≡◌, ℕ, ◌<◌, Bool, true, false, List, [], ◌∷◌, ◌++◌, length, map, take, drop, set, get_or, refl, ap, sym, ◌∙◌, arith}
+use Rattle.std.{specs.Prelude.{if◌then◌else◌}, proofs.lemmas.List.{length-set, length-map, map-append, nil_from_length, get_or-set_same, get_or-set_other}}
+use Rattle.std.proofs.lemmas.List.{Elements.{All-set}, Sums.{sum_by-append}}
 use Rattle.circular_buffer.specs.Buffer.{Buffer, buffer}
-use Rattle.board_face.specs.Sides.{IsApp, app_at}
-use Rattle.board_face.specs.Holders.{on_way}
-use Rattle.board_face.specs.Fillings.{IsFilledByOne}
-use Rattle.board_face.specs.OwnBuffers.{AppLiesInOwn}
-use Rattle.board_face.specs.Looks.{AppTold}
-use Rattle.board_face.specs.Relay.{Relayed}
-use Rattle.board_face.specs.Shown.{AreShown}
-use Rattle.board_face.specs.AppCalls.{IsHere, AppOnlySaw, ToldEnd, TookNote, TookLinear}
-use Rattle.board_face.specs.AppEvents.{app_saw, app_gist, told_end, took_note, took_linear}
-use Rattle.board_face.specs.declared.views.app.AppLook.TheVariants.{NoNote, CardEnded}
-use Rattle.board_face.specs.declared.views.app.HeldPiece.{HeldPiece}
-use Rattle.board_face.specs.declared.views.app.TakenNote.{TakenNote}
-use Rattle.board_face.specs.declared.views.app.AppView.{AppView}
-use Rattle.board_face.specs.declared.views.app.AppSide.{AppSide}
-use Rattle.board_face.proofs.Parts.{app_count}
-use Rattle.board_face.proofs.AppLemmas.{app_count-took_note, app_count-took_linear}
-use Rattle.board_face.proofs.RelayLemmas.{way-taken, NoteComesNext-relayed, Relayed-took}
-use Rattle.board_face.proofs.LookLemmas.{AppRose-app_saw, AppTold-one}
-use Rattle.board_face.proofs.FillingsFitLemmas.{FillingsFit-same}
-use Rattle.board_face.proofs.IsFilledByOneLemmas.{IsFilledByOne-took_note, IsFilledByOne-took_linear}
-use Rattle.board_face.proofs.OwnBufferLemmas.{AppLiesInOwn-took_note}
-use Rattle.board_face.proofs.AreShownLemmas.{AreShown-took_note, AreShown-took_linear}
-use Rattle.board_parts.specs.declared.slots.NoteSlot.{NoteSlot}
-use Rattle.board_parts.specs.Rings.{popped}
-use Rattle.plain_board.specs.Stand.{Arrays, Stand, others_of, byte_of}
-use Rattle.plain_board.specs.Seen.{IsSeenBy}
-use Rattle.plain_board.proofs.RingSlots.{IsRing-popped}
+use Rattle.board_face.specs.{Sides.{IsApp, app_at}, Holders.{on_way}, Fillings.{IsFilledByOne}, OwnBuffers.{AppLiesInOwn}, Looks.{AppTold}, Relay.{Relayed}}
+use Rattle.board_face.specs.{Shown.{AreShown}, AppCalls.{IsHere, AppOnlySaw, ToldEnd, TookNote, TookLinear}}
+use Rattle.board_face.specs.{AppEvents.{app_saw, app_gist, told_end, took_note, took_linear}, declared.views.app.AppLook.TheVariants.{NoNote, CardEnded}}
+use Rattle.board_face.{specs.declared.views.app.{HeldPiece.{HeldPiece}, TakenNote.{TakenNote}, AppView.{AppView}, AppSide.{AppSide}}, proofs.Parts.{app_count}}
+use Rattle.board_face.proofs.{AppLemmas.{app_count-took_note, app_count-took_linear}, RelayLemmas.{way-taken, NoteComesNext-relayed, Relayed-took}}
+use Rattle.board_face.proofs.{LookLemmas.{AppRose-app_saw, AppTold-one}, FillingsFitLemmas.{FillingsFit-same}}
+use Rattle.board_face.proofs.{IsFilledByOneLemmas.{IsFilledByOne-took_note, IsFilledByOne-took_linear}, OwnBufferLemmas.{AppLiesInOwn-took_note}}
+use Rattle.board_face.{proofs.AreShownLemmas.{AreShown-took_note, AreShown-took_linear}, specs.Laws.{IsNextNote}}
+use Rattle.board_parts.specs.{declared.slots.NoteSlot.{NoteSlot}, Rings.{popped}}
+use Rattle.plain_board.{specs.{Stand.{Arrays, Stand, others_of, byte_of}, Seen.{IsSeenBy}}, proofs.RingSlots.{IsRing-popped}}
 use Rattle.plain_board.specs.Sound.{IsRing, IsSound, IsAtRest, notes_of, refills_of, taken_of}
 use Rattle.plain_board.proofs.AppFrames.{IsSet-app, was-at_rest, AreCounted-app, was-returned, AreRelayed-app, returns-app, was-returns, AreFlags-kept}
 use Rattle.plain_board.proofs.AppFrames.{AreFreeOnce-app, AreKept-app, AreDue-app, was-given, was-due, AreBooked-kept}
 use Rattle.plain_board.proofs.AppFrames.{ArePhased-app, was-phased, was-own, OwnBuffers-app}
-use Rattle.plain_board.proofs.FirstNote.{split-next, linear-next, some-next, lies-next, pool-next, new-next}
-use Rattle.plain_board.proofs.AppTold.{IsSound-told, IsSound-looked}
-use Rattle.board_face.specs.Laws.{IsNextNote}
+use Rattle.plain_board.proofs.{FirstNote.{split-next, linear-next, some-next, lies-next, pool-next, new-next}, AppTold.{IsSound-told, IsSound-looked}}
 
 -- ---- no note is there
 

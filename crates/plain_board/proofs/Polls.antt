@@ -1,32 +1,15 @@
 -- A look for a note: which note was the next, and what of it is logged.
 use Rattle.std.proofs.Common.{◌≡◌, ℕ, ◌<◌, List, [], ◌∷◌, ◌++◌, map, take, refl, ap, append_assoc}
-use Rattle.zr_kinds.specs.declared.place.Note.{Note}
-use Rattle.zr_kinds.specs.declared.place.Place.{Place}
-use Rattle.zr_kinds.specs.declared.ring.Rqe.{Rqe}
-use Rattle.board_face.specs.AppCalls.{Looked, TookNote}
-use Rattle.board_face.specs.AppEvents.{app_saw, took_linear, took_note, told_end}
-use Rattle.board_face.specs.Holders.{sent_to}
-use Rattle.board_face.specs.Laws.{IsNextNote, by_app}
-use Rattle.board_face.specs.Relay.{Relayed, as_taken}
-use Rattle.board_face.specs.Sides.{IsApp, app_at}
-use Rattle.board_face.specs.declared.answers.Polled.{Polled}
+use Rattle.zr_kinds.specs.declared.{place.{Note.{Note}, Place.{Place}}, ring.Rqe.{Rqe}}
+use Rattle.board_face.specs.{AppCalls.{Looked, TookNote}, AppEvents.{app_saw, took_linear, took_note, told_end}, Holders.{sent_to}, Laws.{IsNextNote, by_app}}
+use Rattle.board_face.specs.{Relay.{Relayed, as_taken}, Sides.{IsApp, app_at}, declared.answers.Polled.{Polled}}
 use Rattle.board_face.specs.declared.answers.Polled.TheVariants.{Note as got_note, Linear as got_linear, Empty as got_none, Ended as got_end}
-use Rattle.board_face.specs.declared.views.nic.NicSide.{NicSide}
-use Rattle.board_face.specs.declared.views.app.AppLook.TheVariants.{NoNote}
-use Rattle.board_face.specs.declared.views.app.AppView.{AppView}
-use Rattle.board_face.specs.declared.views.app.AppSide.{AppSide}
-use Rattle.board_face.specs.declared.views.app.TakenNote.{TakenNote}
+use Rattle.board_face.specs.declared.views.{nic.NicSide.{NicSide}, app.{AppLook.TheVariants.{NoNote}, AppView.{AppView}, AppSide.{AppSide}, TakenNote.{TakenNote}}}
 use Rattle.board_face.proofs.RelayLemmas.{NoteComesNext-relayed}
-use Rattle.run_records.specs.declared.event.Event.{Event}
+use Rattle.run_records.specs.{declared.event.Event.{Event}, LegalRun.{HasSmallNumbers}}
 use Rattle.run_records.specs.declared.event.Event.TheVariants as event
-use Rattle.run_records.specs.LegalRun.{HasSmallNumbers}
-use Rattle.event_log.specs.IsLogged.{KeepsLog}
-use Rattle.event_log.specs.Logs.{Kept, logged}
-use Rattle.event_log.proofs.AppLaws.{app-unlogged, took_note-law}
-use Rattle.plain_board.specs.Recorded.{IsRecorded}
-use Rattle.plain_board.specs.Stand.{Stand, side_of, sides_of, others_of}
-use Rattle.plain_board.specs.Sound.{IsSound}
-use Rattle.plain_board.proofs.AppFrames.{here-of}
+use Rattle.event_log.{specs.{IsLogged.{KeepsLog}, Logs.{Kept, logged}}, proofs.AppLaws.{app-unlogged, took_note-law}}
+use Rattle.plain_board.{specs.{Recorded.{IsRecorded}, Stand.{Stand, side_of, sides_of, others_of}, Sound.{IsSound}}, proofs.AppFrames.{here-of}}
 use Rattle.plain_board.proofs.Logging.{IsByApp, app-keeps, app-logs, same-spares, side-is, sides-sound}
 
 next-note : (nic : NicSide) (x : AppSide) (t : TakenNote) (ns us : List TakenNote) (es : List Rqe)

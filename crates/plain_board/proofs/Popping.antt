@@ -1,24 +1,14 @@
 -- An entry leaves its slot.
-use Rattle.std.proofs.Common.{◌≡◌, ℕ, ◌-◌, ◌<◌, List, [], ◌∷◌, ◌++◌, length, map, drop, set, get_or, refl, ap, sym, ◌∙◌, subst}
-use Rattle.std.proofs.Common.{arith, ⊎_elim}
-use Rattle.std.specs.Prelude.{◌≢◌}
-use Rattle.std.proofs.lemmas.List.{set-get_or, get_or_default, get_or-set_same, get_or-set_other}
-use Rattle.std.proofs.lemmas.List.Elements.{All-set}
-use Rattle.std.proofs.lemmas.Bool.Decides.{eqb_tells}
+use Rattle.std.{proofs.Common.{◌≡◌, ℕ, ◌-◌, ◌<◌, List, [], ◌∷◌, ◌++◌, length, map, drop, set, get_or, refl, ap, sym, ◌∙◌, subst, arith, ⊎_elim}, specs.Prelude.{◌≢◌}}
+use Rattle.std.proofs.lemmas.{List.{set-get_or, get_or_default, get_or-set_same, get_or-set_other, Elements.{All-set}}, Bool.Decides.{eqb_tells}}
 use Rattle.circular_buffer.specs.Buffer.{Buffer, buffer}
 use Rattle.zr_kinds.specs.declared.ring.Rqe.{Rqe}
-use Rattle.board_face.specs.Sides.{nic_at, IsApp}
-use Rattle.board_face.specs.Relay.{Relayed}
-use Rattle.board_face.specs.declared.views.nic.Dealt.{Dealt}
-use Rattle.board_face.specs.declared.views.nic.NicView.{NicView}
-use Rattle.board_face.specs.declared.views.app.AppSide.{AppSide}
+use Rattle.board_face.specs.{Sides.{nic_at, IsApp}, Relay.{Relayed}, declared.views.{nic.{Dealt.{Dealt}, NicView.{NicView}}, app.AppSide.{AppSide}}}
 use Rattle.board_face.proofs.RelayLemmas.{Relayed-dealt, Relayed-dealt_other}
-use Rattle.plain_board.specs.Stand.{Arrays, Stand}
-use Rattle.board_parts.specs.Rings.{popped}
-use Rattle.plain_board.specs.Returns.{entries_on_way, reach_of}
-use Rattle.plain_board.proofs.RingSlots.{IsRing-popped}
+use Rattle.plain_board.{specs.{Stand.{Arrays, Stand}, Returns.{entries_on_way, reach_of}}, proofs.RingSlots.{IsRing-popped}}
 use Rattle.plain_board.specs.Sound.{IsRing, IsSound, AreRelayed, AreBooked, refills_of, notes_of, taken_of}
 use Rattle.plain_board.proofs.Dealing.{HasFront, dealt-same, way-after, reach-popped}
+use Rattle.board_parts.specs.Rings.{popped}
 
 pub same-app : (apps : List AppSide) (a : ℕ) (x y : AppSide) → IsApp apps a x → IsApp apps a y → y ≡ x
 same-app apps a x y one other = sym other.is ∙ (get_or_default apps a y x one.there ∙ one.is)

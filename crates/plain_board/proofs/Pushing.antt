@@ -1,39 +1,19 @@
 -- A raw entry is the last on its way: it came from no loan, and names no buffer in which one is out.
-use Rattle.std.proofs.Common.{◌≡◌, ℕ, suc, ◌+◌, ◌<◌, ◌≤◌, Bool, false, List, [], ◌∷◌, ◌++◌, length, set, get_or}
-use Rattle.std.proofs.Common.{refl, ap, ◌∙◌, arith, length-append, length-drop}
-use Rattle.std.specs.Prelude.{◌≢◌}
-use Rattle.std.proofs.lemmas.List.{length-set, length-map, get_or-set_same, get_or-set_other}
-use Rattle.std.proofs.lemmas.List.Elements.{All-set}
-use Rattle.std.proofs.lemmas.Bool.{lt-ltb}
+use Rattle.std.proofs.Common.{◌≡◌, ℕ, suc, ◌+◌, ◌<◌, ◌≤◌, Bool, false, List, [], ◌∷◌, ◌++◌, length, set, get_or, refl, ap, ◌∙◌, arith, length-append, length-drop}
+use Rattle.std.{specs.Prelude.{◌≢◌}, proofs.lemmas.{List.{length-set, length-map, get_or-set_same, get_or-set_other, Elements.{All-set}}, Bool.{lt-ltb}}}
 use Rattle.circular_buffer.specs.Buffer.{Buffer, buffer}
 use Rattle.zr_kinds.specs.declared.ring.Rqe.{Rqe}
-use Rattle.board_face.specs.Sides.{IsApp, app_at}
-use Rattle.board_face.specs.AppCalls.{NamesNoLoan}
-use Rattle.board_face.specs.AppEvents.{app_gist, app_saw, pushed_raw}
-use Rattle.board_face.specs.Looks.{AppTold}
-use Rattle.board_face.specs.Relay.{Relayed, dealt_entries}
-use Rattle.board_face.specs.declared.views.nic.NicSide.{NicSide}
-use Rattle.board_face.specs.declared.views.app.AppLook.TheVariants.{RefillInUse}
-use Rattle.board_face.specs.declared.views.app.TakenNote.{TakenNote}
-use Rattle.board_face.specs.declared.views.app.WrittenEntry.{WrittenEntry}
-use Rattle.board_face.specs.declared.views.app.AppSide.{AppSide}
-use Rattle.board_face.proofs.LookLemmas.{AppTold-one}
-use Rattle.board_face.proofs.AppLemmas.{SameHoldings, app_count-same, user_part-same}
-use Rattle.board_face.proofs.RelayLemmas.{Relayed-wrote}
-use Rattle.board_face.proofs.IsFilledByOneLemmas.{IsFilledByOne-same}
-use Rattle.board_face.proofs.FillingsFitLemmas.{FillingsFit-same}
-use Rattle.board_face.proofs.AreShownLemmas.{AreShown-same}
-use Rattle.board_face.proofs.WrittenLemmas.{way-written, AreReturns-pushed}
+use Rattle.board_face.specs.{Sides.{IsApp, app_at}, AppCalls.{NamesNoLoan}, AppEvents.{app_gist, app_saw, pushed_raw}, Looks.{AppTold}, Relay.{Relayed, dealt_entries}}
+use Rattle.board_face.specs.declared.views.{nic.NicSide.{NicSide}, app.{AppLook.TheVariants.{RefillInUse}, TakenNote.{TakenNote}, WrittenEntry.{WrittenEntry}}}
+use Rattle.board_face.{specs.declared.views.app.AppSide.{AppSide}, proofs.{LookLemmas.{AppTold-one}, AppLemmas.{SameHoldings, app_count-same, user_part-same}}}
+use Rattle.board_face.proofs.{RelayLemmas.{Relayed-wrote}, IsFilledByOneLemmas.{IsFilledByOne-same}, FillingsFitLemmas.{FillingsFit-same}}
+use Rattle.board_face.proofs.{AreShownLemmas.{AreShown-same}, WrittenLemmas.{way-written, AreReturns-pushed}}
 use Rattle.board_parts.specs.Rings.{ring_in, pushed}
-use Rattle.plain_board.specs.Stand.{Stand, byte_of, others_of}
-use Rattle.plain_board.specs.Returns.{AreReturns, entries_on_way, reach_of}
-use Rattle.plain_board.specs.Seen.{IsSeenBy}
-use Rattle.plain_board.proofs.RingSlots.{IsRing-pushed}
+use Rattle.plain_board.{specs.{Stand.{Stand, byte_of, others_of}, Returns.{AreReturns, entries_on_way, reach_of}, Seen.{IsSeenBy}}, proofs.RingSlots.{IsRing-pushed}}
 use Rattle.plain_board.specs.Sound.{IsRing, IsSound, refills_of}
 use Rattle.plain_board.proofs.AppFrames.{has-setting, IsSet-app, was-at_rest, AreCounted-app, was-returned, AreRelayed-app, was-relayed, returns-app}
 use Rattle.plain_board.proofs.AppFrames.{was-returns, AreFlags-kept, AreFreeOnce-app, AreKept-app, AreDue-app, was-given, was-due, AreBooked-app}
-use Rattle.plain_board.proofs.AppFrames.{was-booked_loans, was-booked_filled, ArePhased-app, was-phased, OwnBuffers-kept}
-use Rattle.plain_board.proofs.Settling.{reach_with}
+use Rattle.plain_board.proofs.{AppFrames.{was-booked_loans, was-booked_filled, ArePhased-app, was-phased, OwnBuffers-kept}, Settling.{reach_with}}
 
 reach-front : (of_loan : Bool) (r : ℕ) → 0 < r → reach_with of_loan r ≡ suc r
 reach-front of_loan r some = rw (lt-ltb 0 r some) refl

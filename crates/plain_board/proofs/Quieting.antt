@@ -1,26 +1,12 @@
 -- An application asks whether its refill slots are free: as many entries lie there as are on their way.
 use Rattle.std.proofs.Common.{◌≡◌, ℕ, Bool, true, false, List, length, set, refl, ap, sym, ◌∙◌, arith, length-append, length-drop}
-use Rattle.std.specs.Prelude.{◌==◌, if◌then◌else◌}
-use Rattle.std.proofs.lemmas.List.{length-map, nil_from_length}
+use Rattle.std.{specs.Prelude.{◌==◌, if◌then◌else◌}, proofs.lemmas.{List.{length-map, nil_from_length}, Bool.{eqb-true}}}
 use Rattle.zr_kinds.specs.declared.ring.Rqe.{Rqe}
-use Rattle.board_face.specs.Sides.{IsApp, app_at}
-use Rattle.board_face.specs.Looks.{AppTold}
-use Rattle.board_face.specs.Relay.{Relayed}
-use Rattle.board_face.specs.AppEvents.{app_saw, app_gist, fell_quiet}
-use Rattle.board_face.specs.declared.views.app.AppLook.TheVariants.{NotQuiet}
-use Rattle.board_face.specs.declared.views.nic.NicSide.{NicSide}
-use Rattle.board_face.specs.declared.views.app.TakenNote.{TakenNote}
-use Rattle.board_face.specs.declared.views.app.AppView.{AppView}
-use Rattle.board_face.specs.declared.views.app.AppSide.{AppSide}
+use Rattle.board_face.specs.{Sides.{IsApp, app_at}, Looks.{AppTold}, Relay.{Relayed}, AppEvents.{app_saw, app_gist, fell_quiet}}
+use Rattle.board_face.specs.declared.views.{app.{AppLook.TheVariants.{NotQuiet}, TakenNote.{TakenNote}, AppView.{AppView}, AppSide.{AppSide}}, nic.NicSide.{NicSide}}
 use Rattle.board_face.proofs.LookLemmas.{AppTold-none, AppTold-one}
-use Rattle.plain_board.specs.Stand.{Stand, others_of}
-use Rattle.plain_board.specs.Returns.{entries_on_way}
-use Rattle.plain_board.specs.Seen.{IsSeenBy}
-use Rattle.plain_board.specs.Sound.{IsSound, refills_of}
-use Rattle.plain_board.proofs.AppFrames.{was-phased}
-use Rattle.plain_board.proofs.AppTold.{IsSound-told, IsSound-looked}
-use Rattle.plain_board.proofs.Settling.{is-some}
-use Rattle.std.proofs.lemmas.Bool.{eqb-true}
+use Rattle.plain_board.{specs.{Stand.{Stand, others_of}, Returns.{entries_on_way}, Seen.{IsSeenBy}, Sound.{IsSound, refills_of}}, proofs.AppFrames.{was-phased}}
+use Rattle.plain_board.proofs.{AppTold.{IsSound-told, IsSound-looked}, Settling.{is-some}}
 
 -- as many entries lie in the slots as are on their way
 pub entries-many : (nic : NicSide) (app : AppSide) (ns : List TakenNote) (es : List Rqe) → Relayed nic app ns es

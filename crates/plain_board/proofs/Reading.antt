@@ -1,37 +1,18 @@
 -- A loan is read: the area has its text at its place, so the bytes are those that were sent, or copied.
-use Rattle.std.proofs.Common.{◌≡◌, ℕ, ◌+◌, ◌<◌, ◌≤◌, List, [], ◌∷◌, length, map, take, drop, set, get_or, refl, ap, sym, ◌∙◌}
-use Rattle.std.proofs.Common.{subst, arith}
+use Rattle.std.proofs.Common.{◌≡◌, ℕ, ◌+◌, ◌<◌, ◌≤◌, List, [], ◌∷◌, length, map, take, drop, set, get_or, refl, ap, sym, ◌∙◌, subst, arith}
 use Rattle.std.proofs.lemmas.List.{length-take, length-take-le, length-drop, get_or-take, get_or-drop, ext_get_or, drop-drop}
-use Rattle.zr_kinds.specs.declared.place.Place.{Place}
-use Rattle.zr_kinds.specs.declared.ring.Rqe.{Rqe}
-use Rattle.area_layout.specs.Layout.{total, begin_of, LiesIn}
-use Rattle.area_layout.proofs.Words.{in_order}
-use Rattle.board_face.specs.Sides.{IsApp, app_at}
-use Rattle.board_face.specs.Texts.{further}
-use Rattle.board_face.specs.Holders.{sent_to}
-use Rattle.board_face.specs.Shown.{AppIsShown, origin_bytes, bytes_sent}
-use Rattle.board_face.specs.Relay.{Relayed}
-use Rattle.board_face.specs.AppEvents.{has_read, loan_origin}
-use Rattle.board_face.specs.AppCalls.{HasLoan, ShowsCopy}
-use Rattle.board_face.specs.declared.views.nic.SentNote.{SentNote}
-use Rattle.board_face.specs.declared.views.nic.NicSide.{NicSide}
-use Rattle.board_face.specs.declared.views.app.Origin.{Origin}
-use Rattle.board_face.specs.declared.views.app.Origin.TheVariants.{Note as of_note, Copied as of_copy}
-use Rattle.board_face.specs.declared.views.app.TakenNote.{TakenNote}
-use Rattle.board_face.specs.declared.views.app.AppSide.{AppSide}
-use Rattle.board_face.proofs.AppLemmas.{SameHoldings, app_count-same, user_part-same}
-use Rattle.board_face.proofs.RelayLemmas.{Relayed-app, Relayed-read}
-use Rattle.board_face.proofs.TextsByEvent.{IsShown-loan}
-use Rattle.board_face.proofs.IsFilledByOneLemmas.{IsFilledByOne-same}
-use Rattle.board_face.proofs.FillingsFitLemmas.{FillingsFit-same}
-use Rattle.board_face.proofs.AreShownLemmas.{AreShown-same}
+use Rattle.zr_kinds.specs.declared.{place.Place.{Place}, ring.Rqe.{Rqe}}
+use Rattle.area_layout.{specs.Layout.{total, begin_of, LiesIn}, proofs.Words.{in_order}}
+use Rattle.board_face.specs.{Sides.{IsApp, app_at}, Texts.{further}, Holders.{sent_to}, Shown.{AppIsShown, origin_bytes, bytes_sent}, Relay.{Relayed}}
+use Rattle.board_face.specs.{AppEvents.{has_read, loan_origin}, AppCalls.{HasLoan, ShowsCopy}, declared.views.nic.{SentNote.{SentNote}, NicSide.{NicSide}}}
+use Rattle.board_face.specs.declared.views.app.{Origin.{Origin, TheVariants.{Note as of_note, Copied as of_copy}}, TakenNote.{TakenNote}, AppSide.{AppSide}}
+use Rattle.board_face.proofs.{AppLemmas.{SameHoldings, app_count-same, user_part-same}, RelayLemmas.{Relayed-app, Relayed-read}, TextsByEvent.{IsShown-loan}}
+use Rattle.board_face.proofs.{IsFilledByOneLemmas.{IsFilledByOne-same}, FillingsFitLemmas.{FillingsFit-same}, AreShownLemmas.{AreShown-same}}
 use Rattle.board_parts.specs.Area.{loaded}
-use Rattle.plain_board.specs.Stand.{Stand, byte_of}
-use Rattle.plain_board.specs.Sound.{IsSound, taken_of, notes_of, refills_of}
+use Rattle.plain_board.specs.{Stand.{Stand, byte_of}, Sound.{IsSound, taken_of, notes_of, refills_of}}
 use Rattle.plain_board.proofs.AppFrames.{IsSet-app, was-at_rest, AreCounted-app, was-returned, AreRelayed-kept, was-relayed, returns-app, was-returns}
 use Rattle.plain_board.proofs.AppFrames.{AreFlags-kept, AreFreeOnce-app, AreKept-app, AreDue-app, was-given, was-due, AreBooked-kept}
-use Rattle.plain_board.proofs.AppFrames.{ArePhased-app, was-phased, OwnBuffers-kept}
-use Rattle.plain_board.proofs.TokensLie.{loan-lies}
+use Rattle.plain_board.proofs.{AppFrames.{ArePhased-app, was-phased, OwnBuffers-kept}, TokensLie.{loan-lies}}
 
 -- ---- the bytes that are read
 

@@ -1,32 +1,15 @@
 -- A piece is given up: its buffer has one holder less, and is listed where that was the last and it is one of the pool.
-use Rattle.std.proofs.Common.{◌≡◌, ℕ, ◌+◌, ◌-◌, ◌<◌, ◌≤◌, Bool, true, false, List, length, set, get_or, refl, ap}
-use Rattle.std.proofs.Common.{arith, inl, inr, ⊎_elim}
-use Rattle.std.specs.Prelude.{◌==◌, ◌&&◌, nat_lt, if◌then◌else◌}
-use Rattle.std.proofs.lemmas.List.{length-set}
-use Rattle.std.proofs.lemmas.Bool.{lt-ltb, ltb-true}
-use Rattle.zr_kinds.specs.declared.place.Place.{Place}
+use Rattle.std.proofs.Common.{◌≡◌, ℕ, ◌+◌, ◌-◌, ◌<◌, ◌≤◌, Bool, true, false, List, length, set, get_or, refl, ap, arith, inl, inr, ⊎_elim}
+use Rattle.std.{specs.Prelude.{◌==◌, ◌&&◌, nat_lt, if◌then◌else◌}, proofs.lemmas.{List.{length-set}, Bool.{lt-ltb, ltb-true}}}
+use Rattle.zr_kinds.{specs.declared.place.Place.{Place}, proofs.Booleans.{and-true}}
 use Rattle.area_layout.specs.Layout.{pool_buffers}
-use Rattle.board_face.specs.Sides.{IsApp, app_at}
-use Rattle.board_face.specs.Counts.{pool_count}
-use Rattle.board_face.specs.AppCalls.{IsHere, HasHeld}
-use Rattle.board_face.specs.AppEvents.{released}
-use Rattle.board_face.specs.FreeOnce.{AreFreeOnce, free_places}
-use Rattle.board_face.specs.declared.views.app.AppSide.{AppSide}
-use Rattle.board_face.proofs.ListLemmas.{not-eqb}
-use Rattle.board_face.proofs.Tallies.{weight}
-use Rattle.board_face.proofs.AppLemmas.{pool_count-app, app_count-released}
-use Rattle.board_face.proofs.IsFilledByOneLemmas.{IsFilledByOne-released}
-use Rattle.board_face.proofs.OwnBufferLemmas.{AppLiesInOwn-released}
-use Rattle.board_face.proofs.AreShownLemmas.{AreShown-released}
-use Rattle.board_parts.specs.Free.{listed_in}
-use Rattle.plain_board.specs.Stand.{Stand, byte_of}
-use Rattle.plain_board.specs.Sound.{IsSound}
-use Rattle.plain_board.proofs.Lists.{same-or-other, lowered}
-use Rattle.plain_board.proofs.Freeing.{and-right, listed-set}
-use Rattle.plain_board.proofs.AppFrames.{free_places-side, was-own, pools}
-use Rattle.plain_board.proofs.HeldPieces.{is_held, there-pool, held-count, at-rest, IsSound-helds}
+use Rattle.board_face.specs.{Sides.{IsApp, app_at}, Counts.{pool_count}, AppCalls.{IsHere, HasHeld}, AppEvents.{released}, FreeOnce.{AreFreeOnce, free_places}}
+use Rattle.board_face.{specs.declared.views.app.AppSide.{AppSide}, proofs.{ListLemmas.{not-eqb}, Tallies.{weight}, AppLemmas.{pool_count-app, app_count-released}}}
+use Rattle.board_face.proofs.{IsFilledByOneLemmas.{IsFilledByOne-released}, OwnBufferLemmas.{AppLiesInOwn-released}, AreShownLemmas.{AreShown-released}}
 use Rattle.board_face.proofs.Counting.{weight-other, weight-none, once-freed}
-use Rattle.zr_kinds.proofs.Booleans.{and-true}
+use Rattle.board_parts.specs.Free.{listed_in}
+use Rattle.plain_board.{specs.{Stand.{Stand, byte_of}, Sound.{IsSound}}, proofs.{Lists.{same-or-other, lowered}, Freeing.{and-right, listed-set}}}
+use Rattle.plain_board.proofs.{AppFrames.{free_places-side, was-own, pools}, HeldPieces.{is_held, there-pool, held-count, at-rest, IsSound-helds}}
 
 -- ---- the free list
 

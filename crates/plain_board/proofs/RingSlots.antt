@@ -1,6 +1,5 @@
 -- A ring keeps its slots as its front leaves and as one more enters where there is room.
-use Rattle.std.proofs.Common.{ℕ, ◌<◌, List, [], ◌∷◌, length, arith, length-append, length-drop}
-use Rattle.std.specs.Prelude.{All}
+use Rattle.std.{proofs.Common.{ℕ, ◌<◌, List, [], ◌∷◌, length, arith, length-append, length-drop}, specs.Prelude.{All}}
 use Rattle.circular_buffer.specs.Buffer.{Buffer, buffer}
 use Rattle.board_parts.specs.Rings.{ring_in, popped, pushed}
 use Rattle.plain_board.specs.Sound.{IsRing}

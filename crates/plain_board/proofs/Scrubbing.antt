@@ -1,34 +1,18 @@
 -- All that an application owes is taken back: it has no loan and no entry on its way, so it is left with no user reference.
 use Rattle.std.proofs.Common.{◌≡◌, ℕ, zero, suc, ◌+◌, ◌<◌, ◌≤◌, Bool, true, false, List, length, drop, set, get_or, refl, ap, sym}
-use Rattle.std.proofs.Common.{◌∙◌, arith, ⊎_elim, length-take, length-drop}
-use Rattle.std.specs.Prelude.{◌==◌, ◌&&◌, nat_lt, if◌then◌else◌}
-use Rattle.std.proofs.lemmas.List.{get_or-take, get_or-drop, get_or_past}
-use Rattle.std.proofs.lemmas.Bool.{cases_lt, lt-ltb}
+use Rattle.std.{proofs.Common.{◌∙◌, arith, ⊎_elim, length-take, length-drop}, specs.Prelude.{◌==◌, ◌&&◌, nat_lt, if◌then◌else◌}}
+use Rattle.std.proofs.lemmas.{List.{get_or-take, get_or-drop, get_or_past}, Bool.{cases_lt, lt-ltb}}
 use Rattle.area_layout.specs.Layout.{Shape, pool_buffers, total as all_buffers}
-use Rattle.board_face.specs.Sides.{IsApp}
-use Rattle.board_face.specs.AppCalls.{CanScrub}
-use Rattle.board_face.specs.Counts.{pool_count}
-use Rattle.board_face.specs.FreeOnce.{AreFreeOnce, free_places}
-use Rattle.board_face.specs.Holders.{ended_in, owed_in, returned_in}
-use Rattle.board_face.specs.Laws.{TookAll}
-use Rattle.board_face.specs.declared.views.app.AppSide.{AppSide}
-use Rattle.board_face.proofs.ListLemmas.{eqb_same, not-eqb}
-use Rattle.board_face.proofs.Tallies.{weight}
+use Rattle.board_face.specs.{Sides.{IsApp}, AppCalls.{CanScrub}, Counts.{pool_count}, FreeOnce.{AreFreeOnce, free_places}, Holders.{ended_in, owed_in, returned_in}}
+use Rattle.board_face.{specs.{Laws.{TookAll}, declared.views.app.AppSide.{AppSide}}, proofs.{ListLemmas.{eqb_same, not-eqb}, Tallies.{weight}}}
 use Rattle.board_face.proofs.Parts.{app_count, user_part, loans_in, owed_count, returned_in-count, user_count-own}
 use Rattle.board_face.proofs.AppLemmas.{scrubbed_side, pool_count-app, app_count-scrubbed, user_part-scrubbed, EndedWereReturned-scrubbed}
-use Rattle.board_face.proofs.IsFilledByOneLemmas.{IsFilledByOne-scrubbed}
-use Rattle.board_face.proofs.FillingsFitLemmas.{FillingsFit-same}
-use Rattle.board_face.proofs.AreShownLemmas.{AreShown-scrubbed}
-use Rattle.board_parts.specs.Area.{loaded}
-use Rattle.board_parts.specs.Counts.{user_at, HasFewUsers, came_back, TakesBack}
-use Rattle.board_parts.specs.Free.{listed_in}
-use Rattle.plain_board.specs.Stand.{Stand, byte_of}
-use Rattle.plain_board.specs.Sound.{IsSound, IsAtRest}
+use Rattle.board_face.proofs.{IsFilledByOneLemmas.{IsFilledByOne-scrubbed}, FillingsFitLemmas.{FillingsFit-same}, AreShownLemmas.{AreShown-scrubbed}}
+use Rattle.board_parts.specs.{Area.{loaded}, Counts.{user_at, HasFewUsers, came_back, TakesBack}, Free.{listed_in}}
+use Rattle.plain_board.specs.{Stand.{Stand, byte_of}, Sound.{IsSound, IsAtRest}}
 use Rattle.plain_board.proofs.AppFrames.{has-setting, IsSet-app, was-at_rest, AreCounted-app, was-returned, AreRelayed-kept, was-relayed, returns-app, pools}
 use Rattle.plain_board.proofs.AppFrames.{was-returns, AreFlags-kept, free_places-side, AreKept-app, AreDue-app, was-given, was-due, AreBooked-kept}
-use Rattle.plain_board.proofs.AppFrames.{ArePhased-app, was-phased, OwnBuffers-kept}
-use Rattle.plain_board.proofs.Card.{none-lowered}
-use Rattle.plain_board.proofs.TokensLie.{part-le}
+use Rattle.plain_board.proofs.{AppFrames.{ArePhased-app, was-phased, OwnBuffers-kept}, Card.{none-lowered}, TokensLie.{part-le}}
 
 -- the user counts of an application
 abbrev pub took_of : Shape → ℕ → List ℕ → List ℕ

@@ -1,37 +1,17 @@
 -- What the card sees of its board is so: a count that it reads is the number of holders, and a ring has what is on its way.
-use Rattle.std.proofs.Common.{◌≡◌, ℕ, ◌-◌, ◌<◌, ◌≤◌, Bool, true, false, [], ◌∷◌, ◌++◌, length, get_or, refl, ap, sym}
-use Rattle.std.proofs.Common.{◌∙◌, arith, ⊎_elim, Option, Some, None}
-use Rattle.std.specs.Prelude.{◌≢◌, ◌==◌, IfSome}
-use Rattle.std.proofs.lemmas.List.{length-map}
-use Rattle.std.proofs.lemmas.Bool.{cases_lt, lt-ltb, eqb-true}
-use Rattle.std.proofs.lemmas.Bool.Decides.{eqb_tells}
-use Rattle.zr_kinds.specs.declared.ring.Rqe.{Rqe}
+use Rattle.std.proofs.Common.{◌≡◌, ℕ, ◌-◌, ◌<◌, ◌≤◌, Bool, true, false, [], ◌∷◌, ◌++◌, length, get_or, refl, ap, sym, ◌∙◌, arith, ⊎_elim, Option, Some, None}
+use Rattle.std.{specs.Prelude.{◌≢◌, ◌==◌, IfSome}, proofs.lemmas.{List.{length-map}, Bool.{cases_lt, lt-ltb, eqb-true, Decides.{eqb_tells}}}}
+use Rattle.zr_kinds.{specs.declared.ring.Rqe.{Rqe}, proofs.Lists.{map-none}}
 use Rattle.circular_buffer.specs.Buffer.{buffer}
 use Rattle.area_layout.specs.Layout.{total, judged}
-use Rattle.board_face.specs.Judged.{fate_of}
-use Rattle.board_face.specs.Sides.{nic_at, side_in}
-use Rattle.board_face.specs.Looks.{NicTold}
-use Rattle.board_face.specs.NicEvents.{nic_gist, nic_saw, holder_look, shut, passed_over, looks_by_stray}
-use Rattle.board_face.specs.Opened.{new_nic}
-use Rattle.board_face.specs.Counts.{pool_count, user_count}
-use Rattle.board_face.specs.declared.views.parts.Filling.{Filling}
-use Rattle.board_face.specs.declared.views.nic.Fate.TheVariants.{Honoured, Stray}
-use Rattle.board_face.specs.declared.views.nic.NicLook.{NicLook}
-use Rattle.board_face.specs.declared.views.nic.NicLook.TheVariants.{RingEmpty, NoteInUse, NotOwed, Owed}
-use Rattle.board_face.specs.declared.views.nic.NicView.{NicView}
-use Rattle.board_face.proofs.FreeLemmas.{user_count-le}
-use Rattle.board_face.proofs.LookLemmas.{NicTold-none, NicTold-one, NicTold-two}
-use Rattle.board_face.proofs.RelayLemmas.{way-taken}
-use Rattle.board_face.specs.Blank.{blank_app}
-use Rattle.board_parts.specs.Counts.{user_at}
-use Rattle.plain_board.specs.Stand.{Arrays, Stand}
-use Rattle.plain_board.specs.Returns.{entries_on_way}
-use Rattle.plain_board.specs.Sound.{IsSound, notes_of, refills_of}
-use Rattle.plain_board.specs.Seen.{card_of, IsSeenByCard, IsJudged}
+use Rattle.board_face.specs.{Judged.{fate_of}, Sides.{nic_at, side_in}, Looks.{NicTold}, NicEvents.{nic_gist, nic_saw, holder_look, shut, passed_over, looks_by_stray}}
+use Rattle.board_face.specs.{Opened.{new_nic}, Counts.{pool_count, user_count}, declared.views.{parts.Filling.{Filling}, nic.Fate.TheVariants.{Honoured, Stray}}}
+use Rattle.board_face.specs.declared.views.nic.{NicLook.{NicLook, TheVariants.{RingEmpty, NoteInUse, NotOwed, Owed}}, NicView.{NicView}}
+use Rattle.board_face.{proofs.{FreeLemmas.{user_count-le}, LookLemmas.{NicTold-none, NicTold-one, NicTold-two}, RelayLemmas.{way-taken}}, specs.Blank.{blank_app}}
 use Rattle.board_face.proofs.SideLemmas.{IsApp-at}
-use Rattle.plain_board.proofs.Dealing.{entries-relayed}
-use Rattle.plain_board.proofs.Honouring.{honoured_if}
-use Rattle.zr_kinds.proofs.Lists.{map-none}
+use Rattle.board_parts.specs.Counts.{user_at}
+use Rattle.plain_board.specs.{Stand.{Arrays, Stand}, Returns.{entries_on_way}, Sound.{IsSound, notes_of, refills_of}, Seen.{card_of, IsSeenByCard, IsJudged}}
+use Rattle.plain_board.proofs.{Dealing.{entries-relayed}, Honouring.{honoured_if}}
 
 module _ (board : Stand) (sound : IsSound board) where
   -- what is said of each look whose count rose

@@ -1,25 +1,12 @@
 -- An application asks whether a raw entry is on its way.
-use Rattle.std.proofs.Common.{◌≡◌, ℕ, zero, suc, ◌+◌, ◌<◌, Bool, true, false, List, [], ◌∷◌, length, set, get_or, refl, sym, ◌∙◌}
-use Rattle.std.proofs.Common.{arith, ⊎_elim}
-use Rattle.std.specs.Prelude.{All, ◌==◌, not, nat_lt, count_by, if◌then◌else◌}
-use Rattle.std.proofs.lemmas.List.Elements.{All-nil, All-cons, All-head, All-tail}
+use Rattle.std.proofs.Common.{◌≡◌, ℕ, zero, suc, ◌+◌, ◌<◌, Bool, true, false, List, [], ◌∷◌, length, set, get_or, refl, sym, ◌∙◌, arith, ⊎_elim}
+use Rattle.std.{specs.Prelude.{All, ◌==◌, not, nat_lt, count_by, if◌then◌else◌}, proofs.lemmas.List.Elements.{All-nil, All-cons, All-head, All-tail}}
 use Rattle.std.proofs.lemmas.Bool.{cases_lt, lt-ltb, eqb-true}
-use Rattle.board_face.specs.Sides.{IsApp, app_at}
-use Rattle.board_face.specs.Looks.{AppTold}
-use Rattle.board_face.specs.AppEvents.{app_saw, app_gist, came_to_rest}
-use Rattle.board_face.specs.declared.views.app.AppLook.TheVariants.{RawOnItsWay}
-use Rattle.board_face.specs.declared.views.app.WrittenEntry.{WrittenEntry}
-use Rattle.board_face.specs.declared.views.app.AppView.{AppView}
-use Rattle.board_face.specs.declared.views.app.AppSide.{AppSide}
-use Rattle.board_face.proofs.LookLemmas.{AppTold-none, AppTold-one}
-use Rattle.board_face.proofs.Parts.{count-tally}
-use Rattle.board_face.proofs.Tallies.{weight}
-use Rattle.plain_board.specs.Stand.{Stand, others_of}
-use Rattle.plain_board.specs.Returns.{IsOfLoan, is_raw, reach_of, entries_on_way}
-use Rattle.plain_board.specs.Seen.{IsSeenBy}
-use Rattle.plain_board.specs.Sound.{IsSound}
-use Rattle.plain_board.proofs.AppFrames.{was-phased}
-use Rattle.plain_board.proofs.AppTold.{IsSound-told, IsSound-looked}
+use Rattle.board_face.specs.{Sides.{IsApp, app_at}, Looks.{AppTold}, AppEvents.{app_saw, app_gist, came_to_rest}, declared.views.app.AppLook.TheVariants.{RawOnItsWay}}
+use Rattle.board_face.{specs.declared.views.app.{WrittenEntry.{WrittenEntry}, AppView.{AppView}, AppSide.{AppSide}}, proofs.LookLemmas.{AppTold-none, AppTold-one}}
+use Rattle.board_face.proofs.{Parts.{count-tally}, Tallies.{weight}}
+use Rattle.plain_board.specs.{Stand.{Stand, others_of}, Returns.{IsOfLoan, is_raw, reach_of, entries_on_way}, Seen.{IsSeenBy}, Sound.{IsSound}}
+use Rattle.plain_board.proofs.{AppFrames.{was-phased}, AppTold.{IsSound-told, IsSound-looked}}
 
 -- ---- how far back the last raw entry lies
 

@@ -1,32 +1,17 @@
 -- A buffer is closed.
 use Rattle.std.proofs.Common.{◌≡◌, ℕ, ◌+◌, ◌-◌, ◌<◌, ◌≤◌, Bool, set, get_or, refl, ap, sym, ◌∙◌, arith, ⊎_elim, inl, inr}
-use Rattle.std.specs.Prelude.{nat_eq, count_by, ◌==◌, if◌then◌else◌, true, false, nat_lt, ◌&&◌}
-use Rattle.std.proofs.lemmas.List.{length-set}
-use Rattle.std.proofs.lemmas.Bool.{lt-ltb}
-use Rattle.area_layout.specs.Layout.{pool_buffers, total}
-use Rattle.board_face.specs.NicEvents.{shut}
-use Rattle.board_face.specs.NicCalls.{IsOpen, HasOwn}
-use Rattle.board_face.specs.Sides.{nic_at}
-use Rattle.board_face.specs.Counts.{pool_count}
-use Rattle.board_face.specs.FreeOnce.{free_places}
-use Rattle.board_face.specs.declared.views.parts.Filling.{Filling}
-use Rattle.board_face.proofs.NicLemmas.{pool_count-shut}
-use Rattle.board_face.proofs.ListLemmas.{not-eqb}
-use Rattle.board_face.proofs.FillingsFitLemmas.{FillingsFit-shut}
-use Rattle.board_face.proofs.IsFilledByOneLemmas.{IsFilledByOne-shut}
-use Rattle.board_face.proofs.OwnBufferLemmas.{LieInOwn-nic}
-use Rattle.board_face.proofs.AreShownLemmas.{AreShown-shut}
-use Rattle.board_face.proofs.Tallies.{weight}
-use Rattle.board_parts.specs.Free.{listed_in}
-use Rattle.plain_board.specs.Stand.{Stand, byte_of}
-use Rattle.plain_board.specs.Sound.{IsSound}
-use Rattle.plain_board.proofs.Lists.{same-or-other}
-use Rattle.plain_board.proofs.Freeing.{cache_after, listed_after, places-after, cache-grows, cache-short, length-listed_after}
-use Rattle.plain_board.proofs.Card.{IsSet-nic, AreCounted-nic, AreRelayed-nic, AreReturns-nic, AreBooked-nic, ArePhased-open}
-use Rattle.board_face.proofs.Counting.{weight-none, weight-same, weight-other, once-freed}
+use Rattle.std.{specs.Prelude.{nat_eq, count_by, ◌==◌, if◌then◌else◌, true, false, nat_lt, ◌&&◌}, proofs.lemmas.{List.{length-set}, Bool.{lt-ltb}}}
 use Rattle.std.proofs.lemmas.List.Elements.{All-contains}
+use Rattle.area_layout.specs.Layout.{pool_buffers, total}
+use Rattle.board_face.specs.{NicEvents.{shut}, NicCalls.{IsOpen, HasOwn}, Sides.{nic_at}, Counts.{pool_count}, FreeOnce.{free_places}}
+use Rattle.board_face.{specs.declared.views.parts.Filling.{Filling}, proofs.{NicLemmas.{pool_count-shut}, ListLemmas.{not-eqb}, FillingsFitLemmas.{FillingsFit-shut}}}
+use Rattle.board_face.proofs.{IsFilledByOneLemmas.{IsFilledByOne-shut}, OwnBufferLemmas.{LieInOwn-nic}, AreShownLemmas.{AreShown-shut}, Tallies.{weight}}
+use Rattle.board_face.proofs.Counting.{weight-none, weight-same, weight-other, once-freed}
+use Rattle.board_parts.specs.Free.{listed_in}
+use Rattle.plain_board.{specs.{Stand.{Stand, byte_of}, Sound.{IsSound}}, proofs.Lists.{same-or-other}}
+use Rattle.plain_board.proofs.Freeing.{cache_after, listed_after, places-after, cache-grows, cache-short, length-listed_after}
+use Rattle.plain_board.proofs.{Card.{IsSet-nic, AreCounted-nic, AreRelayed-nic, AreReturns-nic, AreBooked-nic, ArePhased-open}, AppFrames.{pools}}
 use Rattle.zr_kinds.proofs.Booleans.{and-true}
-use Rattle.plain_board.proofs.AppFrames.{pools}
 
 -- a buffer with a holder stands in no free place
 pub used-nowhere : (p f : ℕ) → f ≡ (if p == 0 then 1 else 0) → 0 < p → f ≡ 0

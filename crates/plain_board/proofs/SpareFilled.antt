@@ -1,39 +1,20 @@
 -- A spare is filled from its begin: nobody else has its buffer, so all that lies in other buffers stays.
-use Rattle.std.proofs.Common.{◌≡◌, ℕ, ◌+◌, ◌<◌, ◌≤◌, true, false, List, length, set, get_or, refl, ap, sym, ◌∙◌, arith}
-use Rattle.std.proofs.Common.{⊎_elim}
-use Rattle.std.specs.Prelude.{◌≢◌, All}
-use Rattle.std.proofs.lemmas.List.{get_or-set_same, get_or-set_other, length-set}
-use Rattle.std.proofs.lemmas.List.Elements.{All-push}
-use Rattle.std.proofs.lemmas.Bool.{cases_lt}
-use Rattle.area_layout.specs.Layout.{LiesIn, size_of, begin_of, total as all_buffers}
-use Rattle.area_layout.proofs.Words.{in_order, words_apart}
-use Rattle.board_face.specs.Sides.{IsApp, app_at}
-use Rattle.board_face.specs.Shown.{AreShown}
-use Rattle.board_face.specs.Tokens.{filled_by, same_filling}
-use Rattle.board_face.specs.AppCalls.{IsHere, HasSpare}
-use Rattle.board_face.specs.AppEvents.{filled, owns_without, begin_place}
-use Rattle.board_face.specs.declared.views.parts.Filling.{Filling}
-use Rattle.board_face.specs.declared.views.app.SpareOwn.{SpareOwn}
-use Rattle.board_face.specs.declared.views.app.AppSide.{AppSide}
-use Rattle.board_face.proofs.ListLemmas.{All-without}
-use Rattle.board_face.proofs.Parts.{spares_in}
-use Rattle.board_face.proofs.Tallies.{total, total-set}
-use Rattle.board_face.proofs.AppLemmas.{owns-without, pool_count-app, app_count-filled, user_part-kept}
-use Rattle.board_face.proofs.RelayLemmas.{Relayed-app}
-use Rattle.board_face.proofs.ArePlacedLemmas.{less_spare}
-use Rattle.board_face.proofs.IsFilledByOneLemmas.{fillings-one, IsFilledByOne-filled}
-use Rattle.board_face.proofs.OwnBufferLemmas.{AppLiesInOwn-filled}
-use Rattle.board_face.proofs.FillingsFitLemmas.{FillingsFit-spare, FillingsFit-filled}
-use Rattle.board_face.proofs.AreShownLemmas.{AreShown-filled}
+use Rattle.std.{proofs.Common.{◌≡◌, ℕ, ◌+◌, ◌<◌, ◌≤◌, true, false, List, length, set, get_or, refl, ap, sym, ◌∙◌, arith, ⊎_elim}, specs.Prelude.{◌≢◌, All}}
+use Rattle.std.proofs.lemmas.{List.{get_or-set_same, get_or-set_other, length-set, Elements.{All-push}}, Bool.{cases_lt}}
+use Rattle.area_layout.{specs.Layout.{LiesIn, size_of, begin_of, total as all_buffers}, proofs.Words.{in_order, words_apart}}
+use Rattle.board_face.specs.{Sides.{IsApp, app_at}, Shown.{AreShown}, Tokens.{filled_by, same_filling}, AppCalls.{IsHere, HasSpare}}
+use Rattle.board_face.specs.{AppEvents.{filled, owns_without, begin_place}, declared.views.{parts.Filling.{Filling}, app.{SpareOwn.{SpareOwn}, AppSide.{AppSide}}}}
+use Rattle.board_face.proofs.{ListLemmas.{All-without}, Parts.{spares_in}, Tallies.{total, total-set}}
+use Rattle.board_face.proofs.{AppLemmas.{owns-without, pool_count-app, app_count-filled, user_part-kept}, RelayLemmas.{Relayed-app}, ArePlacedLemmas.{less_spare}}
+use Rattle.board_face.proofs.{IsFilledByOneLemmas.{fillings-one, IsFilledByOne-filled}, OwnBufferLemmas.{AppLiesInOwn-filled}}
+use Rattle.board_face.proofs.{FillingsFitLemmas.{FillingsFit-spare, FillingsFit-filled}, AreShownLemmas.{AreShown-filled}, LiesLemmas.{total-of}}
+use Rattle.board_face.proofs.Counting.{weight-same, All-none}
 use Rattle.board_parts.specs.Area.{stored}
-use Rattle.plain_board.specs.Stand.{Arrays, Stand, byte_of}
-use Rattle.plain_board.specs.Sound.{IsSound}
-use Rattle.board_face.proofs.LiesLemmas.{total-of}
+use Rattle.plain_board.specs.{Stand.{Arrays, Stand, byte_of}, Sound.{IsSound}}
 use Rattle.plain_board.proofs.Storing.{length-stored, stored_then, IsShown-stored, StoresAt-last, AreShown-before}
 use Rattle.plain_board.proofs.AppFrames.{IsSet-app, was-at_rest, AreCounted-app, was-returned, AreRelayed-kept, was-relayed, returns-app, was-returns}
 use Rattle.plain_board.proofs.AppFrames.{AreFlags-kept, AreFreeOnce-app, AreKept-app, AreDue-app, was-given, was-due, AreBooked-app, was-booked_loans}
 use Rattle.plain_board.proofs.AppFrames.{was-booked_filled, was-booked_raw, ArePhased-app, was-phased, was-own, OwnBuffers-app}
-use Rattle.board_face.proofs.Counting.{weight-same, All-none}
 
 module _ (board : Stand) (a : ℕ) (x : AppSide) (own : Filling) (sound : IsSound board) (here : IsApp board.apps a x) (out : HasSpare x.view own) where
   -- its buffer is one of the area

@@ -1,46 +1,22 @@
 -- A spare is given: the lowest listed buffer, or else the reserve. Neither has a holder.
 use Rattle.std.proofs.Common.{◌≡◌, ℕ, ◌+◌, ◌<◌, ◌≤◌, Bool, true, false, List, [], ◌∷◌, ◌++◌, length, set, get_or, refl, ap, sym}
-use Rattle.std.proofs.Common.{◌∙◌, subst, arith, inl, inr, ⊎_elim, length-append}
-use Rattle.std.specs.Prelude.{◌≢◌, ◌==◌, ◌⊎◌, nat_eq, nat_lt, count_by, if◌then◌else◌, All}
-use Rattle.std.proofs.lemmas.List.{length-set, get_or-set_same, get_or-set_other}
-use Rattle.std.proofs.lemmas.List.Elements.{All-push}
-use Rattle.std.proofs.lemmas.Bool.{lt-ltb, le-ltb}
-use Rattle.std.proofs.lemmas.Bool.Decides.{eqb_tells}
+use Rattle.std.{proofs.Common.{◌∙◌, subst, arith, inl, inr, ⊎_elim, length-append}, specs.Prelude.{◌≢◌, ◌==◌, ◌⊎◌, nat_eq, nat_lt, count_by, if◌then◌else◌, All}}
+use Rattle.std.proofs.lemmas.{List.{length-set, get_or-set_same, get_or-set_other, Elements.{All-push}}, Bool.{lt-ltb, le-ltb, Decides.{eqb_tells}}}
 use Rattle.area_layout.specs.Layout.{pool_buffers, total, size_of}
-use Rattle.board_face.specs.Sides.{IsApp, app_at}
-use Rattle.board_face.specs.Counts.{pool_count, user_count}
-use Rattle.board_face.specs.FreeOnce.{AreFreeOnce, free_places}
-use Rattle.board_face.specs.Looks.{AppTold}
-use Rattle.board_face.specs.OwnBuffers.{IsOwnBuffer}
-use Rattle.board_face.specs.NicEvents.{fresh}
-use Rattle.board_face.specs.Tokens.{filling}
-use Rattle.board_face.specs.AppCalls.{IsHere, MaySpare, AppOnlySaw, HasNoneIn, GotSpare}
-use Rattle.board_face.specs.AppEvents.{app_saw, app_gist, got_spare, reserve_of, looks_by_spare}
-use Rattle.board_face.specs.declared.views.app.AppLook.TheVariants.{NoneListed, NoSpare}
-use Rattle.board_face.specs.declared.views.app.AppView.{AppView}
-use Rattle.board_face.specs.declared.views.app.AppSide.{AppSide}
-use Rattle.board_face.proofs.Tallies.{weight}
-use Rattle.board_face.proofs.Parts.{app_count, spares_in, pool_count-parts}
-use Rattle.board_face.proofs.AppLemmas.{pool_count-app, app_count-got_spare}
-use Rattle.board_face.proofs.RelayLemmas.{Relayed-app}
-use Rattle.board_face.proofs.LookLemmas.{AppTold-none, AppTold-one, AppRose-app_saw}
-use Rattle.board_face.proofs.FreeLemmas.{IsFreeOnce-unheld}
-use Rattle.board_face.proofs.FillingsFitLemmas.{FillingsFit-got_spare}
-use Rattle.board_face.proofs.IsFilledByOneLemmas.{IsFilledByOne-got_spare, fillings-held}
-use Rattle.board_face.proofs.OwnBufferLemmas.{AppLiesInOwn-got_spare}
-use Rattle.board_face.proofs.AreShownLemmas.{AreShown-got_spare}
+use Rattle.board_face.specs.{Sides.{IsApp, app_at}, Counts.{pool_count, user_count}, FreeOnce.{AreFreeOnce, free_places}, Looks.{AppTold}, OwnBuffers.{IsOwnBuffer}}
+use Rattle.board_face.specs.{NicEvents.{fresh}, Tokens.{filling}, AppCalls.{IsHere, MaySpare, AppOnlySaw, HasNoneIn, GotSpare}}
+use Rattle.board_face.specs.{AppEvents.{app_saw, app_gist, got_spare, reserve_of, looks_by_spare}, declared.views.app.AppLook.TheVariants.{NoneListed, NoSpare}}
+use Rattle.board_face.{specs.declared.views.app.{AppView.{AppView}, AppSide.{AppSide}}, proofs.{Tallies.{weight}, Parts.{app_count, spares_in, pool_count-parts}}}
+use Rattle.board_face.proofs.{AppLemmas.{pool_count-app, app_count-got_spare}, RelayLemmas.{Relayed-app}, LookLemmas.{AppTold-none, AppTold-one, AppRose-app_saw}}
+use Rattle.board_face.proofs.{FreeLemmas.{IsFreeOnce-unheld}, FillingsFitLemmas.{FillingsFit-got_spare}, IsFilledByOneLemmas.{IsFilledByOne-got_spare, fillings-held}}
+use Rattle.board_face.proofs.{OwnBufferLemmas.{AppLiesInOwn-got_spare}, AreShownLemmas.{AreShown-got_spare}, LiesLemmas.{total-at}}
+use Rattle.board_face.proofs.Counting.{weight-other, weight-swap, count-push, once-taken, All-none}
 use Rattle.board_parts.specs.Free.{listed_in, HasNoneListed, IsPicked}
-use Rattle.plain_board.specs.Stand.{Arrays, Stand, setting_of, others_of, byte_of}
-use Rattle.plain_board.specs.Seen.{IsSeenBy}
-use Rattle.plain_board.specs.Sound.{IsSound, IsAtRest}
-use Rattle.plain_board.proofs.Lists.{same-or-other, raised}
-use Rattle.board_face.proofs.LiesLemmas.{total-at}
-use Rattle.plain_board.proofs.OwnSide.{seen-count, seen-users, nothing-listed}
-use Rattle.plain_board.proofs.Reserves.{reserve-own}
+use Rattle.plain_board.{specs.{Stand.{Arrays, Stand, setting_of, others_of, byte_of}, Seen.{IsSeenBy}, Sound.{IsSound, IsAtRest}}, proofs.Lists.{same-or-other, raised}}
+use Rattle.plain_board.proofs.{OwnSide.{seen-count, seen-users, nothing-listed}, Reserves.{reserve-own}}
 use Rattle.plain_board.proofs.AppFrames.{has-setting, IsSet-app, was-at_rest, AreCounted-app, was-returned, AreRelayed-kept, was-relayed, returns-app, pools}
 use Rattle.plain_board.proofs.AppFrames.{was-returns, AreFlags-kept, free_places-side, times_used, times_picked-app, AreDue-app, was-given, AreBooked-app}
 use Rattle.plain_board.proofs.AppFrames.{was-booked_loans, was-booked_raw, ArePhased-app, was-phased, was-own, OwnBuffers-app}
-use Rattle.board_face.proofs.Counting.{weight-other, weight-swap, count-push, once-taken, All-none}
 
 -- ---- the free list
 

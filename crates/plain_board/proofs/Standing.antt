@@ -1,20 +1,10 @@
 -- A loan's text is what was sent with its note, which later notes don't change, and both boards show it.
-use Rattle.std.proofs.Common.{◌≡◌, ℕ, zero, suc, ◌<◌, List, [], ◌∷◌, ◌++◌, length, take, drop, get_or, refl, ap, sym, ◌∙◌, subst}
-use Rattle.std.proofs.Common.{arith, ⊎_elim}
-use Rattle.std.proofs.lemmas.Bool.{cases_lt}
-use Rattle.board_face.specs.Holders.{sent_to}
-use Rattle.board_face.specs.Shown.{IsShown, AppIsShown, bytes_sent, origin_bytes, text_of, owed_loans}
-use Rattle.board_face.specs.Sides.{IsApp}
-use Rattle.board_face.specs.declared.views.nic.SentNote.{SentNote}
-use Rattle.board_face.specs.declared.views.app.Origin.{Origin}
-use Rattle.board_face.specs.declared.views.app.Origin.TheVariants.{Note as of_note, Copied as of_copy}
-use Rattle.board_face.specs.declared.views.app.LentPiece.{LentPiece}
-use Rattle.board_face.specs.declared.views.app.AppSide.{AppSide}
-use Rattle.board_face.proofs.RelayLemmas.{bytes_sent-past, take-drop-none}
-use Rattle.plain_board.specs.Stand.{Stand, byte_of}
-use Rattle.plain_board.specs.Sound.{IsSound}
-use Rattle.plain_board.specs.Lent.{IsLent, LentTextsStand}
-use Rattle.std.proofs.lemmas.List.Elements.{All-contains}
+use Rattle.std.proofs.Common.{◌≡◌, ℕ, zero, suc, ◌<◌, List, [], ◌∷◌, ◌++◌, length, take, drop, get_or, refl, ap, sym, ◌∙◌, subst, arith, ⊎_elim}
+use Rattle.std.proofs.lemmas.{Bool.{cases_lt}, List.Elements.{All-contains}}
+use Rattle.board_face.specs.{Holders.{sent_to}, Shown.{IsShown, AppIsShown, bytes_sent, origin_bytes, text_of, owed_loans}, Sides.{IsApp}}
+use Rattle.board_face.specs.declared.views.{nic.SentNote.{SentNote}, app.{Origin.{Origin, TheVariants.{Note as of_note, Copied as of_copy}}, LentPiece.{LentPiece}}}
+use Rattle.board_face.{specs.declared.views.app.AppSide.{AppSide}, proofs.RelayLemmas.{bytes_sent-past, take-drop-none}}
+use Rattle.plain_board.specs.{Stand.{Stand, byte_of}, Sound.{IsSound}, Lent.{IsLent, LentTextsStand}}
 
 bytes_sent-more : (k : ℕ) (notes more : List SentNote) → k < length notes → bytes_sent k (notes ++ more) ≡ bytes_sent k notes
 bytes_sent-more k [] more within = absurd (omega arith)

@@ -1,25 +1,11 @@
 -- Events of the card that move no buffer, no note and no entry.
-use Rattle.std.proofs.Common.{◌≡◌, ℕ, Bool, true, false, List, [], ◌∷◌, ◌++◌, refl, ap, sym, ◌∙◌, subst, arith}
-use Rattle.std.specs.Prelude.{◌==◌, if◌then◌else◌}
-use Rattle.board_face.specs.NicEvents.{nic_ended, saw_leave, nic_saw}
-use Rattle.board_face.specs.declared.views.nic.NicLook.{NicLook}
-use Rattle.board_face.specs.declared.views.nic.NicLook.TheVariants.{NotLeft, HasLeft}
-use Rattle.board_face.specs.Sides.{nic_at}
-use Rattle.board_face.specs.Counts.{pool_count}
-use Rattle.board_face.specs.NicCalls.{HasNoToken}
-use Rattle.board_face.specs.declared.views.nic.NicView.{NicView}
-use Rattle.board_face.specs.declared.views.nic.NicSide.{NicSide}
-use Rattle.board_face.specs.declared.views.app.AppSide.{AppSide}
-use Rattle.board_face.proofs.NicLemmas.{pool_count-nic}
-use Rattle.board_face.proofs.FreeLemmas.{free_places-nic}
-use Rattle.board_face.proofs.Parts.{nic_count}
-use Rattle.board_face.proofs.FillingsFitLemmas.{FillingsFit-nic}
-use Rattle.board_face.proofs.IsFilledByOneLemmas.{IsFilledByOne-nic}
-use Rattle.board_face.proofs.OwnBufferLemmas.{LieInOwn-nic}
-use Rattle.board_face.proofs.AreShownLemmas.{AreShown-nic}
+use Rattle.std.{proofs.Common.{◌≡◌, ℕ, Bool, true, false, List, [], ◌∷◌, ◌++◌, refl, ap, sym, ◌∙◌, subst, arith}, specs.Prelude.{◌==◌, if◌then◌else◌}}
+use Rattle.board_face.specs.{NicEvents.{nic_ended, saw_leave, nic_saw}, declared.views.nic.NicLook.{NicLook, TheVariants.{NotLeft, HasLeft}}, Sides.{nic_at}}
+use Rattle.board_face.specs.{Counts.{pool_count}, NicCalls.{HasNoToken}, declared.views.{nic.{NicView.{NicView}, NicSide.{NicSide}}, app.AppSide.{AppSide}}}
+use Rattle.board_face.proofs.{NicLemmas.{pool_count-nic}, FreeLemmas.{free_places-nic}, Parts.{nic_count}, FillingsFitLemmas.{FillingsFit-nic}}
+use Rattle.board_face.proofs.{IsFilledByOneLemmas.{IsFilledByOne-nic}, OwnBufferLemmas.{LieInOwn-nic}, AreShownLemmas.{AreShown-nic}}
 use Rattle.board_parts.specs.Free.{listed_in}
-use Rattle.plain_board.specs.Stand.{Stand, byte_of}
-use Rattle.plain_board.specs.Sound.{IsSound}
+use Rattle.plain_board.specs.{Stand.{Stand, byte_of}, Sound.{IsSound}}
 use Rattle.plain_board.proofs.Card.{IsSet-nic, AreCounted-same, AreRelayed-nic, AreReturns-nic, AreBooked-nic, ArePhased-nic}
 
 -- no more changed than what was seen, and whether the card ended

@@ -1,21 +1,14 @@
 -- Bytes that are stored at a place of a buffer lie there alone. The area is one list, so the same bytes are also named from
 -- each buffer before, past its end. No text lies there: so all texts stay shown, one buffer after another.
 use Rattle.std.proofs.Common.{◌≡◌, ℕ, zero, suc, ◌+◌, ◌-◌, ◌<◌, ◌≤◌, List, ◌++◌, length, take, drop, get_or, refl, ap, sym}
-use Rattle.std.proofs.Common.{◌∙◌, arith, ⊎_elim, inl, inr, append_assoc, length-append, length-take, length-drop}
-use Rattle.std.specs.Prelude.{◌⊎◌, nat_lt, if◌then◌else◌}
-use Rattle.std.proofs.lemmas.Bool.{cases_lt, lt-ltb, le-ltb}
-use Rattle.std.proofs.lemmas.List.{get_or_append_left, get_or-take, get_or-append_right, get_or-drop}
+use Rattle.std.{proofs.Common.{◌∙◌, arith, ⊎_elim, inl, inr, append_assoc, length-append, length-take, length-drop}, specs.Prelude.{◌⊎◌, nat_lt, if◌then◌else◌}}
+use Rattle.std.proofs.lemmas.{Bool.{cases_lt, lt-ltb, le-ltb}, List.{get_or_append_left, get_or-take, get_or-append_right, get_or-drop}}
 use Rattle.zr_kinds.specs.declared.place.Place.{Place}
-use Rattle.area_layout.specs.Layout.{total, size_of, begin_of}
-use Rattle.area_layout.proofs.Words.{in_order}
-use Rattle.board_face.specs.Shown.{IsShown, AreShown}
-use Rattle.board_face.specs.declared.views.nic.NicSide.{NicSide}
-use Rattle.board_face.specs.declared.views.app.AppSide.{AppSide}
-use Rattle.board_face.proofs.StoresAtLemmas.{StoresAt, HasNoText, HasNoText-behind}
-use Rattle.board_face.proofs.AreShownLemmas.{AreShown-stored_at}
+use Rattle.area_layout.{specs.Layout.{total, size_of, begin_of}, proofs.Words.{in_order}}
+use Rattle.board_face.specs.{Shown.{IsShown, AreShown}, declared.views.{nic.NicSide.{NicSide}, app.AppSide.{AppSide}}}
+use Rattle.board_face.proofs.{StoresAtLemmas.{StoresAt, HasNoText, HasNoText-behind}, AreShownLemmas.{AreShown-stored_at}}
 use Rattle.board_parts.specs.Area.{stored}
-use Rattle.plain_board.specs.Stand.{Arrays, byte_of}
-use Rattle.plain_board.specs.Sound.{HasSizes}
+use Rattle.plain_board.specs.{Stand.{Arrays, byte_of}, Sound.{HasSizes}}
 
 -- ---- the area
 

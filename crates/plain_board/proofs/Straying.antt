@@ -1,45 +1,20 @@
 -- An entry is a stray.
 use Rattle.std.proofs.Common.{◌≡◌, ℕ, ◌+◌, ◌-◌, ◌≤◌, true, false, List, [], ◌∷◌, ◌++◌, length, set, get_or, refl, ap, sym}
-use Rattle.std.proofs.Common.{◌∙◌, subst, arith, ⊎_elim, Option, Some, None}
-use Rattle.std.specs.Prelude.{◌≢◌, count_by, ◌==◌, if◌then◌else◌, IsSome, IfSome}
-use Rattle.std.proofs.lemmas.List.{length-set}
-use Rattle.std.proofs.lemmas.List.Elements.{All-head, All-push, All-weaker, All-contains}
-use Rattle.std.proofs.lemmas.Bool.{cases_Bool, cases_lt}
-use Rattle.std.proofs.lemmas.Bool.Decides.{eqb_tells}
+use Rattle.std.{proofs.Common.{◌∙◌, subst, arith, ⊎_elim, Option, Some, None}, specs.Prelude.{◌≢◌, count_by, ◌==◌, if◌then◌else◌, IsSome, IfSome}}
+use Rattle.std.proofs.lemmas.{List.{length-set, Elements.{All-head, All-push, All-weaker, All-contains}}, Bool.{cases_Bool, cases_lt, Decides.{eqb_tells}}}
 use Rattle.zr_kinds.specs.declared.ring.Rqe.{Rqe}
 use Rattle.area_layout.specs.Layout.{total, judged}
-use Rattle.board_face.specs.NicEvents.{passed_over, looks_by_stray}
-use Rattle.board_face.specs.NicCalls.{PassedOver}
-use Rattle.board_face.specs.Looks.{NicRose}
-use Rattle.board_face.specs.Judged.{IsHonouredAsNamed}
-use Rattle.board_face.specs.declared.views.nic.NicLook.TheVariants.{NotOwed}
-use Rattle.board_face.specs.declared.views.nic.NicView.{NicView}
-use Rattle.board_face.proofs.LookLemmas.{NicRose-nic_saw}
-use Rattle.board_face.specs.Sides.{nic_at, IsApp}
-use Rattle.board_face.specs.Holders.{lowered_in_hand, owed_in}
-use Rattle.board_face.specs.Counts.{pool_count, user_count, EndedWereReturned}
-use Rattle.board_face.specs.declared.views.nic.Dealt.{Dealt}
-use Rattle.board_face.specs.declared.views.nic.Fate.TheVariants.{Stray}
-use Rattle.board_face.specs.declared.views.nic.NicSide.{NicSide}
-use Rattle.board_face.specs.declared.views.app.AppSide.{AppSide}
-use Rattle.board_face.proofs.ListLemmas.{eqb_same}
-use Rattle.board_face.proofs.NicLemmas.{pool_count-passed_over, user_count-passed_over, ended_in-passed_over}
-use Rattle.board_face.proofs.FreeLemmas.{user_count-le}
-use Rattle.board_face.proofs.FillingsFitLemmas.{FillingsFit-nic}
-use Rattle.board_face.proofs.IsFilledByOneLemmas.{IsFilledByOne-passed_over}
-use Rattle.board_face.proofs.OwnBufferLemmas.{LieInOwn-nic}
-use Rattle.board_face.proofs.AreShownLemmas.{AreShown-passed_over}
-use Rattle.board_face.proofs.Tallies.{weight}
+use Rattle.board_face.specs.{NicEvents.{passed_over, looks_by_stray}, NicCalls.{PassedOver}, Looks.{NicRose}, Judged.{IsHonouredAsNamed}}
+use Rattle.board_face.{specs.{declared.views.nic.{NicLook.TheVariants.{NotOwed}, NicView.{NicView}}, Sides.{nic_at, IsApp}}, proofs.LookLemmas.{NicRose-nic_saw}}
+use Rattle.board_face.specs.{Holders.{lowered_in_hand, owed_in}, Counts.{pool_count, user_count, EndedWereReturned}, declared.views.nic.Dealt.{Dealt}}
+use Rattle.board_face.{specs.declared.views.{nic.{Fate.TheVariants.{Stray}, NicSide.{NicSide}}, app.AppSide.{AppSide}}, proofs.ListLemmas.{eqb_same}}
+use Rattle.board_face.proofs.{NicLemmas.{pool_count-passed_over, user_count-passed_over, ended_in-passed_over}, FreeLemmas.{user_count-le}}
+use Rattle.board_face.proofs.{FillingsFitLemmas.{FillingsFit-nic}, IsFilledByOneLemmas.{IsFilledByOne-passed_over}, OwnBufferLemmas.{LieInOwn-nic}}
+use Rattle.board_face.proofs.{AreShownLemmas.{AreShown-passed_over}, Tallies.{weight}, Counting.{count-first}, Parts.{owed-count}}
 use Rattle.board_parts.specs.Counts.{user_at}
-use Rattle.plain_board.specs.Stand.{Stand, byte_of}
-use Rattle.plain_board.specs.Returns.{AreReturns, returns, abandoned_in, is_some_of, IsNamed}
-use Rattle.plain_board.specs.Sound.{IsSound, refills_of}
-use Rattle.plain_board.proofs.Card.{IsSet-nic, none-lowered}
-use Rattle.plain_board.proofs.Popping.{same-app, other-number, ring_then, AreRelayed-popped, AreBooked-popped}
-use Rattle.plain_board.proofs.Dealing.{HasFront, HasFront-relayed, AreReturns-dealt, AreReturns-other, ArePhased-dealt}
-use Rattle.plain_board.proofs.Reserves.{own-users}
-use Rattle.board_face.proofs.Counting.{count-first}
-use Rattle.board_face.proofs.Parts.{owed-count}
+use Rattle.plain_board.specs.{Stand.{Stand, byte_of}, Returns.{AreReturns, returns, abandoned_in, is_some_of, IsNamed}, Sound.{IsSound, refills_of}}
+use Rattle.plain_board.proofs.{Card.{IsSet-nic, none-lowered}, Popping.{same-app, other-number, ring_then, AreRelayed-popped, AreBooked-popped}}
+use Rattle.plain_board.proofs.{Dealing.{HasFront, HasFront-relayed, AreReturns-dealt, AreReturns-other, ArePhased-dealt}, Reserves.{own-users}}
 
 some-of : (o : Option ℕ) → IsSome o → (i : ℕ) × (o ≡ Some i)
 some-of None h = absurd (let none : ⊥ = cc in none)

@@ -1,33 +1,17 @@
 -- A word of the free list is swept.
 use Rattle.std.proofs.Common.{◌≡◌, ℕ, zero, suc, ◌+◌, ◌*◌, ◌<◌, ◌≤◌, Bool, true, false, List, [], ◌∷◌, ◌++◌, length, refl}
 use Rattle.std.proofs.Common.{ap, sym, ◌∙◌, subst, arith, ⊎_elim, inl, inr, length-append}
-use Rattle.std.specs.Prelude.{◌⊎◌, nat_eq, count_by, ◌==◌, ◌/◌, if◌then◌else◌, All, AllPairs}
-use Rattle.std.proofs.lemmas.List.Elements.{All-nil, All-cons, All-weaker}
-use Rattle.std.proofs.lemmas.List.Kept.{AllPairs-cons}
-use Rattle.std.proofs.lemmas.Bool.{cases_lt}
-use Rattle.std.proofs.lemmas.Bool.Decides.{eqb_tells}
-use Rattle.board_face.specs.NicEvents.{swept, word_bits, cache_room}
-use Rattle.board_face.specs.NicCalls.{SweptWord, free_words_of}
-use Rattle.board_face.specs.declared.views.nic.NicLook.TheVariants.{Swept}
-use Rattle.board_face.specs.Sides.{nic_at}
-use Rattle.board_face.specs.FreeOnce.{free_places}
-use Rattle.area_layout.specs.Layout.{pool_buffers}
-use Rattle.board_face.proofs.NicLemmas.{pool_count-swept}
-use Rattle.board_face.proofs.FreeLemmas.{free_places-swept}
-use Rattle.board_face.proofs.FillingsFitLemmas.{FillingsFit-nic}
-use Rattle.board_face.proofs.IsFilledByOneLemmas.{IsFilledByOne-swept}
-use Rattle.board_face.proofs.OwnBufferLemmas.{LieInOwn-nic}
-use Rattle.board_face.proofs.AreShownLemmas.{AreShown-swept}
-use Rattle.board_face.proofs.LookLemmas.{NicRose-nic_saw}
-use Rattle.board_face.proofs.Tallies.{weight}
-use Rattle.board_parts.specs.Free.{listed_in}
-use Rattle.plain_board.specs.Stand.{Stand, byte_of}
-use Rattle.board_parts.specs.Free.{listed_from, found_in, word_len, word_end}
-use Rattle.plain_board.specs.Sound.{IsSound}
-use Rattle.plain_board.proofs.Card.{IsSet-nic, AreCounted-same, AreRelayed-nic, AreReturns-nic, AreBooked-nic, ArePhased-nic}
-use Rattle.board_parts.proofs.Moving.{length-listed_from}
+use Rattle.std.{specs.Prelude.{◌⊎◌, nat_eq, count_by, ◌==◌, ◌/◌, if◌then◌else◌, All, AllPairs}, proofs.lemmas.List.Elements.{All-nil, All-cons, All-weaker}}
+use Rattle.std.proofs.lemmas.{List.Kept.{AllPairs-cons}, Bool.{cases_lt, Decides.{eqb_tells}}}
+use Rattle.board_face.specs.{NicEvents.{swept, word_bits, cache_room}, NicCalls.{SweptWord, free_words_of}, declared.views.nic.NicLook.TheVariants.{Swept}}
+use Rattle.board_face.{specs.{Sides.{nic_at}, FreeOnce.{free_places}}, proofs.{NicLemmas.{pool_count-swept}, FreeLemmas.{free_places-swept}}}
+use Rattle.board_face.proofs.{FillingsFitLemmas.{FillingsFit-nic}, IsFilledByOneLemmas.{IsFilledByOne-swept}, OwnBufferLemmas.{LieInOwn-nic}}
+use Rattle.board_face.proofs.{AreShownLemmas.{AreShown-swept}, LookLemmas.{NicRose-nic_saw}, Tallies.{weight}}
 use Rattle.board_face.proofs.Counting.{weight-same, weight-other, count-push, count-append}
-use Rattle.plain_board.proofs.AppFrames.{pools}
+use Rattle.area_layout.specs.Layout.{pool_buffers}
+use Rattle.board_parts.{specs.Free.{listed_in, listed_from, found_in, word_len, word_end}, proofs.Moving.{length-listed_from}}
+use Rattle.plain_board.specs.{Stand.{Stand, byte_of}, Sound.{IsSound}}
+use Rattle.plain_board.proofs.{Card.{IsSet-nic, AreCounted-same, AreRelayed-nic, AreReturns-nic, AreBooked-nic, ArePhased-nic}, AppFrames.{pools}}
 use Rattle.zr_kinds.proofs.Booleans.{if-none, if-one}
 
 -- ---- the buffers found

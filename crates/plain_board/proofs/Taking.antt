@@ -1,32 +1,16 @@
 -- A buffer is taken.
 use Rattle.std.proofs.Common.{◌≡◌, ℕ, ◌+◌, ◌-◌, ◌<◌, ◌≤◌, Bool, true, false, [], ◌∷◌, ◌++◌, length, take, set, get_or, refl}
-use Rattle.std.proofs.Common.{ap, sym, ◌∙◌, arith, inl, inr, ⊎_elim, length-take, Some}
-use Rattle.std.specs.Prelude.{nat_eq, count_by, ◌==◌, if◌then◌else◌}
-use Rattle.std.proofs.lemmas.List.{length-set}
-use Rattle.std.proofs.lemmas.Bool.{cases_lt, eqb-true}
+use Rattle.std.{proofs.Common.{ap, sym, ◌∙◌, arith, inl, inr, ⊎_elim, length-take, Some}, specs.Prelude.{nat_eq, count_by, ◌==◌, if◌then◌else◌}}
+use Rattle.std.proofs.lemmas.{List.{length-set}, Bool.{cases_lt, eqb-true}}
 use Rattle.circular_buffer.specs.Buffer.{last_item}
 use Rattle.area_layout.specs.Layout.{pool_buffers, size_of}
-use Rattle.board_face.specs.Tokens.{filling}
-use Rattle.board_face.specs.NicEvents.{took, cache_room}
-use Rattle.board_face.specs.NicCalls.{IsOpen, HasNothingIn, TookBuffer}
-use Rattle.board_face.specs.Sides.{nic_at}
-use Rattle.board_face.specs.Counts.{pool_count}
-use Rattle.board_face.specs.FreeOnce.{free_places, AreFreeOnce}
-use Rattle.board_face.proofs.NicLemmas.{pool_count-took}
-use Rattle.board_face.proofs.FreeLemmas.{free_places-took}
-use Rattle.board_face.proofs.Parts.{pool_count-parts}
-use Rattle.board_face.proofs.FillingsFitLemmas.{FillingsFit-took}
-use Rattle.board_face.proofs.IsFilledByOneLemmas.{IsFilledByOne-took}
-use Rattle.board_face.proofs.OwnBufferLemmas.{LieInOwn-nic}
-use Rattle.board_face.proofs.AreShownLemmas.{AreShown-took}
-use Rattle.board_face.proofs.Tallies.{weight}
+use Rattle.board_face.specs.{Tokens.{filling}, NicEvents.{took, cache_room}, NicCalls.{IsOpen, HasNothingIn, TookBuffer}, Sides.{nic_at}, Counts.{pool_count}}
+use Rattle.board_face.{specs.FreeOnce.{free_places, AreFreeOnce}, proofs.{NicLemmas.{pool_count-took}, FreeLemmas.{free_places-took}, Parts.{pool_count-parts}}}
+use Rattle.board_face.proofs.{FillingsFitLemmas.{FillingsFit-took}, IsFilledByOneLemmas.{IsFilledByOne-took}, OwnBufferLemmas.{LieInOwn-nic}}
+use Rattle.board_face.proofs.{AreShownLemmas.{AreShown-took}, Tallies.{weight}, Counting.{once-taken, count-push, weight-same, weight-other, weight-swap, All-none}}
 use Rattle.board_parts.specs.Free.{listed_in}
-use Rattle.plain_board.specs.Stand.{Stand, byte_of}
-use Rattle.plain_board.specs.Sound.{IsSound}
-use Rattle.plain_board.proofs.Lists.{take-last, same-or-other}
-use Rattle.plain_board.proofs.AppFrames.{times_used, pools}
+use Rattle.plain_board.{specs.{Stand.{Stand, byte_of}, Sound.{IsSound}}, proofs.{Lists.{take-last, same-or-other}, AppFrames.{times_used, pools}}}
 use Rattle.plain_board.proofs.Card.{IsSet-nic, AreCounted-nic, AreRelayed-nic, AreReturns-nic, AreBooked-nic, ArePhased-open}
-use Rattle.board_face.proofs.Counting.{once-taken, count-push, weight-same, weight-other, weight-swap, All-none}
 
 -- how many elements of the free places one count stands for
 free-case : (c : Bool) (f : ℕ) → f ≡ (if c then 1 else 0) → 1 ≤ f → (c ≡ true) × (f ≡ 1)

@@ -1,26 +1,13 @@
 -- Where tokens lie: a buffer in which an application holds something has a holder, and no place is empty or ends behind it.
-use Rattle.std.proofs.Common.{◌≡◌, ℕ, zero, suc, ◌<◌, ◌≤◌, Bool, true, false, List, [], ◌∷◌, map, ap, sym, ◌∙◌, arith}
-use Rattle.std.proofs.Common.{⊎_elim}
-use Rattle.std.specs.Prelude.{◌==◌, ◌↔◌, nat_lt, Contains, IsTrue}
-use Rattle.std.proofs.lemmas.Bool.{cases_lt, lt-ltb, ltb-true, eq-eqb}
-use Rattle.std.proofs.lemmas.Bool.Decides.{eqb_tells}
+use Rattle.std.proofs.Common.{◌≡◌, ℕ, zero, suc, ◌<◌, ◌≤◌, Bool, true, false, List, [], ◌∷◌, map, ap, sym, ◌∙◌, arith, ⊎_elim}
+use Rattle.std.{specs.Prelude.{◌==◌, ◌↔◌, nat_lt, Contains, IsTrue}, proofs.lemmas.Bool.{cases_lt, lt-ltb, ltb-true, eq-eqb, Decides.{eqb_tells}}}
 use Rattle.zr_kinds.specs.declared.place.Place.{Place}
 use Rattle.area_layout.specs.Layout.{total as all_buffers, LiesIn}
-use Rattle.board_face.specs.Sides.{IsApp}
-use Rattle.board_face.specs.AppCalls.{HasHeld, HasLoan, HasSpare, IsLive}
-use Rattle.board_face.specs.Counts.{pool_count}
-use Rattle.board_face.specs.declared.views.parts.Filling.{Filling}
-use Rattle.board_face.specs.declared.views.app.LentPiece.{LentPiece}
-use Rattle.board_face.specs.declared.views.app.AppSide.{AppSide}
-use Rattle.board_face.proofs.ListLemmas.{eqb_same}
-use Rattle.board_face.proofs.Tallies.{weight, tally}
-use Rattle.board_face.proofs.Parts.{app_count, count-tally, pool_count-parts}
-use Rattle.board_face.proofs.PlaceTallies.{in_buffer, app_places}
-use Rattle.board_face.proofs.AppLemmas.{owns-without}
+use Rattle.board_face.specs.{Sides.{IsApp}, AppCalls.{HasHeld, HasLoan, HasSpare, IsLive}, Counts.{pool_count}, declared.views.parts.Filling.{Filling}}
+use Rattle.board_face.{specs.declared.views.app.{LentPiece.{LentPiece}, AppSide.{AppSide}}, proofs.{ListLemmas.{eqb_same}, Tallies.{weight, tally}}}
+use Rattle.board_face.proofs.{Parts.{app_count, count-tally, pool_count-parts}, PlaceTallies.{in_buffer, app_places}, AppLemmas.{owns-without}}
 use Rattle.board_face.proofs.LiesLemmas.{total-at, helds-at, loans-at, lies-by as place-lies}
-use Rattle.plain_board.specs.Stand.{Stand}
-use Rattle.plain_board.specs.Returns.{loans_out}
-use Rattle.plain_board.specs.Sound.{IsSound}
+use Rattle.plain_board.specs.{Stand.{Stand}, Returns.{loans_out}, Sound.{IsSound}}
 
 -- ---- one among many
 

@@ -1,15 +1,10 @@
 -- Where the counts of an application in a buffer stand: one of them raised or lowered leaves all others.
-use Rattle.std.proofs.Common.{◌≡◌, ℕ, ◌+◌, ◌*◌, ◌<◌, List, length, set, get_or, ap, sym, subst, arith, inr, ⊎_elim}
-use Rattle.std.specs.Prelude.{◌≢◌, ◌⊎◌, ◌==◌}
-use Rattle.std.proofs.lemmas.List.{get_or-set_same, get_or-set_other}
-use Rattle.std.proofs.lemmas.Nat.{mul-add-lt}
-use Rattle.std.proofs.lemmas.Bool.Decides.{eqb_tells}
+use Rattle.std.{proofs.Common.{◌≡◌, ℕ, ◌+◌, ◌*◌, ◌<◌, List, length, set, get_or, ap, sym, subst, arith, inr, ⊎_elim}, specs.Prelude.{◌≢◌, ◌⊎◌, ◌==◌}}
+use Rattle.std.proofs.lemmas.{List.{get_or-set_same, get_or-set_other}, Nat.{mul-add-lt}, Bool.Decides.{eqb_tells}}
 use Rattle.area_layout.specs.Layout.{total}
 use Rattle.board_face.proofs.Tallies.{weight}
 use Rattle.board_parts.specs.Counts.{user_at}
-use Rattle.plain_board.specs.Stand.{Stand}
-use Rattle.plain_board.specs.Sound.{IsSound}
-use Rattle.plain_board.proofs.Lists.{same-user}
+use Rattle.plain_board.{specs.{Stand.{Stand}, Sound.{IsSound}}, proofs.Lists.{same-user}}
 
 user-row : (t n a b : ℕ) → a < n → b < t → a * t + b < n * t
 user-row t n a b app within = omega (arith, mul-add-lt a t b n app within)

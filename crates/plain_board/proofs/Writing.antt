@@ -1,27 +1,13 @@
 -- An entry of a loan is written behind all that are on their way: it names the loan's buffer, and nothing before it changes.
-use Rattle.std.proofs.Common.{◌≡◌, ℕ, ◌<◌, ◌≤◌, List, [], ◌∷◌, ◌++◌, length, drop, refl, ap, sym}
-use Rattle.std.proofs.Common.{◌∙◌, arith, length-append}
-use Rattle.std.proofs.lemmas.List.{length-map}
+use Rattle.std.proofs.{Common.{◌≡◌, ℕ, ◌<◌, ◌≤◌, List, [], ◌∷◌, ◌++◌, length, drop, refl, ap, sym, ◌∙◌, arith, length-append}, lemmas.List.{length-map}}
 use Rattle.circular_buffer.specs.Buffer.{buffer}
 use Rattle.zr_kinds.specs.declared.ring.Rqe.{Rqe}
-use Rattle.board_face.specs.Relay.{Relayed, dealt_entries}
-use Rattle.board_face.specs.Sides.{IsApp}
-use Rattle.board_face.specs.Looks.{AppTold}
-use Rattle.board_face.specs.AppEvents.{app_saw, app_gist}
-use Rattle.board_face.specs.declared.views.app.AppLook.TheVariants.{RefillInUse}
-use Rattle.board_face.specs.declared.views.nic.NicSide.{NicSide}
-use Rattle.board_face.specs.declared.views.app.TakenNote.{TakenNote}
-use Rattle.board_face.specs.declared.views.app.WrittenEntry.{WrittenEntry}
-use Rattle.board_face.specs.declared.views.app.AppSide.{AppSide}
-use Rattle.board_face.proofs.LookLemmas.{AppTold-one}
+use Rattle.board_face.specs.{Relay.{Relayed, dealt_entries}, Sides.{IsApp}, Looks.{AppTold}, AppEvents.{app_saw, app_gist}}
+use Rattle.board_face.specs.declared.views.{app.{AppLook.TheVariants.{RefillInUse}, TakenNote.{TakenNote}, WrittenEntry.{WrittenEntry}}, nic.NicSide.{NicSide}}
+use Rattle.board_face.{specs.declared.views.app.AppSide.{AppSide}, proofs.{LookLemmas.{AppTold-one}, WrittenLemmas.{way-written}}}
 use Rattle.board_parts.specs.Rings.{ring_in}
-use Rattle.plain_board.specs.Stand.{Stand, others_of}
-use Rattle.plain_board.specs.Seen.{IsSeenBy}
-use Rattle.plain_board.specs.Sound.{IsSound}
-use Rattle.plain_board.proofs.AppFrames.{has-setting, was-relayed}
-use Rattle.plain_board.specs.Returns.{entries_on_way, reach_of, IsOfLoan}
-use Rattle.board_face.proofs.WrittenLemmas.{way-written}
-use Rattle.plain_board.proofs.Dealing.{entries-relayed}
+use Rattle.plain_board.{specs.{Stand.{Stand, others_of}, Seen.{IsSeenBy}, Sound.{IsSound}}, proofs.AppFrames.{has-setting, was-relayed}}
+use Rattle.plain_board.{specs.Returns.{entries_on_way, reach_of, IsOfLoan}, proofs.Dealing.{entries-relayed}}
 
 -- ---- what is on its way
 

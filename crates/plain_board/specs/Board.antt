@@ -1,17 +1,9 @@
 -- The board for one thread as its callers see it: what it is made of, and the log of its events.
 use Rattle.std.specs.Prelude.{ℕ, List, slice_set}
 use Rattle.area_layout.specs.Layout.{Shape}
-use Rattle.board_face.specs.Blank.{blank_app}
-use Rattle.board_face.specs.Laws.{AllSides}
-use Rattle.board_face.specs.Sides.{side_in}
-use Rattle.board_face.specs.declared.views.nic.NicSide.{NicSide}
-use Rattle.board_face.specs.declared.views.app.AppSide.{AppSide}
-use Rattle.event_log.specs.Logs.{Kept}
-use Rattle.event_log.specs.RunLaws.{opened_log}
-use Rattle.plain_board.specs.declared.logged.Logged.{Logged}
-use Rattle.plain_board.specs.declared.others.Applications.{Applications}
-use Rattle.plain_board.specs.declared.others.Others.{Others}
-use Rattle.plain_board.specs.Stand.{Arrays, Stand, new_stand}
+use Rattle.board_face.specs.{Blank.{blank_app}, Laws.{AllSides}, Sides.{side_in}, declared.views.{nic.NicSide.{NicSide}, app.AppSide.{AppSide}}}
+use Rattle.event_log.specs.{Logs.{Kept}, RunLaws.{opened_log}}
+use Rattle.plain_board.specs.{declared.{logged.Logged.{Logged}, others.{Applications.{Applications}, Others.{Others}}}, Stand.{Arrays, Stand, new_stand}}
 
 pub record Board : Type 0 where
   pub arrays : Arrays

@@ -1,10 +1,7 @@
 -- What a call answers for the log, beyond what its face says.
 use Rattle.std.specs.Prelude.{◌≡◌, ℕ, ◌≤◌, Bool, List, length, ⊤}
 use Rattle.zr_kinds.specs.declared.ring.Rqe.{Rqe}
-use Rattle.board_face.specs.Holders.{owed_in}
-use Rattle.board_face.specs.Laws.{TookAll, scrubbed_by}
-use Rattle.board_face.specs.NicEvents.{gave_up, honoured}
-use Rattle.board_face.specs.declared.answers.Entry.{Entry}
+use Rattle.board_face.specs.{Holders.{owed_in}, Laws.{TookAll, scrubbed_by}, NicEvents.{gave_up, honoured}, declared.answers.Entry.{Entry}}
 use Rattle.board_face.specs.declared.answers.Entry.TheVariants.{Freed, Honoured, Stray, Empty}
 use Rattle.plain_board.specs.Stand.{Stand, side_of}
 

@@ -4,8 +4,7 @@ use Rattle.area_layout.specs.Layout.{pool_buffers}
 use Rattle.board_face.specs.Counts.{pool_count, user_count}
 pub use Rattle.board_face.specs.Ended.{IsEachOnce, IsServed}
 use Rattle.board_parts.specs.Free.{listed_below}
-use Rattle.plain_board.specs.Stand.{Arrays, Stand}
-use Rattle.plain_board.specs.Sound.{IsSound}
+use Rattle.plain_board.specs.{Stand.{Arrays, Stand}, Sound.{IsSound}}
 
 -- the card ended, and every application left
 pub record IsOver (board : Stand) : Type 0 where

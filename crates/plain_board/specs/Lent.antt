@@ -1,15 +1,9 @@
 -- A lent text stands: of two boards of which one came from the other, both have the same bytes where a loan lies that is out,
 -- or still owed, on both.
 use Rattle.std.specs.Prelude.{◌≡◌, ℕ, ◌+◌, ◌<◌, ◌⊎◌, List, ◌++◌, Contains}
-use Rattle.board_face.specs.Holders.{sent_to}
-use Rattle.board_face.specs.Shown.{owed_loans}
-use Rattle.board_face.specs.Sides.{IsApp}
-use Rattle.board_face.specs.declared.views.nic.SentNote.{SentNote}
-use Rattle.board_face.specs.declared.views.nic.NicSide.{NicSide}
-use Rattle.board_face.specs.declared.views.app.LentPiece.{LentPiece}
-use Rattle.board_face.specs.declared.views.app.AppSide.{AppSide}
-use Rattle.plain_board.specs.Stand.{Stand, byte_of}
-use Rattle.plain_board.specs.Sound.{IsSound}
+use Rattle.board_face.specs.{Holders.{sent_to}, Shown.{owed_loans}, Sides.{IsApp}, declared.views.nic.{SentNote.{SentNote}, NicSide.{NicSide}}}
+use Rattle.board_face.specs.declared.views.app.{LentPiece.{LentPiece}, AppSide.{AppSide}}
+use Rattle.plain_board.specs.{Stand.{Stand, byte_of}, Sound.{IsSound}}
 
 -- the loan is out, or was given back or abandoned and is still owed
 abbrev pub IsLent : NicSide → AppSide → LentPiece → Type 0

@@ -1,8 +1,6 @@
 -- The log of a board tells of its sides.
 use Rattle.board_face.specs.Laws.{AllSides}
-use Rattle.event_log.specs.Fills.{AreShort}
-use Rattle.event_log.specs.IsLogged.{IsLogged}
-use Rattle.event_log.specs.Logs.{Kept}
+use Rattle.event_log.specs.{Fills.{AreShort}, IsLogged.{IsLogged}, Logs.{Kept}}
 
 pub record IsRecorded (sides : AllSides) (log : Kept) : Type 0 where
   pub logged : IsLogged sides log

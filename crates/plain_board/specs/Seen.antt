@@ -1,27 +1,14 @@
 -- A look is exact on this board: what a role saw is so. It is said of the board before the call that saw it.
-use Rattle.std.specs.Prelude.{◌≡◌, ℕ, ◌+◌, ◌<◌, ◌≤◌, ◌==◌, true, false, if◌then◌else◌, List, [], ◌∷◌, ◌++◌, length}
-use Rattle.std.specs.Prelude.{nat_eq, count_by, slice_set, ⊤}
+use Rattle.std.specs.Prelude.{◌≡◌, ℕ, ◌+◌, ◌<◌, ◌≤◌, ◌==◌, true, false, if◌then◌else◌, List, [], ◌∷◌, ◌++◌, length, nat_eq, count_by, slice_set, ⊤}
 use Rattle.zr_kinds.specs.declared.ring.Rqe.{Rqe}
 use Rattle.area_layout.specs.Layout.{pool_buffers}
-use Rattle.board_face.specs.Looks.{NicTold, AppTold}
-use Rattle.board_face.specs.NicEvents.{nic_gist}
-use Rattle.board_face.specs.Opened.{new_nic, new_app}
-use Rattle.board_face.specs.Holders.{on_way}
-use Rattle.board_face.specs.Counts.{pool_count, user_count}
-use Rattle.board_face.specs.Judged.{fate_of}
-use Rattle.board_face.specs.AppEvents.{app_gist, reserve_of}
-use Rattle.board_face.specs.declared.views.nic.NicLook.{NicLook}
+use Rattle.board_face.specs.{Looks.{NicTold, AppTold}, NicEvents.{nic_gist}, Opened.{new_nic, new_app}, Holders.{on_way}, Counts.{pool_count, user_count}}
+use Rattle.board_face.specs.{Judged.{fate_of}, AppEvents.{app_gist, reserve_of}, declared.views.nic.NicLook.{NicLook}}
 use Rattle.board_face.specs.declared.views.nic.NicLook.TheVariants.{RingEmpty, NoteInUse, Swept, NotLeft, HasLeft, NotOwed, Owed, LastHolder, StillHeld}
-use Rattle.board_face.specs.declared.views.nic.NicView.{NicView}
-use Rattle.board_face.specs.declared.views.nic.NicSide.{NicSide}
-use Rattle.board_face.specs.declared.views.app.AppLook.{AppLook}
-use Rattle.board_face.specs.declared.views.app.AppLook.TheVariants.{NoNote, CardEnded, RefillInUse, RawOnItsWay, NoneListed, NoSpare, NotQuiet}
-use Rattle.board_face.specs.declared.views.app.AppView.{AppView}
-use Rattle.board_face.specs.declared.views.app.AppSide.{AppSide}
-use Rattle.plain_board.specs.declared.others.Others.{Others}
-use Rattle.board_face.specs.Sides.{side_in}
-use Rattle.plain_board.specs.Stand.{Stand, side_of, others_of}
-use Rattle.plain_board.specs.Returns.{entries_on_way, is_raw}
+use Rattle.board_face.specs.declared.views.{nic.{NicView.{NicView}, NicSide.{NicSide}}, app.AppLook.{AppLook}}
+use Rattle.board_face.specs.declared.views.app.{AppLook.TheVariants.{NoNote, CardEnded, RefillInUse, RawOnItsWay, NoneListed, NoSpare, NotQuiet}, AppView.{AppView}}
+use Rattle.board_face.specs.{declared.views.app.AppSide.{AppSide}, Sides.{side_in}}
+use Rattle.plain_board.specs.{declared.others.Others.{Others}, Stand.{Stand, side_of, others_of}, Returns.{entries_on_way, is_raw}}
 
 -- ---- the card
 

@@ -1,32 +1,15 @@
 -- What holds of a board between any two calls: the arrays say what the roles did.
-use Rattle.std.specs.Prelude.{◌≡◌, ℕ, ◌*◌, ◌<◌, ◌≤◌, false, if◌then◌else◌, List, [], length, map}
-use Rattle.std.specs.Prelude.{take, All, slice_index, slice_index_or}
+use Rattle.std.specs.Prelude.{◌≡◌, ℕ, ◌*◌, ◌<◌, ◌≤◌, false, if◌then◌else◌, List, [], length, map, take, All, slice_index, slice_index_or}
 use Rattle.circular_buffer.specs.Buffer.{Buffer, buffer}
 use Rattle.zr_kinds.specs.declared.ring.Rqe.{Rqe}
 use Rattle.area_layout.specs.Layout.{IsLayout, pool_buffers, total, begin_of}
-use Rattle.board_face.specs.NicEvents.{cache_room}
-use Rattle.board_face.specs.Sides.{IsApp, AreNumbered}
-use Rattle.board_face.specs.Counts.{pool_count, user_count, EndedWereReturned}
-use Rattle.board_face.specs.FreeOnce.{AreFreeOnce}
-use Rattle.board_face.specs.Relay.{Relayed}
-pub use Rattle.board_face.specs.Relay.{IsProper}
-pub use Rattle.board_face.specs.Phases.{IsPhased, ArePhased}
-use Rattle.board_face.specs.Fillings.{FillingsFit, IsFilledByOne}
-use Rattle.board_face.specs.Shown.{AreShown}
-use Rattle.board_face.specs.Used.{HasFewPicks, PicksAreGiven}
-pub use Rattle.board_face.specs.Used.{AreKept}
-use Rattle.board_face.specs.Opened.{new_nic}
-use Rattle.board_face.specs.OwnBuffers.{LieInOwn}
-use Rattle.board_face.specs.Judged.{IsHonouredAsNamed}
-use Rattle.board_face.specs.declared.views.parts.Setting.{Setting}
-use Rattle.board_face.specs.declared.views.nic.NicSide.{NicSide}
-use Rattle.board_face.specs.declared.views.app.AppSide.{AppSide}
+use Rattle.board_face.specs.{NicEvents.{cache_room}, Sides.{IsApp, AreNumbered}, Counts.{pool_count, user_count, EndedWereReturned}, FreeOnce.{AreFreeOnce}}
+use Rattle.board_face.specs.{Relay.{Relayed}, Fillings.{FillingsFit, IsFilledByOne}, Shown.{AreShown}, Used.{HasFewPicks, PicksAreGiven}, Opened.{new_nic}}
+use Rattle.board_face.specs.{OwnBuffers.{LieInOwn}, Judged.{IsHonouredAsNamed}, declared.views.{parts.Setting.{Setting}, nic.NicSide.{NicSide}, app.AppSide.{AppSide}}}
 use Rattle.board_face.specs.declared.views.app.TakenNote.{TakenNote}
-use Rattle.board_parts.specs.declared.slots.NoteSlot.{NoteSlot}
-use Rattle.plain_board.specs.Returns.{AreReturns, entries_on_way, loans_out, reach_of}
-use Rattle.board_parts.specs.Free.{listed_in}
-use Rattle.board_parts.specs.Counts.{user_at}
-use Rattle.plain_board.specs.Stand.{Arrays, Stand, setting_of, byte_of}
+pub use Rattle.board_face.specs.{Relay.{IsProper}, Phases.{IsPhased, ArePhased}, Used.{AreKept}}
+use Rattle.board_parts.specs.{declared.slots.NoteSlot.{NoteSlot}, Free.{listed_in}, Counts.{user_at}}
+use Rattle.plain_board.specs.{Returns.{AreReturns, entries_on_way, loans_out, reach_of}, Stand.{Arrays, Stand, setting_of, byte_of}}
 
 -- The arrays have an element for each buffer, for each application, or for both.
 pub record HasSizes (arrays : Arrays) : Type 0 where

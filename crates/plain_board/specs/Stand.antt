@@ -3,15 +3,9 @@ use Rattle.std.specs.Prelude.{◌≡◌, ℕ, ◌*◌, ◌+◌, ◌≤◌, Bool,
 use Rattle.circular_buffer.specs.Buffer.{Buffer, buffer}
 use Rattle.zr_kinds.specs.declared.ring.Rqe.{Rqe}
 use Rattle.area_layout.specs.Layout.{Shape, pool_buffers, total, begin_of}
-use Rattle.board_face.specs.Laws.{AllSides}
-use Rattle.board_face.specs.Opened.{new_nic}
-use Rattle.board_face.specs.Sides.{side_in}
-use Rattle.board_face.specs.declared.views.parts.Setting.{Setting}
-use Rattle.board_face.specs.declared.views.nic.NicSide.{NicSide}
-use Rattle.board_face.specs.declared.views.app.AppSide.{AppSide}
+use Rattle.board_face.specs.{Laws.{AllSides}, Opened.{new_nic}, Sides.{side_in}, declared.views.{parts.Setting.{Setting}, nic.NicSide.{NicSide}, app.AppSide.{AppSide}}}
 use Rattle.board_face.specs.Blank.{blank_app}
-use Rattle.board_parts.specs.Opened.{new_apps}
-use Rattle.board_parts.specs.declared.slots.NoteSlot.{NoteSlot}
+use Rattle.board_parts.specs.{Opened.{new_apps}, declared.slots.NoteSlot.{NoteSlot}}
 use Rattle.plain_board.specs.declared.others.Others.{Others}
 
 -- Counts and flags, and what lies in the area and in the slots.

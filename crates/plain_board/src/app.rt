@@ -1,7 +1,5 @@
 ghost use Rattle.std.specs.Prelude.{◌≡◌, ◌<◌};
-ghost use Rattle.plain_board.specs.Board.{stand_of, sides_of};
-ghost use Rattle.plain_board.specs.Recorded.{IsRecorded};
-ghost use Rattle.plain_board.specs.Sound.{IsSound};
+ghost use Rattle.plain_board.specs.{Board.{stand_of, sides_of}, Recorded.{IsRecorded}, Sound.{IsSound}};
 
 use crate::logged::Logged;
 use crate::{Others, PlainBoard};
@@ -19,8 +17,7 @@ pub struct PlainApp {
 
 impl Model for PlainApp {
     ghost use Rattle.std.specs.Prelude.{◌<◌};
-    ghost use Rattle.plain_board.specs.Board.{Part, board_of, sides_of};
-    ghost use Rattle.plain_board.specs.Recorded.{IsRecorded};
+    ghost use Rattle.plain_board.specs.{Board.{Part, board_of, sides_of}, Recorded.{IsRecorded}};
 
     ghost Value = { Part };
 
@@ -50,8 +47,7 @@ impl PlainApp {
 }
 
 impl AppFace for PlainApp {
-    ghost use Rattle.plain_board.specs.Board.{side_of, others_of};
-    ghost use Rattle.plain_board.specs.Seen.{IsSeenBy, IsFoundLowest};
+    ghost use Rattle.plain_board.specs.{Board.{side_of, others_of}, Seen.{IsSeenBy, IsFoundLowest}};
 
     type Beside = Others;
 

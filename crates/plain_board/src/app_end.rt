@@ -1,8 +1,6 @@
 ghost use Rattle.std.specs.Prelude.{◌≡◌, ◌<◌};
-ghost use Rattle.board_face.specs.AppCalls.{IsHere, CanScrub, CanLeave};
-ghost use Rattle.board_face.specs.AppEvents.{scrubbed, left_board};
-ghost use Rattle.plain_board.specs.Events.{TookOwed};
-ghost use Rattle.plain_board.specs.Stand.{side_of, others_of};
+ghost use Rattle.board_face.specs.{AppCalls.{IsHere, CanScrub, CanLeave}, AppEvents.{scrubbed, left_board}};
+ghost use Rattle.plain_board.specs.{Events.{TookOwed}, Stand.{side_of, others_of}};
 
 use crate::contents::Contents;
 use board_parts::{note_at, put, take_back};

@@ -1,10 +1,6 @@
 ghost use Rattle.std.specs.Prelude.{◌≡◌, ◌<◌, true, false, IfErr, IsTrue, MatchBool, MatchResult};
-ghost use Rattle.board_face.specs.declared.views.app.AppLook.TheVariants.{RefillInUse, RawOnItsWay, NotQuiet};
-ghost use Rattle.board_face.specs.AppCalls.{IsHere, NamesNoLoan, AppOnlySaw};
-ghost use Rattle.board_face.specs.AppEvents.{pushed_raw, came_to_rest, fell_quiet};
-ghost use Rattle.board_face.specs.NotNow.{HasWritten, HasWrittenRingful, HasPushedRaw};
-ghost use Rattle.plain_board.specs.Stand.{side_of, others_of};
-ghost use Rattle.plain_board.specs.Seen.{AppSawSo};
+ghost use Rattle.board_face.specs.{declared.views.app.AppLook.TheVariants.{RefillInUse, RawOnItsWay, NotQuiet}, AppCalls.{IsHere, NamesNoLoan, AppOnlySaw}, AppEvents.{pushed_raw, came_to_rest, fell_quiet}, NotNow.{HasWritten, HasWrittenRingful, HasPushedRaw}};
+ghost use Rattle.plain_board.specs.{Stand.{side_of, others_of}, Seen.{AppSawSo}};
 
 use crate::contents::Contents;
 use board_parts::{note_at, put, put_back, ring_len};

@@ -1,7 +1,5 @@
 ghost use Rattle.std.specs.Prelude.{◌≡◌, ◌<◌};
-ghost use Rattle.board_face.specs.AppCalls.{IsHere, HasHeld, CanLend};
-ghost use Rattle.board_face.specs.AppEvents.{cut, released, lent};
-ghost use Rattle.board_face.specs.Texts.{front_place, rest_place};
+ghost use Rattle.board_face.specs.{AppCalls.{IsHere, HasHeld, CanLend}, AppEvents.{cut, released, lent}, Texts.{front_place, rest_place}};
 ghost use Rattle.plain_board.specs.Stand.{side_of, others_of};
 
 use crate::contents::Contents;

@@ -1,10 +1,7 @@
 ghost use Rattle.std.specs.Prelude.{◌≡◌, ◌<◌, ◌≤◌, All, IfOk};
 ghost use Rattle.run_records.specs.Setting.{most_events};
 ghost use Rattle.area_layout.specs.Layout.{pool_buffers};
-ghost use Rattle.plain_board.specs.Board.{new_board, stand_of, sides_of};
-ghost use Rattle.plain_board.specs.Finish.{IsOver, free_of, IsEachOnce, HasNoCounts, IsServed};
-ghost use Rattle.plain_board.specs.Recorded.{IsRecorded};
-ghost use Rattle.plain_board.specs.Sound.{IsSound};
+ghost use Rattle.plain_board.specs.{Board.{new_board, stand_of, sides_of}, Finish.{IsOver, free_of, IsEachOnce, HasNoCounts, IsServed}, Recorded.{IsRecorded}, Sound.{IsSound}};
 
 use crate::contents::Contents;
 use crate::logged::Logged;
@@ -24,8 +21,7 @@ pub struct PlainBoard {
 }
 
 impl Model for PlainBoard {
-    ghost use Rattle.plain_board.specs.Board.{Board, board_of, sides_of};
-    ghost use Rattle.plain_board.specs.Recorded.{IsRecorded};
+    ghost use Rattle.plain_board.specs.{Board.{Board, board_of, sides_of}, Recorded.{IsRecorded}};
 
     ghost Value = { Board };
 

@@ -1,8 +1,6 @@
 ghost use Rattle.std.specs.Prelude.{◌≡◌, ◌≢◌, ◌<◌, MatchOption};
 ghost use Rattle.board_face.specs.NicCalls.{apps_of, DealtWith};
-ghost use Rattle.plain_board.specs.Events.{IsNoReturn, GaveBack};
-ghost use Rattle.plain_board.specs.Stand.{SameBuffers};
-ghost use Rattle.plain_board.specs.Seen.{IsJudged, CardSawSo};
+ghost use Rattle.plain_board.specs.{Events.{IsNoReturn, GaveBack}, Stand.{SameBuffers}, Seen.{IsJudged, CardSawSo}};
 
 use crate::contents::Contents;
 use board_face::Entry;

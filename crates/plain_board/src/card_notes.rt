@@ -1,10 +1,5 @@
 ghost use Rattle.std.specs.Prelude.{◌≡◌, ◌<◌, false, length, IfErr, MatchBool, MatchResult};
-ghost use Rattle.board_face.specs.declared.views.nic.NicLook.TheVariants.{NoteInUse};
-ghost use Rattle.board_face.specs.NicCalls.{apps_of, IsOpen, HasPiece};
-ghost use Rattle.board_face.specs.NicEvents.{sent, sent_linear, nic_saw};
-ghost use Rattle.board_face.specs.NotNow.{HasSentRingful};
-ghost use Rattle.board_face.specs.Sides.{nic_at};
-ghost use Rattle.board_face.specs.Texts.{IsSplitNote, IsLinearNote};
+ghost use Rattle.board_face.specs.{declared.views.nic.NicLook.TheVariants.{NoteInUse}, NicCalls.{apps_of, IsOpen, HasPiece}, NicEvents.{sent, sent_linear, nic_saw}, NotNow.{HasSentRingful}, Sides.{nic_at}, Texts.{IsSplitNote, IsLinearNote}};
 ghost use Rattle.plain_board.specs.Seen.{CardSawSo};
 
 use crate::contents::Contents;

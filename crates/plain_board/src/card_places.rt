@@ -1,8 +1,5 @@
 ghost use Rattle.std.specs.Prelude.{◌≡◌, ◌+◌, ◌<◌, ◌≤◌, length};
-ghost use Rattle.board_face.specs.NicCalls.{IsOpen, HasOwn};
-ghost use Rattle.board_face.specs.NicEvents.{placed};
-ghost use Rattle.board_face.specs.Sides.{nic_at};
-ghost use Rattle.board_face.specs.Tokens.{filled_by, next_place};
+ghost use Rattle.board_face.specs.{NicCalls.{IsOpen, HasOwn}, NicEvents.{placed}, Sides.{nic_at}, Tokens.{filled_by, next_place}};
 
 use crate::contents::Contents;
 use board_face::{Filling, Own, Piece};

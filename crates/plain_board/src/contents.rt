@@ -1,13 +1,7 @@
-ghost use Rattle.std.specs.Prelude.{◌≡◌, ℕ, ◌/◌, ◌<◌, ◌≤◌, [], false, length, slice_index, ◌==◌, MatchOption};
-ghost use Rattle.std.specs.Prelude.{MatchBool, IfOk, IfSome};
-ghost use Rattle.board_face.specs.Counts.{pool_count};
-ghost use Rattle.board_face.specs.NicCalls.{apps_of, IsOpen, HasOwn, HasNoToken, TookBuffer, SweptWord, free_words_of, lost_of, sent_unsplit_bytes};
-ghost use Rattle.board_face.specs.NicEvents.{word_bits, shut, nic_ended, saw_leave, nic_saw};
-ghost use Rattle.board_face.specs.declared.views.nic.NicLook.TheVariants.{NotLeft};
-ghost use Rattle.board_face.specs.Sides.{nic_at};
+ghost use Rattle.std.specs.Prelude.{◌≡◌, ℕ, ◌/◌, ◌<◌, ◌≤◌, [], false, length, slice_index, ◌==◌, MatchOption, MatchBool, IfOk, IfSome};
+ghost use Rattle.board_face.specs.{Counts.{pool_count}, NicCalls.{apps_of, IsOpen, HasOwn, HasNoToken, TookBuffer, SweptWord, free_words_of, lost_of, sent_unsplit_bytes}, NicEvents.{word_bits, shut, nic_ended, saw_leave, nic_saw}, declared.views.nic.NicLook.TheVariants.{NotLeft}, Sides.{nic_at}};
 ghost use Rattle.board_parts.specs.Free.{listed_in};
-ghost use Rattle.plain_board.specs.Stand.{new_stand};
-ghost use Rattle.plain_board.specs.Seen.{CardSawSo};
+ghost use Rattle.plain_board.specs.{Stand.{new_stand}, Seen.{CardSawSo}};
 
 use area_layout::Layout;
 use board_face::{AppSide, NicSide, Own};
@@ -50,8 +44,7 @@ pub struct Contents {
 }
 
 impl Model for Contents {
-    ghost use Rattle.plain_board.specs.Stand.{Stand, HasRoom};
-    ghost use Rattle.plain_board.specs.Sound.{IsSound};
+    ghost use Rattle.plain_board.specs.{Stand.{Stand, HasRoom}, Sound.{IsSound}};
     ghost use Rattle.std.specs.Prelude.{vec_capacity};
 
     ghost Value = { Stand };

@@ -1,12 +1,7 @@
 ghost use Rattle.std.specs.Prelude.{◌≡◌, ◌≢◌, ℕ, ◌/◌, ◌<◌, ◌≤◌, false, length};
-ghost use Rattle.board_face.specs.NicCalls.{apps_of, free_words_of, lost_of, sent_unsplit_bytes, SweptWord, DealtWith};
-ghost use Rattle.board_face.specs.NicEvents.{word_bits};
+ghost use Rattle.board_face.specs.{NicCalls.{apps_of, free_words_of, lost_of, sent_unsplit_bytes, SweptWord, DealtWith}, NicEvents.{word_bits}};
 ghost use Rattle.board_parts.specs.Free.{listed_in};
-ghost use Rattle.plain_board.specs.Board.{stand_of, sides_of, applications_of};
-ghost use Rattle.plain_board.specs.Recorded.{IsRecorded};
-ghost use Rattle.plain_board.specs.Stand.{SameBuffers};
-ghost use Rattle.plain_board.specs.Sound.{IsSound};
-ghost use Rattle.plain_board.specs.Seen.{IsSeenByCard, IsJudged, CardSawSo};
+ghost use Rattle.plain_board.specs.{Board.{stand_of, sides_of, applications_of}, Recorded.{IsRecorded}, Stand.{SameBuffers}, Sound.{IsSound}, Seen.{IsSeenByCard, IsJudged, CardSawSo}};
 
 use crate::logged::Logged;
 use crate::{Applications, PlainBoard};
@@ -22,8 +17,7 @@ pub struct PlainNic {
 }
 
 impl Model for PlainNic {
-    ghost use Rattle.plain_board.specs.Board.{Board, board_of, sides_of};
-    ghost use Rattle.plain_board.specs.Recorded.{IsRecorded};
+    ghost use Rattle.plain_board.specs.{Board.{Board, board_of, sides_of}, Recorded.{IsRecorded}};
 
     ghost Value = { Board };
 
@@ -50,8 +44,7 @@ impl PlainNic {
 }
 
 impl NicFace for PlainNic {
-    ghost use Rattle.plain_board.specs.Board.{applications_of};
-    ghost use Rattle.plain_board.specs.Seen.{IsSeenByCard};
+    ghost use Rattle.plain_board.specs.{Board.{applications_of}, Seen.{IsSeenByCard}};
 
     type Beside = Applications;
 

@@ -1,7 +1,6 @@
 ghost use Rattle.std.specs.Prelude.{◌≡◌, ◌<◌};
 ghost use Rattle.area_layout.specs.Layout.{total, off_of};
-ghost use Rattle.board_face.specs.AppCalls.{HasPlace};
-ghost use Rattle.board_face.specs.AppEvents.{reserve_of};
+ghost use Rattle.board_face.specs.{AppCalls.{HasPlace}, AppEvents.{reserve_of}};
 ghost use Rattle.plain_board.specs.Stand.{side_of};
 
 use crate::contents::Contents;

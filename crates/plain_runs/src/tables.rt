@@ -1,8 +1,7 @@
 //! Tables of calls on a board that was just opened, and callers that are generic over boards.
 
 ghost use Rattle.std.specs.Prelude.{◌≤◌};
-ghost use Rattle.face_table.specs.CardHand.{IsCardHand};
-ghost use Rattle.face_table.specs.AppHand.{IsAppHand};
+ghost use Rattle.face_table.specs.{CardHand.{IsCardHand}, AppHand.{IsAppHand}};
 ghost use Rattle.plain_board.specs.Board.{side_of};
 
 use area_layout::Layout;

@@ -1,16 +1,10 @@
 -- Plays of a board in tests: what stands between two steps.
-use Rattle.std.proofs.Common.{◌≡◌, ℕ, zero, suc, refl, sym, ◌∙◌, ap, false, ⊎_elim}
-use Rattle.std.specs.Prelude.{slice_index_or, slice_set, ◌≢◌}
-use Rattle.std.proofs.lemmas.Bool.{cases_eq}
+use Rattle.std.{proofs.{Common.{◌≡◌, ℕ, zero, suc, refl, sym, ◌∙◌, ap, false, ⊎_elim}, lemmas.Bool.{cases_eq}}, specs.Prelude.{slice_index_or, slice_set, ◌≢◌}}
 use Rattle.std.proofs.lemmas.List.{get_or-set_other}
-use Rattle.board_face.specs.AppCalls.{IsHere}
-use Rattle.board_face.specs.NicCalls.{IsOpen, HasNoToken}
-use Rattle.board_face.specs.declared.views.parts.Setting.{Setting}
-use Rattle.board_face.specs.declared.views.app.AppView.{AppView}
-use Rattle.face_callers.specs.Reader.{HasNothing}
-use Rattle.board_face.specs.Blank.{blank_app}
-use Rattle.board_parts.specs.Opened.{new_apps}
+use Rattle.board_face.specs.{AppCalls.{IsHere}, NicCalls.{IsOpen, HasNoToken}, declared.views.{parts.Setting.{Setting}, app.AppView.{AppView}}, Blank.{blank_app}}
 use Rattle.board_face.specs.Sides.{side_in}
+use Rattle.face_callers.specs.Reader.{HasNothing}
+use Rattle.board_parts.specs.Opened.{new_apps}
 use Rattle.plain_board.specs.Board.{Board, side_of, others_of}
 
 -- An application is there, has nothing out, and hasn't scrubbed.

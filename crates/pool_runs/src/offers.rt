@@ -1,7 +1,5 @@
-ghost use Rattle.std.specs.Prelude.{◌≡◌, ◌<◌, ◌≤◌};
-ghost use Rattle.std.proofs.Props.{props};
-ghost use Rattle.board_face.specs.AppCalls.{IsHere, CanLend};
-ghost use Rattle.board_face.specs.NicCalls.{IsOpen};
+ghost use Rattle.std.{specs.Prelude.{◌≡◌, ◌<◌, ◌≤◌}, proofs.Props.{props}};
+ghost use Rattle.board_face.specs.{AppCalls.{IsHere, CanLend}, NicCalls.{IsOpen}};
 ghost use Rattle.face_callers.specs.Reader.{HasNothing};
 ghost use Rattle.plain_board.specs.Board.{side_of};
 ghost use Rattle.page_pool.specs.Pool.{PoolStands};

@@ -1,33 +1,15 @@
 -- An application abandons a loan: it is out no more, and owed for good, so no count of holders or users changes.
 use Rattle.std.proofs.Common.{◌≡◌, ℕ, List, [], set, refl, ◌∙◌, arith, ◌<◌, ◌≤◌, length}
 use Rattle.zr_kinds.specs.declared.place.Place.{Place}
-use Rattle.board_face.specs.AppEvents.{reserve_of}
-use Rattle.board_face.specs.AppCalls.{HasLoan}
-use Rattle.board_face.specs.Counts.{pool_count, user_count, EndedWereReturned}
-use Rattle.board_face.specs.Returns.{AreReturns, loans_out}
-use Rattle.board_face.specs.Sides.{IsApp}
-use Rattle.board_face.specs.declared.views.parts.Setting.{Setting}
-use Rattle.board_face.specs.declared.views.nic.NicSide.{NicSide}
-use Rattle.board_face.specs.declared.views.app.AppSide.{AppSide}
+use Rattle.board_face.specs.{AppEvents.{reserve_of}, AppCalls.{HasLoan}, Counts.{pool_count, user_count, EndedWereReturned}, Returns.{AreReturns, loans_out}}
+use Rattle.board_face.specs.{Sides.{IsApp}, declared.views.{parts.Setting.{Setting}, nic.NicSide.{NicSide}, app.AppSide.{AppSide}}}
 use Rattle.board_face.proofs.AppLemmas.{pool_count-app, user_count-app, app_count-abandoned, user_part-abandoned, EndedWereReturned-abandoned}
-use Rattle.board_face.proofs.ArePlacedLemmas.{ArePlaced-abandoned}
-use Rattle.board_face.proofs.FillingsFitLemmas.{FillingsFit-same}
-use Rattle.board_face.proofs.IsFilledByOneLemmas.{IsFilledByOne-abandoned}
-use Rattle.board_face.proofs.MadeLastLemmas.{IsMadeLast-app}
-use Rattle.board_face.proofs.OwnBufferLemmas.{AppLiesInOwn-abandoned}
-use Rattle.board_face.proofs.PlacesByEvent.{app_places-abandoned}
-use Rattle.board_face.proofs.WrittenLemmas.{loans-fewer, returned-more, owed-more, IsClear-fewer}
-use Rattle.ref_words.specs.Words.{Words, listed_in}
-use Rattle.ref_words.specs.Rule.{RefRule}
-use Rattle.ref_words.specs.PhaseRule.{PhaseRule}
-use Rattle.ref_words.specs.PhaseSteps.{side_abandoned}
-use Rattle.ref_words.proofs.Frees.{AreKept-app, free_places-hands}
-use Rattle.ref_words.proofs.Phases.{phases-mine, phases-here}
-use Rattle.ref_words.proofs.PhasesByApp.{loan-here}
-use Rattle.ref_words.proofs.RingSteps.{rings-app}
-use Rattle.ref_words.proofs.SideSteps.{mine, SidesRule-app, own-was}
-use Rattle.ref_words.proofs.SlotSteps.{no-word, RefRule-slot}
-use Rattle.board_face.specs.Holders.{owed_in, returned_in}
+use Rattle.board_face.proofs.{ArePlacedLemmas.{ArePlaced-abandoned}, FillingsFitLemmas.{FillingsFit-same}, IsFilledByOneLemmas.{IsFilledByOne-abandoned}}
+use Rattle.board_face.proofs.{MadeLastLemmas.{IsMadeLast-app}, OwnBufferLemmas.{AppLiesInOwn-abandoned}, PlacesByEvent.{app_places-abandoned}}
+use Rattle.board_face.{proofs.WrittenLemmas.{loans-fewer, returned-more, owed-more, IsClear-fewer}, specs.Holders.{owed_in, returned_in}}
+use Rattle.ref_words.specs.{Words.{Words, listed_in}, Rule.{RefRule}, PhaseRule.{PhaseRule}, PhaseSteps.{side_abandoned}}
+use Rattle.ref_words.proofs.{Frees.{AreKept-app, free_places-hands}, Phases.{phases-mine, phases-here}, PhasesByApp.{loan-here}, RingSteps.{rings-app}}
+use Rattle.ref_words.proofs.{SideSteps.{mine, SidesRule-app, own-was}, SlotSteps.{no-word, RefRule-slot}}
 
 module _ (setting : Setting) (words : Words) (nic : NicSide) (apps : List AppSide) (app : AppSide) (place : Place)
     (rule : RefRule setting words nic apps) (here : IsApp apps app.view.app app) (out : HasLoan app.view place) where

@@ -1,22 +1,10 @@
 -- What an application has in hand, what it picked and which words of the free list it looked at are all that changes.
 use Rattle.std.proofs.Common.{◌≡◌, ℕ, List, set, refl, arith}
-use Rattle.board_face.specs.Sides.{IsApp}
-use Rattle.board_face.specs.AppEvents.{reserve_of}
-use Rattle.board_face.specs.Counts.{pool_count, user_count, EndedWereReturned}
-use Rattle.board_face.specs.Used.{HasFewPicks}
-use Rattle.board_face.specs.declared.views.parts.Setting.{Setting}
-use Rattle.board_face.specs.declared.views.nic.NicSide.{NicSide}
-use Rattle.board_face.specs.declared.views.app.AppSide.{AppSide}
-use Rattle.board_face.proofs.AppLemmas.{pool_count-app, user_count-app}
-use Rattle.board_face.proofs.ArePlacedLemmas.{ArePlaced-app}
-use Rattle.board_face.proofs.MadeLastLemmas.{IsMadeLast-app}
-use Rattle.board_face.proofs.IsFilledByOneLemmas.{IsFilledByOne-app}
+use Rattle.board_face.specs.{Sides.{IsApp}, AppEvents.{reserve_of}, Counts.{pool_count, user_count, EndedWereReturned}, Used.{HasFewPicks}}
+use Rattle.board_face.{specs.declared.views.{parts.Setting.{Setting}, nic.NicSide.{NicSide}, app.AppSide.{AppSide}}, proofs.AppLemmas.{pool_count-app, user_count-app}}
+use Rattle.board_face.proofs.{ArePlacedLemmas.{ArePlaced-app}, MadeLastLemmas.{IsMadeLast-app}, IsFilledByOneLemmas.{IsFilledByOne-app}}
 use Rattle.board_face.proofs.FillingsFitLemmas.{FillingsFit-same}
-use Rattle.ref_words.specs.Words.{Words}
-use Rattle.ref_words.specs.Rule.{RefRule}
-use Rattle.ref_words.specs.Sides.{SidesRule}
-use Rattle.ref_words.proofs.RingSteps.{AllRings, rings-app}
-use Rattle.ref_words.proofs.SideSteps.{own-was, SidesRule-app, mine}
+use Rattle.ref_words.{specs.{Words.{Words}, Rule.{RefRule}, Sides.{SidesRule}}, proofs.{RingSteps.{AllRings, rings-app}, SideSteps.{own-was, SidesRule-app, mine}}}
 
 module _ (setting : Setting) (words : Words) (nic : NicSide) (apps : List AppSide) (a : ℕ) (app : AppSide) (rule : RefRule setting words nic apps)
     (here : IsApp apps a app) (picked hands without : List ℕ) where

@@ -1,24 +1,11 @@
 -- What an application has seen, what it knows of its slots and its reserve, and whether it was told the end or left, are all that changes.
-use Rattle.std.proofs.Common.{◌≡◌, ℕ, true, List, [], set, refl, sym, arith, subst, ◌<◌}
-use Rattle.std.specs.Prelude.{All}
-use Rattle.board_face.specs.Sides.{IsApp}
-use Rattle.board_face.specs.AppEvents.{reserve_of}
-use Rattle.board_face.specs.Returns.{IsOfLoan, entries_on_way}
-use Rattle.board_face.specs.Counts.{pool_count, EndedWereReturned}
-use Rattle.board_face.specs.declared.views.parts.Setting.{Setting}
-use Rattle.board_face.specs.declared.views.nic.NicSide.{NicSide}
-use Rattle.board_face.specs.declared.views.app.AppSide.{AppSide}
-use Rattle.board_face.proofs.AppLemmas.{pool_count-app, user_count-app}
-use Rattle.board_face.proofs.ArePlacedLemmas.{ArePlaced-app}
-use Rattle.board_face.proofs.MadeLastLemmas.{IsMadeLast-app}
-use Rattle.board_face.proofs.IsFilledByOneLemmas.{IsFilledByOne-app}
+use Rattle.std.{proofs.Common.{◌≡◌, ℕ, true, List, [], set, refl, sym, arith, subst, ◌<◌}, specs.Prelude.{All}}
+use Rattle.board_face.specs.{Sides.{IsApp}, AppEvents.{reserve_of}, Returns.{IsOfLoan, entries_on_way}, Counts.{pool_count, EndedWereReturned}}
+use Rattle.board_face.{specs.declared.views.{parts.Setting.{Setting}, nic.NicSide.{NicSide}, app.AppSide.{AppSide}}, proofs.AppLemmas.{pool_count-app, user_count-app}}
+use Rattle.board_face.proofs.{ArePlacedLemmas.{ArePlaced-app}, MadeLastLemmas.{IsMadeLast-app}, IsFilledByOneLemmas.{IsFilledByOne-app}}
 use Rattle.board_face.proofs.FillingsFitLemmas.{FillingsFit-same}
-use Rattle.ref_words.specs.Words.{Words, listed_in}
-use Rattle.ref_words.specs.Rule.{RefRule}
-use Rattle.ref_words.proofs.RingSteps.{AllRings}
-use Rattle.ref_words.proofs.SlotSteps.{DifferInSlots, RefRule-slot}
-use Rattle.ref_words.proofs.Frees.{AreKept-app, free_places-hands}
-use Rattle.ref_words.proofs.SideSteps.{own-was, SidesRule-app, mine}
+use Rattle.ref_words.{specs.{Words.{Words, listed_in}, Rule.{RefRule}}, proofs.{RingSteps.{AllRings}, SlotSteps.{DifferInSlots, RefRule-slot}}}
+use Rattle.ref_words.proofs.{Frees.{AreKept-app, free_places-hands}, SideSteps.{own-was, SidesRule-app, mine}}
 
 -- the application's side with no other change
 abbrev pub like-of : AppSide → AppSide → AppSide

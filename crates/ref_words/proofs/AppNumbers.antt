@@ -1,13 +1,9 @@
 -- A look of an application, whatever it sees, leaves the application's number.
 use Rattle.std.proofs.Common.{◌≡◌, ℕ, zero, suc, List, Bool, true, false, if◌then◌else◌, refl}
 use Rattle.zr_kinds.specs.declared.place.Place.{Place}
-use Rattle.board_face.specs.AppEvents.{app_saw, told_end}
-use Rattle.board_face.specs.SlotSteps.{side_refill_looked, side_slot_looked}
-use Rattle.board_face.specs.declared.views.app.AppLook.TheVariants.{NoNote}
+use Rattle.board_face.specs.{AppEvents.{app_saw, told_end}, SlotSteps.{side_refill_looked, side_slot_looked}, declared.views.app.AppLook.TheVariants.{NoNote}}
 use Rattle.board_face.specs.declared.views.app.AppSide.{AppSide}
-use Rattle.ref_words.specs.AreaSteps.{side_loaded}
-use Rattle.ref_words.specs.FreeSteps.{side_word_looked, side_bit_cleared}
-use Rattle.ref_words.specs.RestSteps.{side_raw_looked, side_any_looked, side_last_looked}
+use Rattle.ref_words.specs.{AreaSteps.{side_loaded}, FreeSteps.{side_word_looked, side_bit_cleared}, RestSteps.{side_raw_looked, side_any_looked, side_last_looked}}
 use Rattle.ref_words.specs.PhaseSteps.{side_end_looked, side_note_sought, side_reserve_looked}
 
 pub refill_looked-number : (app : AppSide) (saw : Bool) → (side_refill_looked app saw).view.app ≡ app.view.app

@@ -1,25 +1,13 @@
 -- An application looks at its next slots, stores words of entries and loads words of notes.
-use Rattle.std.proofs.Common.{◌≡◌, ℕ, ◌+◌, ◌<◌, Bool, true, false, List, [], length}
-use Rattle.std.proofs.Common.{set, get_or, refl, sym, ◌∙◌, arith}
-use Rattle.std.proofs.Common.{mod-lt}
-use Rattle.std.specs.Prelude.{◌==◌}
-use Rattle.std.proofs.lemmas.Bool.{eqb-true}
-use Rattle.std.proofs.lemmas.List.Elements.{All-weaker}
-use Rattle.board_face.specs.Sides.{IsApp}
-use Rattle.board_face.specs.SlotSteps.{side_refill_looked, side_refill_stored, side_slot_looked, side_slot_loaded}
-use Rattle.board_face.specs.declared.views.parts.Setting.{Setting}
-use Rattle.board_face.specs.declared.views.nic.NicSide.{NicSide}
-use Rattle.board_face.specs.declared.views.app.AppSide.{AppSide}
+use Rattle.std.{proofs.Common.{◌≡◌, ℕ, ◌+◌, ◌<◌, Bool, true, false, List, [], length, set, get_or, refl, sym, ◌∙◌, arith, mod-lt}, specs.Prelude.{◌==◌}}
+use Rattle.std.proofs.lemmas.{Bool.{eqb-true}, List.Elements.{All-weaker}}
+use Rattle.board_face.specs.{Sides.{IsApp}, SlotSteps.{side_refill_looked, side_refill_stored, side_slot_looked, side_slot_loaded}}
+use Rattle.board_face.specs.declared.views.{parts.Setting.{Setting}, nic.NicSide.{NicSide}, app.AppSide.{AppSide}}
 use Rattle.word_rings.specs.Slots.{note_width, refill_width}
-use Rattle.ref_words.specs.Words.{Words, slot_word, with_refill}
-use Rattle.ref_words.specs.Rings.{IsFreeSlot, AreRings, writes_entry_at, takes_note_at}
-use Rattle.ref_words.specs.Rule.{RefRule}
+use Rattle.ref_words.specs.{Words.{Words, slot_word, with_refill}, Rings.{IsFreeSlot, AreRings, writes_entry_at, takes_note_at}, Rule.{RefRule}}
+use Rattle.ref_words.proofs.{RingSteps.{rings-others, rings-app}, SlotWords.{ring-here, ring-other, differ-refill}, SlotSteps.{no-word, DifferInSlots}}
+use Rattle.ref_words.proofs.{AppLooks.{RefRule-app}, SideSteps.{is-app}}
 use Rattle.ref_words.proofs.Ringing as ringing
-use Rattle.ref_words.proofs.RingSteps.{rings-others, rings-app}
-use Rattle.ref_words.proofs.SlotWords.{ring-here, ring-other, differ-refill}
-use Rattle.ref_words.proofs.SlotSteps.{no-word, DifferInSlots}
-use Rattle.ref_words.proofs.AppLooks.{RefRule-app}
-use Rattle.ref_words.proofs.SideSteps.{is-app}
 
 module _ (setting : Setting) (words : Words) (nic : NicSide) (apps : List AppSide) (app : AppSide) (rule : RefRule setting words nic apps)
     (here : IsApp apps app.view.app app) where

@@ -1,33 +1,15 @@
 -- An application stores a word of a spare, or loads one for a read: counts, the free list and the slots have nothing to do with it.
-use Rattle.std.proofs.Common.{◌≡◌, ℕ, ◌<◌, ◌≤◌, List, length, set, refl, sym, subst, arith}
-use Rattle.std.specs.Prelude.{Option, None}
+use Rattle.std.{proofs.Common.{◌≡◌, ℕ, ◌<◌, ◌≤◌, List, length, set, refl, sym, subst, arith}, specs.Prelude.{Option, None}}
 use Rattle.std.proofs.lemmas.List.{set-set, get_or-set_same, length-set}
-use Rattle.board_face.specs.AppCalls.{HasSpare}
-use Rattle.board_face.specs.AppEvents.{filled, reserve_of}
-use Rattle.board_face.specs.Counts.{pool_count, EndedWereReturned}
-use Rattle.board_face.specs.Fillings.{IsFilledByOne, FillingsFit}
-use Rattle.board_face.specs.Places.{ArePlaced, IsMadeLast}
-use Rattle.board_face.specs.Sides.{IsApp, app_at}
-use Rattle.board_face.specs.declared.views.parts.Setting.{Setting}
-use Rattle.board_face.specs.declared.views.parts.Filling.{Filling}
-use Rattle.board_face.specs.declared.views.parts.Making.{Making}
-use Rattle.board_face.specs.declared.views.nic.NicSide.{NicSide}
-use Rattle.board_face.specs.declared.views.app.Reading.{Reading}
-use Rattle.board_face.specs.declared.views.app.AppSide.{AppSide}
-use Rattle.board_face.proofs.AppLemmas.{pool_count-app, user_count-app, app_count-filled}
-use Rattle.board_face.proofs.Parts.{app_count}
-use Rattle.board_face.proofs.ArePlacedLemmas.{ArePlaced-app, ArePlaced-filled}
-use Rattle.board_face.proofs.FillingsFitLemmas.{FillingsFit-same, FillingsFit-filled}
-use Rattle.board_face.proofs.IsFilledByOneLemmas.{IsFilledByOne-app, IsFilledByOne-filled}
+use Rattle.board_face.specs.{AppCalls.{HasSpare}, AppEvents.{filled, reserve_of}, Counts.{pool_count, EndedWereReturned}, Fillings.{IsFilledByOne, FillingsFit}}
+use Rattle.board_face.specs.{Places.{ArePlaced, IsMadeLast}, Sides.{IsApp, app_at}, declared.views.parts.{Setting.{Setting}, Filling.{Filling}, Making.{Making}}}
+use Rattle.board_face.specs.declared.views.{nic.NicSide.{NicSide}, app.{Reading.{Reading}, AppSide.{AppSide}}}
+use Rattle.board_face.proofs.{AppLemmas.{pool_count-app, user_count-app, app_count-filled}, Parts.{app_count}, ArePlacedLemmas.{ArePlaced-app, ArePlaced-filled}}
+use Rattle.board_face.proofs.{FillingsFitLemmas.{FillingsFit-same, FillingsFit-filled}, IsFilledByOneLemmas.{IsFilledByOne-app, IsFilledByOne-filled}}
 use Rattle.board_face.proofs.MadeLastLemmas.{IsMadeLast-app, IsMadeLast-filled}
 use Rattle.area_layout.specs.Layout.{IsLayout}
-use Rattle.ref_words.specs.AreaSteps.{side_spare_filled}
-use Rattle.ref_words.specs.Rule.{RefRule}
-use Rattle.ref_words.specs.Words.{Words, listed_in}
-use Rattle.ref_words.proofs.Frees.{AreKept-app, free_places-hands}
-use Rattle.ref_words.proofs.RingSteps.{rings-app, rings-words}
-use Rattle.ref_words.proofs.SideSteps.{own-was, SidesRule-app, mine}
-use Rattle.ref_words.proofs.SlotSteps.{DifferInSlots, RefRule-slot, no-word}
+use Rattle.ref_words.{specs.{AreaSteps.{side_spare_filled}, Rule.{RefRule}, Words.{Words, listed_in}}, proofs.Frees.{AreKept-app, free_places-hands}}
+use Rattle.ref_words.proofs.{RingSteps.{rings-app, rings-words}, SideSteps.{own-was, SidesRule-app, mine}, SlotSteps.{DifferInSlots, RefRule-slot, no-word}}
 
 module _ (setting : Setting) (words words' : Words) (nic : NicSide) (apps : List AppSide) (a : ℕ) (app : AppSide) (rule : RefRule setting words nic apps)
     (here : IsApp apps a app) (differ : DifferInSlots setting words words') (notes : words'.notes ≡ words.notes)

@@ -1,34 +1,15 @@
 -- The card stores a word of the piece in the making: counts, the free list and the slots have nothing to do with it.
-use Rattle.std.proofs.Common.{◌≡◌, ℕ, ◌≤◌, List, length, refl, ap, sym, ◌∙◌, subst, arith}
-use Rattle.std.specs.Prelude.{All, Option, Some, None, count_by}
+use Rattle.std.{proofs.Common.{◌≡◌, ℕ, ◌≤◌, List, length, refl, ap, sym, ◌∙◌, subst, arith}, specs.Prelude.{All, Option, Some, None, count_by}}
 use Rattle.std.proofs.lemmas.List.{length-set}
 use Rattle.area_layout.specs.Layout.{total}
-use Rattle.board_face.specs.Counts.{pool_count}
-use Rattle.board_face.specs.Fillings.{is_filling, IsFilledByOne}
-use Rattle.board_face.specs.Holders.{holders_of}
-use Rattle.board_face.specs.NicEvents.{text_done}
-use Rattle.board_face.specs.Places.{ArePlaced, IsMadeLast}
-use Rattle.board_face.specs.Tokens.{next_place}
-use Rattle.board_face.specs.declared.views.parts.Setting.{Setting}
-use Rattle.board_face.specs.declared.views.parts.Filling.{Filling}
-use Rattle.board_face.specs.declared.views.parts.Making.{Making}
-use Rattle.board_face.specs.declared.views.nic.NicView.{NicView}
-use Rattle.board_face.specs.declared.views.nic.NicSide.{NicSide}
-use Rattle.board_face.specs.declared.views.app.AppSide.{AppSide}
-use Rattle.board_face.proofs.ArePlacedLemmas.{ArePlaced-making, ArePlaced-text_done}
-use Rattle.board_face.proofs.FillingsFitLemmas.{FillingsFit-making}
-use Rattle.board_face.proofs.IsFilledByOneLemmas.{IsFilledByOne-text_done}
-use Rattle.board_face.proofs.MadeLastLemmas.{IsMadeLast-making, IsMadeLast-idle}
-use Rattle.board_face.proofs.NicLemmas.{making_at, pool_count-text_done}
-use Rattle.board_face.proofs.Parts.{user_count-parts, user_part}
+use Rattle.board_face.specs.{Counts.{pool_count}, Fillings.{is_filling, IsFilledByOne}, Holders.{holders_of}, NicEvents.{text_done}, Places.{ArePlaced, IsMadeLast}}
+use Rattle.board_face.specs.{Tokens.{next_place}, declared.views.{parts.{Setting.{Setting}, Filling.{Filling}, Making.{Making}}, nic.NicView.{NicView}}}
+use Rattle.board_face.{specs.declared.views.{nic.NicSide.{NicSide}, app.AppSide.{AppSide}}, proofs.ArePlacedLemmas.{ArePlaced-making, ArePlaced-text_done}}
+use Rattle.board_face.proofs.{FillingsFitLemmas.{FillingsFit-making}, IsFilledByOneLemmas.{IsFilledByOne-text_done}}
+use Rattle.board_face.proofs.{MadeLastLemmas.{IsMadeLast-making, IsMadeLast-idle}, NicLemmas.{making_at, pool_count-text_done}, Parts.{user_count-parts, user_part}}
 use Rattle.board_face.proofs.Tallies as tallies
-use Rattle.ref_words.specs.Words.{Words, HasSizes, listed_in}
-use Rattle.ref_words.specs.Area.{with_area}
-use Rattle.ref_words.specs.Rule.{RefRule}
-use Rattle.ref_words.proofs.CardSteps.{SidesRule-card}
-use Rattle.ref_words.proofs.Frees.{AreKept-card}
-use Rattle.ref_words.proofs.RingSteps.{rings-card, rings-words}
-use Rattle.ref_words.proofs.SlotSteps.{DifferInSlots, RefRule-slot}
+use Rattle.ref_words.{specs.{Words.{Words, HasSizes, listed_in}, Area.{with_area}, Rule.{RefRule}}, proofs.{CardSteps.{SidesRule-card}, Frees.{AreKept-card}}}
+use Rattle.ref_words.proofs.{RingSteps.{rings-card, rings-words}, SlotSteps.{DifferInSlots, RefRule-slot}}
 
 -- the words with another word of the area
 pub differ-area : (setting : Setting) (words : Words) (x n : ℕ) → HasSizes setting words → DifferInSlots setting words (with_area words x n)

@@ -1,39 +1,17 @@
 -- A word of a text is stored, and the whole of the texts' part of the rule holds again.
-use Rattle.std.proofs.Common.{◌≡◌, ⊎_elim, ℕ, ◌+◌, ◌*◌, ◌<◌, ◌≤◌, List, [], ◌∷◌}
-use Rattle.std.proofs.Common.{◌++◌, length, map, set, get_or, refl, ap, sym, ◌∙◌, subst, arith}
-use Rattle.std.specs.Prelude.{All, Option, Some, None, IfSome}
-use Rattle.std.proofs.lemmas.Bool.{cases_lt}
-use Rattle.std.proofs.lemmas.List.{length_push}
+use Rattle.std.proofs.Common.{◌≡◌, ⊎_elim, ℕ, ◌+◌, ◌*◌, ◌<◌, ◌≤◌, List, [], ◌∷◌, ◌++◌, length, map, set, get_or, refl, ap, sym, ◌∙◌, subst, arith}
+use Rattle.std.{specs.Prelude.{All, Option, Some, None, IfSome}, proofs.lemmas.{Bool.{cases_lt}, List.{length_push}}}
 use Rattle.std.proofs.lemmas.List.Elements.{All-weaker, All-push, All-map, All-contains}
 use Rattle.zr_kinds.specs.declared.place.Place.{Place}
-use Rattle.area_layout.specs.Layout.{Shape, LiesIn, total}
-use Rattle.area_layout.proofs.Words.{words_apart}
-use Rattle.board_face.specs.AppCalls.{HasSpare}
-use Rattle.board_face.specs.AppEvents.{begin_place, filled, owns_without}
-use Rattle.board_face.specs.Counts.{pool_count}
-use Rattle.board_face.specs.Shown.{IsShown}
-use Rattle.board_face.specs.Sides.{IsApp, app_at}
-use Rattle.board_face.specs.Tokens.{next_place, filled_by, same_filling}
-use Rattle.board_face.specs.declared.views.parts.Setting.{Setting}
-use Rattle.board_face.specs.declared.views.parts.Filling.{Filling}
-use Rattle.board_face.specs.declared.views.parts.Making.{Making}
-use Rattle.board_face.specs.declared.views.nic.NicSide.{NicSide}
-use Rattle.board_face.specs.declared.views.app.SpareOwn.{SpareOwn}
-use Rattle.board_face.specs.declared.views.app.AppSide.{AppSide}
-use Rattle.board_face.proofs.AreShownLemmas.{AreShown-text_done}
-use Rattle.board_face.proofs.ListLemmas.{All-without}
-use Rattle.board_face.proofs.TextsByEvent.{AppIsShown-filled}
-use Rattle.word_rings.specs.Texts.{text_count, text_words}
-use Rattle.word_rings.proofs.TextWords.{length-words_of}
-use Rattle.ref_words.specs.Words.{Words}
-use Rattle.ref_words.specs.Area.{area_word, byte_in}
-use Rattle.ref_words.specs.AreaLaws.{IsMadeAt, IsMadeThere, next_word, IsLastWord}
-use Rattle.ref_words.specs.AreaSteps.{made_words, side_piece_stored, side_piece_placed, side_spare_stored, side_spare_filled}
-use Rattle.ref_words.specs.Rule.{RefRule}
-use Rattle.ref_words.specs.Sides.{SidesRule}
-use Rattle.ref_words.specs.TextRule.{IsInMaking, IsOfSpare, HasTexts, AreTexts}
-use Rattle.ref_words.proofs.AreaWords.{shown-words}
-use Rattle.ref_words.proofs.TextsByApp.{AreTexts-app, AppIsShown-inside}
+use Rattle.area_layout.{specs.Layout.{Shape, LiesIn, total}, proofs.Words.{words_apart}}
+use Rattle.board_face.specs.{AppCalls.{HasSpare}, AppEvents.{begin_place, filled, owns_without}, Counts.{pool_count}, Shown.{IsShown}, Sides.{IsApp, app_at}}
+use Rattle.board_face.specs.{Tokens.{next_place, filled_by, same_filling}, declared.views.parts.{Setting.{Setting}, Filling.{Filling}, Making.{Making}}}
+use Rattle.board_face.{specs.declared.views.{nic.NicSide.{NicSide}, app.{SpareOwn.{SpareOwn}, AppSide.{AppSide}}}, proofs.AreShownLemmas.{AreShown-text_done}}
+use Rattle.board_face.proofs.{ListLemmas.{All-without}, TextsByEvent.{AppIsShown-filled}}
+use Rattle.word_rings.{specs.Texts.{text_count, text_words}, proofs.TextWords.{length-words_of}}
+use Rattle.ref_words.specs.{Words.{Words}, Area.{area_word, byte_in}, AreaLaws.{IsMadeAt, IsMadeThere, next_word, IsLastWord}}
+use Rattle.ref_words.specs.{AreaSteps.{made_words, side_piece_stored, side_piece_placed, side_spare_stored, side_spare_filled}, Rule.{RefRule}, Sides.{SidesRule}}
+use Rattle.ref_words.{specs.TextRule.{IsInMaking, IsOfSpare, HasTexts, AreTexts}, proofs.{AreaWords.{shown-words}, TextsByApp.{AreTexts-app, AppIsShown-inside}}}
 use Rattle.ref_words.proofs.TextsByCard.{AreTexts-moved}
 use Rattle.ref_words.proofs.TextsStored as stored
 

@@ -1,16 +1,10 @@
 -- A word of the area is stored: eight bytes change, and no others. Words that are those of a text show it.
-use Rattle.std.proofs.Common.{◌≡◌, ⊎_elim, ℕ, ◌+◌, ◌*◌, ◌/◌, ◌%◌, ◌<◌, ◌≤◌, Bool, true, false, cond, List, length}
-use Rattle.std.proofs.Common.{get_or, set, refl, ap, ◌∙◌, arith}
-use Rattle.std.specs.Prelude.{◌≢◌, nat_lt, All}
-use Rattle.std.proofs.lemmas.List.{get_or-set_other, get_or_past}
-use Rattle.std.proofs.lemmas.Bool.{cases_lt, le-ltb, lt-ltb}
+use Rattle.std.proofs.Common.{◌≡◌, ⊎_elim, ℕ, ◌+◌, ◌*◌, ◌/◌, ◌%◌, ◌<◌, ◌≤◌, Bool, true, false, cond, List, length, get_or, set, refl, ap, ◌∙◌, arith}
+use Rattle.std.{specs.Prelude.{◌≢◌, nat_lt, All}, proofs.lemmas.{List.{get_or-set_other, get_or_past}, Bool.{cases_lt, le-ltb, lt-ltb}}}
 use Rattle.zr_kinds.specs.declared.place.Place.{Place}
-use Rattle.area_layout.specs.Layout.{Shape, IsLayout, total, size_of, begin_of, first_word, area_words}
-use Rattle.area_layout.proofs.Words.{in_order}
-use Rattle.board_face.specs.Shown.{IsShown}
-use Rattle.board_face.proofs.StoresAtLemmas.{StoresAt}
-use Rattle.word_rings.specs.Texts.{text_count, text_words, word_bytes}
-use Rattle.word_rings.proofs.TextWords.{text-byte}
+use Rattle.area_layout.{specs.Layout.{Shape, IsLayout, total, size_of, begin_of, first_word, area_words}, proofs.Words.{in_order}}
+use Rattle.board_face.{specs.Shown.{IsShown}, proofs.StoresAtLemmas.{StoresAt}}
+use Rattle.word_rings.{specs.Texts.{text_count, text_words, word_bytes}, proofs.TextWords.{text-byte}}
 use Rattle.ref_words.specs.Area.{area_word, byte_in}
 
 -- ---- which word

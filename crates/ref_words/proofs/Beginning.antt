@@ -1,33 +1,15 @@
 -- The card begins a piece.
-use Rattle.std.proofs.Common.{◌≡◌, ℕ, ◌+◌, ◌^◌, ◌<◌, ◌≤◌, false, List, [], refl, ap, sym, arith}
-use Rattle.std.specs.Prelude.{◌==◌, Some, None}
+use Rattle.std.{proofs.Common.{◌≡◌, ℕ, ◌+◌, ◌^◌, ◌<◌, ◌≤◌, false, List, [], refl, ap, sym, arith}, specs.Prelude.{◌==◌, Some, None}}
 use Rattle.std.proofs.lemmas.List.Elements.{All-contains}
-use Rattle.area_layout.specs.Layout.{total, pool_buffers, size_of}
-use Rattle.area_layout.proofs.Words.{words_apart}
-use Rattle.board_face.specs.NicCalls.{HasOwn}
-use Rattle.board_face.specs.Tokens.{next_place}
-use Rattle.board_face.specs.Counts.{pool_count, user_count}
-use Rattle.board_face.specs.Steps.{side_begun}
-use Rattle.board_face.specs.declared.views.parts.Setting.{Setting}
-use Rattle.board_face.specs.declared.views.parts.Filling.{Filling}
-use Rattle.board_face.specs.declared.views.nic.NicSide.{NicSide}
-use Rattle.board_face.specs.declared.views.app.AppSide.{AppSide}
-use Rattle.board_face.proofs.NicLemmas.{pool_count-begun, pool_count-shut}
-use Rattle.board_face.proofs.ArePlacedLemmas.{ArePlaced-begun}
-use Rattle.board_face.proofs.MadeLastLemmas.{IsMadeLast-begun}
-use Rattle.board_face.proofs.IsFilledByOneLemmas.{IsFilledByOne-begun}
-use Rattle.board_face.proofs.FillingsFitLemmas.{FillingsFit-begun}
-use Rattle.board_face.proofs.FewLemmas.{pool_count-few}
-use Rattle.board_face.proofs.Tallies.{weight}
+use Rattle.area_layout.{specs.Layout.{total, pool_buffers, size_of}, proofs.Words.{words_apart}}
+use Rattle.board_face.specs.{NicCalls.{HasOwn}, Tokens.{next_place}, Counts.{pool_count, user_count}, Steps.{side_begun}, declared.views.parts.Setting.{Setting}}
+use Rattle.board_face.specs.declared.views.{parts.Filling.{Filling}, nic.NicSide.{NicSide}, app.AppSide.{AppSide}}
+use Rattle.board_face.proofs.{NicLemmas.{pool_count-begun, pool_count-shut}, ArePlacedLemmas.{ArePlaced-begun}, MadeLastLemmas.{IsMadeLast-begun}}
+use Rattle.board_face.proofs.{IsFilledByOneLemmas.{IsFilledByOne-begun}, FillingsFitLemmas.{FillingsFit-begun}, FewLemmas.{pool_count-few}, Tallies.{weight}}
+use Rattle.board_face.proofs.{Parts.{user_part, user_count-parts}, Counting.{weight-other, weight-same}}
 use Rattle.board_face.proofs.Tallies as tallies
-use Rattle.board_face.proofs.Parts.{user_part, user_count-parts}
-use Rattle.ref_words.specs.Words.{Words, pool_of, listed_in}
-use Rattle.ref_words.specs.Rule.{RefRule}
-use Rattle.ref_words.proofs.RingSteps.{rings-card}
-use Rattle.ref_words.proofs.Frees.{AreFreeOnce-more, AreKept-card}
-use Rattle.ref_words.proofs.CardSteps.{SidesRule-card}
-use Rattle.ref_words.proofs.PoolSteps.{IsPoolStep}
-use Rattle.board_face.proofs.Counting.{weight-other, weight-same}
+use Rattle.ref_words.{specs.{Words.{Words, pool_of, listed_in}, Rule.{RefRule}}, proofs.{RingSteps.{rings-card}, Frees.{AreFreeOnce-more, AreKept-card}}}
+use Rattle.ref_words.proofs.{CardSteps.{SidesRule-card}, PoolSteps.{IsPoolStep}}
 
 -- a buffer within the area has so many holders at most
 pub holders-few : (setting : Setting) (words : Words) (nic : NicSide) (apps : List AppSide) (b : ℕ) → RefRule setting words nic apps

@@ -1,30 +1,14 @@
 -- Whether the card has ended, what it has seen, what it dealt with, and what it has in hand, are all that changes, and by that no more was
 -- ended than before.
 use Rattle.std.proofs.Common.{◌≡◌, ℕ, ◌+◌, ◌-◌, ◌≤◌, List, length, drop, get_or, refl, ap, sym, ◌∙◌, arith, subst}
-use Rattle.std.specs.Prelude.{◌==◌, if◌then◌else◌, Some, Contains, All}
-use Rattle.std.proofs.lemmas.List.Elements.{All-contains}
-use Rattle.board_face.specs.AppEvents.{reserve_of}
-use Rattle.board_face.specs.Holders.{ended_in, returning_count, returned_in, owed_in}
-use Rattle.board_face.specs.Counts.{pool_count, user_count, EndedWereReturned}
-use Rattle.board_face.specs.Judged.{IsHonouredAsNamed}
-use Rattle.board_face.specs.Returns.{AreReturns}
-use Rattle.board_face.specs.Sides.{IsApp}
-use Rattle.board_face.specs.declared.views.parts.Setting.{Setting}
-use Rattle.board_face.specs.declared.views.nic.EntryInHand.{EntryInHand}
-use Rattle.board_face.specs.declared.views.nic.NicSide.{NicSide}
-use Rattle.board_face.specs.declared.views.app.AppSide.{AppSide}
-use Rattle.board_face.proofs.Tallies.{total-agree}
+use Rattle.std.{specs.Prelude.{◌==◌, if◌then◌else◌, Some, Contains, All}, proofs.lemmas.List.Elements.{All-contains}}
+use Rattle.board_face.specs.{AppEvents.{reserve_of}, Holders.{ended_in, returning_count, returned_in, owed_in}, Counts.{pool_count, user_count, EndedWereReturned}}
+use Rattle.board_face.specs.{Judged.{IsHonouredAsNamed}, Returns.{AreReturns}, Sides.{IsApp}, declared.views.{parts.Setting.{Setting}, nic.EntryInHand.{EntryInHand}}}
+use Rattle.board_face.{specs.declared.views.{nic.NicSide.{NicSide}, app.AppSide.{AppSide}}, proofs.Tallies.{total-agree}}
 use Rattle.board_face.proofs.Parts.{user_part, user_count-parts, pool_count-parts, app_count, owed_count, returning_in_count, loans_in, came_back_in}
-use Rattle.board_face.proofs.ArePlacedLemmas.{ArePlaced-stretch}
-use Rattle.board_face.proofs.MadeLastLemmas.{IsMadeLast-stretch}
-use Rattle.board_face.proofs.IsFilledByOneLemmas.{IsFilledByOne-fewer}
-use Rattle.ref_words.specs.Words.{Words, listed_in}
-use Rattle.ref_words.specs.Sides.{SidesRule, IsInHand, IsDealtInOrder}
-use Rattle.ref_words.specs.Rule.{RefRule}
-use Rattle.ref_words.proofs.CardSteps.{IsScrubbedSoFar-owed, HasNoneOwed-owed}
-use Rattle.ref_words.proofs.RingSteps.{AllRings}
-use Rattle.ref_words.proofs.SlotSteps.{DifferInSlots, RefRule-slot}
-use Rattle.ref_words.proofs.Frees.{AreKept-card}
+use Rattle.board_face.proofs.{ArePlacedLemmas.{ArePlaced-stretch}, MadeLastLemmas.{IsMadeLast-stretch}, IsFilledByOneLemmas.{IsFilledByOne-fewer}}
+use Rattle.ref_words.specs.{Words.{Words, listed_in}, Sides.{SidesRule, IsInHand, IsDealtInOrder}, Rule.{RefRule}}
+use Rattle.ref_words.proofs.{CardSteps.{IsScrubbedSoFar-owed, HasNoneOwed-owed}, RingSteps.{AllRings}, SlotSteps.{DifferInSlots, RefRule-slot}, Frees.{AreKept-card}}
 
 -- the card's side with no other change
 abbrev pub like-of : NicSide → NicSide → NicSide

@@ -1,20 +1,10 @@
 -- Whether the card has ended, what it has seen, and what it has in hand, are all that changes, and no more was lowered for that than
 -- before.
-use Rattle.std.proofs.Common.{◌≡◌, ℕ, Bool, List, length, drop, refl, ap, sym, arith, subst}
-use Rattle.std.specs.Prelude.{Some}
-use Rattle.board_face.specs.Holders.{lowered_in_hand, returning_in_hand, ended_in, returning_count, returned_in, owed_in}
-use Rattle.board_face.specs.declared.views.parts.Setting.{Setting}
-use Rattle.board_face.specs.declared.views.nic.EntryInHand.{EntryInHand}
-use Rattle.board_face.specs.declared.views.nic.NicLook.{NicLook}
-use Rattle.board_face.specs.declared.views.nic.NicSide.{NicSide}
-use Rattle.board_face.specs.declared.views.app.AppSide.{AppSide}
-use Rattle.ref_words.specs.Words.{Words}
-use Rattle.ref_words.specs.Sides.{IsInHand}
-use Rattle.ref_words.specs.Rule.{RefRule}
-use Rattle.ref_words.proofs.CardSteps.{AreReturns-owed}
-use Rattle.ref_words.proofs.RingSteps.{AllRings, rings-card, rings-words}
-use Rattle.ref_words.proofs.SlotSteps.{DifferInSlots}
-use Rattle.ref_words.proofs.CardEnds.{RefRule-ended}
+use Rattle.std.{proofs.Common.{◌≡◌, ℕ, Bool, List, length, drop, refl, ap, sym, arith, subst}, specs.Prelude.{Some}}
+use Rattle.board_face.specs.{Holders.{lowered_in_hand, returning_in_hand, ended_in, returning_count, returned_in, owed_in}, declared.views.parts.Setting.{Setting}}
+use Rattle.board_face.specs.declared.views.{nic.{EntryInHand.{EntryInHand}, NicLook.{NicLook}, NicSide.{NicSide}}, app.AppSide.{AppSide}}
+use Rattle.ref_words.{specs.{Words.{Words}, Sides.{IsInHand}, Rule.{RefRule}}, proofs.{CardSteps.{AreReturns-owed}, RingSteps.{AllRings, rings-card, rings-words}}}
+use Rattle.ref_words.proofs.{SlotSteps.{DifferInSlots}, CardEnds.{RefRule-ended}}
 
 module _ (setting : Setting) (words : Words) (nic : NicSide) (apps : List AppSide) (rule : RefRule setting words nic apps) (now : NicSide)
     (same : now ≡ record {

@@ -1,41 +1,19 @@
 -- The card looks at its next slots, loads words of entries and stores words of notes.
-use Rattle.std.proofs.Common.{◌≡◌, ℕ, ◌+◌, ◌<◌, Bool, true, false, suc, ◌^◌, List, drop-cons}
-use Rattle.std.proofs.Common.{[], ◌∷◌, ◌++◌, length, drop, get_or, set, refl, ap, sym, ◌∙◌, arith}
-use Rattle.std.proofs.Common.{subst}
-use Rattle.std.proofs.Common.{mod-lt}
-use Rattle.std.specs.Prelude.{◌==◌, ◌≢◌, None, All}
-use Rattle.std.proofs.lemmas.Bool.{eqb-true}
-use Rattle.std.proofs.lemmas.List.{length-set, length_push}
+use Rattle.std.proofs.Common.{◌≡◌, ℕ, ◌+◌, ◌<◌, Bool, true, false, suc, ◌^◌, List, drop-cons, [], ◌∷◌, ◌++◌, length, drop, get_or, set, refl, ap, sym, ◌∙◌, arith}
+use Rattle.std.{proofs.{Common.{subst, mod-lt}, lemmas.{Bool.{eqb-true}, List.{length-set, length_push}}}, specs.Prelude.{◌==◌, ◌≢◌, None, All}}
 use Rattle.zr_kinds.specs.declared.ring.Rqe.{Rqe}
-use Rattle.board_face.specs.NicCalls.{apps_of}
-use Rattle.board_face.specs.Holders.{lowered_in_hand, returning_in_hand, sent_to}
-use Rattle.board_face.specs.Relay.{dealt_entries}
-use Rattle.board_face.specs.Sides.{IsApp}
-use Rattle.board_face.specs.SlotSteps.{seen_with, one_more, next_slot, side_entry_looked, side_entry_loaded, side_note_looked, side_note_stored}
-use Rattle.board_face.specs.SlotSteps.{side_in_hand}
-use Rattle.board_face.specs.Opened.{new_app}
-use Rattle.board_face.specs.Returns.{entries_on_way}
-use Rattle.board_face.specs.declared.views.nic.Judged.TheVariants.{Not}
-use Rattle.board_face.specs.declared.views.app.WrittenEntry.{WrittenEntry}
-use Rattle.board_face.specs.declared.views.parts.Setting.{Setting}
-use Rattle.board_face.specs.declared.views.parts.Slot.{Slot}
-use Rattle.board_face.specs.declared.views.nic.NicSide.{NicSide}
-use Rattle.board_face.specs.declared.views.app.AppSide.{AppSide}
+use Rattle.board_face.specs.{NicCalls.{apps_of}, Holders.{lowered_in_hand, returning_in_hand, sent_to}, Relay.{dealt_entries}, Sides.{IsApp}}
+use Rattle.board_face.specs.SlotSteps.{seen_with, one_more, next_slot, side_entry_looked, side_entry_loaded, side_note_looked, side_note_stored, side_in_hand}
+use Rattle.board_face.specs.{Opened.{new_app}, Returns.{entries_on_way}, declared.views.{nic.Judged.TheVariants.{Not}, app.WrittenEntry.{WrittenEntry}}}
+use Rattle.board_face.{specs.declared.views.{parts.{Setting.{Setting}, Slot.{Slot}}, nic.NicSide.{NicSide}, app.AppSide.{AppSide}}, proofs.SideLemmas.{IsApp-at}}
 use Rattle.word_rings.specs.Slots.{note_width, refill_width, entry_of, entry_body, pair, low_of, high_of}
-use Rattle.ref_words.specs.Words.{Words, slot_word, with_note}
-use Rattle.ref_words.specs.Sides.{IsInHand, IsFirst}
+use Rattle.ref_words.specs.{Words.{Words, slot_word, with_note}, Sides.{IsInHand, IsFirst}}
 use Rattle.ref_words.specs.Rings.{IsRing, AreLeft, EntryFits, words_of_entry, words_of_note, takes_entry_at, writes_note_at}
-use Rattle.ref_words.specs.SlotLaws.{refill_words_at, note_words_at}
-use Rattle.ref_words.specs.Rule.{RefRule}
-use Rattle.board_face.proofs.SideLemmas.{IsApp-at}
-use Rattle.ref_words.proofs.InHand.{some-is, if-none}
+use Rattle.ref_words.{specs.{SlotLaws.{refill_words_at, note_words_at}, Rule.{RefRule}}, proofs.{InHand.{some-is, if-none}, RingSteps.{AllRings, rings-card}}}
+use Rattle.ref_words.proofs.{RingMoves.{slot-here, slot-other, rings-parts}, SlotWords.{ring-here, ring-other, differ-note}, SlotSteps.{no-word, DifferInSlots}}
+use Rattle.ref_words.proofs.CardLooks.{RefRule-card}
 use Rattle.ref_words.proofs.Ringing as ringing
 use Rattle.ref_words.proofs.LeftWords as left-words
-use Rattle.ref_words.proofs.RingSteps.{AllRings, rings-card}
-use Rattle.ref_words.proofs.RingMoves.{slot-here, slot-other, rings-parts}
-use Rattle.ref_words.proofs.SlotWords.{ring-here, ring-other, differ-note}
-use Rattle.ref_words.proofs.SlotSteps.{no-word, DifferInSlots}
-use Rattle.ref_words.proofs.CardLooks.{RefRule-card}
 
 -- the entry of a slot is the one whose words it has
 entry-back : (e : Rqe) → e.len < 2 ^ 32 → e.pad < 2 ^ 32 → entry_of (1 ∷ entry_body e) ≡ e

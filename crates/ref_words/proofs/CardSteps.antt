@@ -1,21 +1,10 @@
 -- What holds of the sides holds again once the card's side changed, where it dealt with no entry.
-use Rattle.std.proofs.Common.{◌≡◌, ℕ, ◌+◌, ◌<◌, ◌≤◌, List, length, refl, ap, sym, ◌∙◌, arith, subst}
-use Rattle.std.proofs.lemmas.List.Elements.{All-weaker}
+use Rattle.std.{proofs.{Common.{◌≡◌, ℕ, ◌+◌, ◌<◌, ◌≤◌, List, length, refl, ap, sym, ◌∙◌, arith, subst}, lemmas.List.Elements.{All-weaker}}, specs.Prelude.{All}}
 use Rattle.area_layout.specs.Layout.{pool_buffers}
-use Rattle.board_face.specs.AppEvents.{reserve_of}
-use Rattle.board_face.specs.Counts.{pool_count, EndedWereReturned}
-use Rattle.board_face.specs.Places.{ArePlaced, IsMadeLast}
-use Rattle.board_face.specs.Fillings.{IsFilledByOne, FillingsFit}
-use Rattle.board_face.specs.Returns.{AreReturns}
-use Rattle.board_face.specs.Holders.{owed_in, lowered_in_hand}
-use Rattle.board_face.specs.declared.views.parts.Setting.{Setting}
-use Rattle.board_face.specs.declared.views.nic.NicSide.{NicSide}
-use Rattle.board_face.specs.declared.views.app.AppSide.{AppSide}
-use Rattle.board_face.specs.Relay.{IsProper}
-use Rattle.board_face.specs.Sides.{IsApp}
-use Rattle.ref_words.specs.Rings.{NoteFits}
-use Rattle.ref_words.specs.Sides.{SidesRule, IsTakenInOrder, IsScrubbedSoFar, HasNoneOwed}
-use Rattle.std.specs.Prelude.{All}
+use Rattle.board_face.specs.{AppEvents.{reserve_of}, Counts.{pool_count, EndedWereReturned}, Places.{ArePlaced, IsMadeLast}, Fillings.{IsFilledByOne, FillingsFit}}
+use Rattle.board_face.specs.{Returns.{AreReturns}, Holders.{owed_in, lowered_in_hand}, declared.views.{parts.Setting.{Setting}, nic.NicSide.{NicSide}}}
+use Rattle.board_face.specs.{declared.views.app.AppSide.{AppSide}, Relay.{IsProper}, Sides.{IsApp}}
+use Rattle.ref_words.specs.{Rings.{NoteFits}, Sides.{SidesRule, IsTakenInOrder, IsScrubbedSoFar, HasNoneOwed}}
 
 -- What is to be known of the card's new side, but for buffers.
 pub record IsOwnCardStep (nic now : NicSide) (apps : List AppSide) : Type 0 where

@@ -1,12 +1,7 @@
 -- Counts in a list, and what a buffer's count says of its free places.
-use Rattle.std.proofs.Common.{◌≡◌, ℕ, zero, suc, ◌+◌, ◌≤◌, Bool, true, false, List, []}
-use Rattle.std.proofs.Common.{◌∷◌, ◌++◌, length}
-use Rattle.std.proofs.Common.{refl, ap, sym, ◌∙◌, arith, cond}
+use Rattle.std.proofs.Common.{◌≡◌, ℕ, zero, suc, ◌+◌, ◌≤◌, Bool, true, false, List, [], ◌∷◌, ◌++◌, length, refl, ap, sym, ◌∙◌, arith, cond}
 use Rattle.std.specs.Prelude.{◌==◌, ◌&&◌, not, nat_eq, nat_lt, count_by, if◌then◌else◌}
-use Rattle.board_face.specs.NicEvents.{cached, cache_room}
-use Rattle.board_face.proofs.ListLemmas.{not-eqb}
-use Rattle.board_face.proofs.Tallies.{weight}
-use Rattle.board_face.proofs.Counting.{count-push}
+use Rattle.board_face.{specs.NicEvents.{cached, cache_room}, proofs.{ListLemmas.{not-eqb}, Tallies.{weight}, Counting.{count-push}}}
 
 -- a buffer that has a holder, and comes to have more, is in no free place before and after
 pub once-more : (p p' f w : ℕ) → f ≡ (if p == 0 then 1 else 0) → p' ≡ p + w → w ≤ p → f ≡ (if p' == 0 then 1 else 0)

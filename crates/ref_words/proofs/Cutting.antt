@@ -1,31 +1,14 @@
 -- An application cuts a held piece in two.
-use Rattle.std.proofs.Common.{◌≡◌, ⊎_elim, ℕ, ◌+◌, ◌<◌, ◌≤◌, List, set, refl, sym, arith}
-use Rattle.std.specs.Prelude.{◌==◌}
-use Rattle.std.proofs.lemmas.Bool.{cases_lt}
+use Rattle.std.{proofs.{Common.{◌≡◌, ⊎_elim, ℕ, ◌+◌, ◌<◌, ◌≤◌, List, set, refl, sym, arith}, lemmas.Bool.{cases_lt}}, specs.Prelude.{◌==◌}}
 use Rattle.zr_kinds.specs.declared.place.Place.{Place}
 use Rattle.area_layout.specs.Layout.{total}
-use Rattle.board_face.specs.AppEvents.{reserve_of}
-use Rattle.board_face.specs.Sides.{IsApp}
-use Rattle.board_face.specs.Counts.{pool_count, EndedWereReturned}
-use Rattle.board_face.specs.declared.views.parts.Setting.{Setting}
-use Rattle.board_face.specs.declared.views.nic.NicSide.{NicSide}
-use Rattle.board_face.specs.declared.views.app.AppSide.{AppSide}
-use Rattle.board_face.specs.AppEvents.{cut, released}
-use Rattle.board_face.specs.AppCalls.{HasHeld}
-use Rattle.board_face.specs.Sides.{app_at}
-use Rattle.board_face.proofs.AppLemmas.{pool_count-app, user_count-app, app_count-cut, app_count-released}
-use Rattle.board_face.proofs.ArePlacedLemmas.{ArePlaced-cut}
-use Rattle.board_face.proofs.MadeLastLemmas.{IsMadeLast-cut}
-use Rattle.board_face.proofs.IsFilledByOneLemmas.{IsFilledByOne-cut}
-use Rattle.board_face.proofs.FillingsFitLemmas.{FillingsFit-same}
-use Rattle.board_face.proofs.Tallies.{weight}
-use Rattle.ref_words.specs.Words.{Words, pool_of, listed_in}
-use Rattle.ref_words.specs.Rule.{RefRule}
-use Rattle.ref_words.proofs.RingSteps.{rings-app}
-use Rattle.ref_words.proofs.Frees.{AreFreeOnce-more, AreKept-app, free_places-hands}
-use Rattle.ref_words.proofs.SideSteps.{own-was, mine, SidesRule-app, in-area}
-use Rattle.ref_words.proofs.PoolSteps.{IsPoolStep}
+use Rattle.board_face.specs.{AppEvents.{reserve_of}, Sides.{IsApp}, Counts.{pool_count, EndedWereReturned}, declared.views.parts.Setting.{Setting}}
+use Rattle.board_face.specs.{declared.views.{nic.NicSide.{NicSide}, app.AppSide.{AppSide}}, AppEvents.{cut, released}, AppCalls.{HasHeld}, Sides.{app_at}}
+use Rattle.board_face.proofs.{AppLemmas.{pool_count-app, user_count-app, app_count-cut, app_count-released}, ArePlacedLemmas.{ArePlaced-cut}}
+use Rattle.board_face.proofs.{MadeLastLemmas.{IsMadeLast-cut}, IsFilledByOneLemmas.{IsFilledByOne-cut}, FillingsFitLemmas.{FillingsFit-same}, Tallies.{weight}}
 use Rattle.board_face.proofs.Counting.{weight-other, weight-same}
+use Rattle.ref_words.{specs.{Words.{Words, pool_of, listed_in}, Rule.{RefRule}}, proofs.RingSteps.{rings-app}}
+use Rattle.ref_words.proofs.{Frees.{AreFreeOnce-more, AreKept-app, free_places-hands}, SideSteps.{own-was, mine, SidesRule-app, in-area}, PoolSteps.{IsPoolStep}}
 
 module _ (setting : Setting) (words : Words) (nic : NicSide) (apps : List AppSide) (a : ℕ) (app : AppSide) (place : Place) (at : ℕ)
     (rule : RefRule setting words nic apps) (here : IsApp apps a app) (out : HasHeld app.view place) (front : 0 < at) (rest : at < place.len) where

@@ -1,44 +1,19 @@
 -- The card hands a refill slot over: the entry in hand was dealt with.
-use Rattle.std.proofs.Common.{◌≡◌, ⊎_elim, ℕ, zero, suc, ◌+◌, ◌<◌, ◌≤◌, true, add-one}
-use Rattle.std.proofs.Common.{List, [], ◌∷◌, ◌++◌, length, map, take, drop}
-use Rattle.std.proofs.Common.{get_or, refl, ap, sym, ◌∙◌, arith, subst, mod-lt}
-use Rattle.std.specs.Prelude.{◌≢◌, ◌==◌, if◌then◌else◌, filter, count_by}
-use Rattle.std.specs.List.{zip}
-use Rattle.std.proofs.lemmas.Bool.Decides.{eqb_tells}
-use Rattle.std.proofs.lemmas.List.{length-set, length_push, map-append}
-use Rattle.std.proofs.lemmas.List.Elements.{All-push, All-tail, All-weaker}
-use Rattle.zr_kinds.specs.declared.ring.Rqe.{Rqe}
+use Rattle.std.proofs.Common.{◌≡◌, ⊎_elim, ℕ, zero, suc, ◌+◌, ◌<◌, ◌≤◌, true, add-one, List, [], ◌∷◌, ◌++◌, length, map, take, drop}
+use Rattle.std.{proofs.Common.{get_or, refl, ap, sym, ◌∙◌, arith, subst, mod-lt}, specs.{Prelude.{◌≢◌, ◌==◌, if◌then◌else◌, filter, count_by}, List.{zip}}}
+use Rattle.std.proofs.lemmas.{Bool.Decides.{eqb_tells}, List.{length-set, length_push, map-append, Elements.{All-push, All-tail, All-weaker}}}
+use Rattle.zr_kinds.{specs.declared.ring.Rqe.{Rqe}, proofs.Lists.{drop-after}}
 use Rattle.area_layout.specs.Layout.{Shape}
-use Rattle.board_face.specs.NicCalls.{apps_of}
-use Rattle.board_face.specs.Holders.{is_honoured_for, lowered_in_hand, returning_in_hand, ended_in, returning_count, returned_in, owed_in}
-use Rattle.board_face.specs.Judged.{IsHonouredAsNamed}
-use Rattle.board_face.specs.Relay.{dealt_entries, IsNoLoanStray}
-use Rattle.board_face.specs.Returns.{AreReturns, IsNamed, IsOfLoan, returns, abandoned_in, entries_on_way}
-use Rattle.board_face.specs.Opened.{unseen, new_app}
-use Rattle.board_face.specs.Sides.{IsApp}
-use Rattle.board_face.specs.SlotSteps.{next_slot, side_dealt}
-use Rattle.board_face.specs.declared.views.parts.Setting.{Setting}
-use Rattle.board_face.specs.declared.views.nic.Dealt.{Dealt}
-use Rattle.board_face.specs.declared.views.nic.Fate.{Fate}
-use Rattle.board_face.specs.declared.views.nic.NicSide.{NicSide}
-use Rattle.board_face.specs.declared.views.app.WrittenEntry.{WrittenEntry}
-use Rattle.board_face.specs.declared.views.app.AppSide.{AppSide}
-use Rattle.board_face.proofs.ListLemmas.{not-eqb}
-use Rattle.board_face.proofs.SideLemmas.{IsApp-at}
-use Rattle.board_face.proofs.DealtLemmas.{length-mapped, dealt-more, dealt-same, zip-push}
-use Rattle.board_face.proofs.Parts.{count-tally}
-use Rattle.board_face.proofs.Tallies.{weight, tally-push}
-use Rattle.ref_words.specs.Words.{Words, with_refill}
-use Rattle.ref_words.specs.Rings.{IsFreeSlot, takes_entry_at}
-use Rattle.ref_words.specs.Sides.{IsFirst, IsDealtInOrder}
-use Rattle.ref_words.specs.Rule.{RefRule}
+use Rattle.board_face.specs.{NicCalls.{apps_of}, Holders.{is_honoured_for, lowered_in_hand, returning_in_hand, ended_in, returning_count, returned_in, owed_in}}
+use Rattle.board_face.specs.{Judged.{IsHonouredAsNamed}, Relay.{dealt_entries, IsNoLoanStray}}
+use Rattle.board_face.specs.{Returns.{AreReturns, IsNamed, IsOfLoan, returns, abandoned_in, entries_on_way}, Opened.{unseen, new_app}, Sides.{IsApp}}
+use Rattle.board_face.specs.{SlotSteps.{next_slot, side_dealt}, declared.views.{parts.Setting.{Setting}, nic.{Dealt.{Dealt}, Fate.{Fate}, NicSide.{NicSide}}}}
+use Rattle.board_face.{specs.declared.views.app.{WrittenEntry.{WrittenEntry}, AppSide.{AppSide}}, proofs.{ListLemmas.{not-eqb}, SideLemmas.{IsApp-at}}}
+use Rattle.board_face.proofs.{DealtLemmas.{length-mapped, dealt-more, dealt-same, zip-push}, Parts.{count-tally}, Tallies.{weight, tally-push}}
+use Rattle.ref_words.specs.{Words.{Words, with_refill}, Rings.{IsFreeSlot, takes_entry_at}, Sides.{IsFirst, IsDealtInOrder}, Rule.{RefRule}}
+use Rattle.ref_words.proofs.{RingSteps.{AllRings}, RingMoves.{slot-here, slot-other, rings-parts}, SlotWords.{ring-here, ring-other, differ-refill}}
+use Rattle.ref_words.proofs.{SlotSteps.{DifferInSlots}, CardEnds.{RefRule-ended}}
 use Rattle.ref_words.proofs.Ringing as ringing
-use Rattle.ref_words.proofs.RingSteps.{AllRings}
-use Rattle.ref_words.proofs.RingMoves.{slot-here, slot-other, rings-parts}
-use Rattle.ref_words.proofs.SlotWords.{ring-here, ring-other, differ-refill}
-use Rattle.ref_words.proofs.SlotSteps.{DifferInSlots}
-use Rattle.ref_words.proofs.CardEnds.{RefRule-ended}
-use Rattle.zr_kinds.proofs.Lists.{drop-after}
 
 pub take-next : {A B : Type 0} (f : A → B) (n : ℕ) (xs : List A) (x : A) (rest : List A) → drop n xs ≡ x ∷ rest
     → take (suc n) (map f xs) ≡ take n (map f xs) ++ f x ∷ []

@@ -1,30 +1,15 @@
 -- What the card deals with: an entry that gave a reference back, or a stray.
-use Rattle.std.proofs.Common.{◌≡◌, ⊎_elim, ℕ, ◌+◌, ◌<◌, ◌≤◌, Bool, true, false, List}
-use Rattle.std.proofs.Common.{◌∷◌, length, refl, ap, sym, ◌∙◌, arith, subst, Some, None}
-use Rattle.std.specs.Prelude.{◌==◌, ◌&&◌, if◌then◌else◌, count_by, IsSome}
-use Rattle.std.proofs.lemmas.Bool.{cases_Bool, eq-eqb}
-use Rattle.std.proofs.lemmas.List.Elements.{All-head}
+use Rattle.std.proofs.Common.{◌≡◌, ⊎_elim, ℕ, ◌+◌, ◌<◌, ◌≤◌, Bool, true, false, List, ◌∷◌, length, refl, ap, sym, ◌∙◌, arith, subst, Some, None}
+use Rattle.std.{specs.Prelude.{◌==◌, ◌&&◌, if◌then◌else◌, count_by, IsSome}, proofs.lemmas.{Bool.{cases_Bool, eq-eqb}, List.Elements.{All-head}}}
 use Rattle.zr_kinds.specs.declared.ring.Rqe.{Rqe}
 use Rattle.area_layout.specs.Layout.{judged}
-use Rattle.board_face.specs.NicCalls.{apps_of}
-use Rattle.board_face.specs.Holders.{lowered_in_hand, returning_in_hand, owed_in}
-use Rattle.board_face.specs.Returns.{IsNamed, returns, names, is_some_of, abandoned_in, entries_on_way}
-use Rattle.board_face.specs.Sides.{IsApp}
-use Rattle.board_face.specs.SlotSteps.{next_slot, side_dealt}
-use Rattle.board_face.specs.declared.views.parts.Setting.{Setting}
-use Rattle.board_face.specs.declared.views.nic.Fate.TheVariants.{Honoured, Stray}
-use Rattle.board_face.specs.declared.views.nic.Judged.{Judged}
-use Rattle.board_face.specs.declared.views.nic.Judged.TheVariants.{Not, Stray as judged_stray, BothLowered}
-use Rattle.board_face.specs.declared.views.nic.NicSide.{NicSide}
-use Rattle.board_face.specs.declared.views.app.AppSide.{AppSide}
-use Rattle.board_face.proofs.Tallies.{weight, weight-le}
-use Rattle.ref_words.specs.Words.{Words, with_refill}
-use Rattle.ref_words.specs.Rings.{takes_entry_at}
-use Rattle.ref_words.specs.Sides.{IsInHand, IsFirstRaw}
-use Rattle.ref_words.specs.Rule.{RefRule}
-use Rattle.ref_words.proofs.InHand.{in_hand, if-none}
+use Rattle.board_face.specs.{NicCalls.{apps_of}, Holders.{lowered_in_hand, returning_in_hand, owed_in}}
+use Rattle.board_face.specs.{Returns.{IsNamed, returns, names, is_some_of, abandoned_in, entries_on_way}, Sides.{IsApp}, SlotSteps.{next_slot, side_dealt}}
+use Rattle.board_face.specs.declared.views.{parts.Setting.{Setting}, nic.{Fate.TheVariants.{Honoured, Stray}, Judged.{Judged}}}
+use Rattle.board_face.specs.declared.views.{nic.{Judged.TheVariants.{Not, Stray as judged_stray, BothLowered}, NicSide.{NicSide}}, app.AppSide.{AppSide}}
+use Rattle.board_face.proofs.{Tallies.{weight, weight-le}, Counting.{count-first, weight-and}}
+use Rattle.ref_words.{specs.{Words.{Words, with_refill}, Rings.{takes_entry_at}, Sides.{IsInHand, IsFirstRaw}, Rule.{RefRule}}, proofs.InHand.{in_hand, if-none}}
 use Rattle.ref_words.proofs.Dealing.{RefRule-dealt}
-use Rattle.board_face.proofs.Counting.{count-first, weight-and}
 
 no-honour : (c : Bool) → weight (c && false) ≡ (if c then 0 else 0)
 no-honour true = refl

@@ -1,27 +1,13 @@
 -- An application looks whether the card has ended, and then at its next note slot.
-use Rattle.std.proofs.Common.{◌≡◌, ℕ, Bool, true, false, List, [], length, set, get_or, refl, sym, ◌∙◌, ap, arith, ⊎_elim}
-use Rattle.std.specs.Prelude.{◌==◌, if◌then◌else◌}
-use Rattle.std.proofs.lemmas.Bool.{eqb-true, eq-eqb, false≢true, cases_lt}
-use Rattle.std.proofs.lemmas.List.{drop_all}
-use Rattle.board_face.specs.AppEvents.{app_saw, told_end}
-use Rattle.board_face.specs.Holders.{sent_to, on_way}
-use Rattle.board_face.specs.Sides.{IsApp}
-use Rattle.board_face.specs.declared.views.parts.Setting.{Setting}
-use Rattle.board_face.specs.declared.views.nic.NicSide.{NicSide}
-use Rattle.board_face.specs.declared.views.app.AppLook.TheVariants.{NoNote}
-use Rattle.board_face.specs.declared.views.app.AppSide.{AppSide}
+use Rattle.std.{proofs.Common.{◌≡◌, ℕ, Bool, true, false, List, [], length, set, get_or, refl, sym, ◌∙◌, ap, arith, ⊎_elim}, specs.Prelude.{◌==◌, if◌then◌else◌}}
+use Rattle.std.proofs.lemmas.{Bool.{eqb-true, eq-eqb, false≢true, cases_lt}, List.{drop_all}}
+use Rattle.board_face.specs.{AppEvents.{app_saw, told_end}, Holders.{sent_to, on_way}, Sides.{IsApp}, declared.views.{parts.Setting.{Setting}, nic.NicSide.{NicSide}}}
+use Rattle.board_face.specs.declared.views.app.{AppLook.TheVariants.{NoNote}, AppSide.{AppSide}}
 use Rattle.word_rings.specs.Slots.{note_of}
-use Rattle.ref_words.specs.Words.{Words, slot_word}
-use Rattle.ref_words.specs.Rings.{AreRings, takes_note_at}
-use Rattle.ref_words.specs.Rule.{RefRule}
-use Rattle.ref_words.specs.PhaseRule.{IsAppPhased, PhaseRule, phase_word}
-use Rattle.ref_words.specs.PhaseSteps.{side_end_looked, side_note_sought}
-use Rattle.ref_words.proofs.AppLooks.{RefRule-looked}
-use Rattle.ref_words.proofs.Phases.{phases-mine, phases-app, phases-kept}
-use Rattle.ref_words.proofs.PhaseWords.{is-over}
+use Rattle.ref_words.specs.{Words.{Words, slot_word}, Rings.{AreRings, takes_note_at}, Rule.{RefRule}, PhaseRule.{IsAppPhased, PhaseRule, phase_word}}
+use Rattle.ref_words.{specs.PhaseSteps.{side_end_looked, side_note_sought}, proofs.{AppLooks.{RefRule-looked}, Phases.{phases-mine, phases-app, phases-kept}}}
+use Rattle.ref_words.proofs.{PhaseWords.{is-over}, RingSteps.{rings-app, rings-others}, SlotSteps.{no-word}}
 use Rattle.ref_words.proofs.Ringing as ringing
-use Rattle.ref_words.proofs.RingSteps.{rings-app, rings-others}
-use Rattle.ref_words.proofs.SlotSteps.{no-word}
 
 module _ (setting : Setting) (words : Words) (nic : NicSide) (apps : List AppSide) (app : AppSide) (rule : RefRule setting words nic apps)
     (was : PhaseRule setting words nic apps) (here : IsApp apps app.view.app app) where

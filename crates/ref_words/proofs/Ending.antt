@@ -1,25 +1,10 @@
 -- The card ends, or an application leaves.
-use Rattle.std.proofs.Common.{◌≡◌, ℕ, ◌+◌, ◌<◌, List, length, set, get_or, refl, ap, sym, ◌∙◌, subst, arith, ⊎_elim}
-use Rattle.std.specs.Prelude.{◌≢◌, None}
-use Rattle.std.proofs.lemmas.List.{length-set, get_or-set_same, get_or-set_other}
-use Rattle.std.proofs.lemmas.List.Elements.{All-weaker}
-use Rattle.std.proofs.lemmas.Bool.Decides.{eqb_tells}
-use Rattle.board_face.specs.NicCalls.{HasNoToken}
-use Rattle.board_face.specs.AppCalls.{CanLeave}
-use Rattle.board_face.specs.Sides.{IsApp}
-use Rattle.board_face.specs.declared.views.parts.Setting.{Setting}
-use Rattle.board_face.specs.declared.views.nic.NicSide.{NicSide}
-use Rattle.board_face.specs.declared.views.app.AppSide.{AppSide}
-use Rattle.board_face.proofs.SideLemmas.{IsApp-at}
-use Rattle.ref_words.specs.Words.{Words}
-use Rattle.ref_words.specs.Rule.{RefRule}
-use Rattle.ref_words.specs.PhaseRule.{IsAppPhased, PhaseRule, with_phase}
-use Rattle.ref_words.specs.PhaseSteps.{side_ended, side_left}
-use Rattle.ref_words.proofs.AppLooks.{RefRule-looked}
-use Rattle.ref_words.proofs.CardLooks.{RefRule-told}
-use Rattle.ref_words.proofs.Phases.{phases-mine}
-use Rattle.ref_words.proofs.PhaseWords.{differ-phase}
-use Rattle.ref_words.proofs.RingSteps.{rings-app, rings-words}
+use Rattle.std.{proofs.Common.{◌≡◌, ℕ, ◌+◌, ◌<◌, List, length, set, get_or, refl, ap, sym, ◌∙◌, subst, arith, ⊎_elim}, specs.Prelude.{◌≢◌, None}}
+use Rattle.std.proofs.lemmas.{List.{length-set, get_or-set_same, get_or-set_other, Elements.{All-weaker}}, Bool.Decides.{eqb_tells}}
+use Rattle.board_face.specs.{NicCalls.{HasNoToken}, AppCalls.{CanLeave}, Sides.{IsApp}, declared.views.{parts.Setting.{Setting}, nic.NicSide.{NicSide}}}
+use Rattle.board_face.{specs.declared.views.app.AppSide.{AppSide}, proofs.SideLemmas.{IsApp-at}}
+use Rattle.ref_words.specs.{Words.{Words}, Rule.{RefRule}, PhaseRule.{IsAppPhased, PhaseRule, with_phase}, PhaseSteps.{side_ended, side_left}}
+use Rattle.ref_words.proofs.{AppLooks.{RefRule-looked}, CardLooks.{RefRule-told}, Phases.{phases-mine}, PhaseWords.{differ-phase}, RingSteps.{rings-app, rings-words}}
 
 module _ (setting : Setting) (words : Words) (nic : NicSide) (apps : List AppSide) (rule : RefRule setting words nic apps)
     (was : PhaseRule setting words nic apps) where

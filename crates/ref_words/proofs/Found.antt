@@ -1,19 +1,10 @@
 -- The buffers that a number lists in a word of the free list.
-use Rattle.std.proofs.Common.{◌≡◌, ⊎_elim, ℕ, zero, suc, ◌+◌, ◌-◌, ◌*◌, ◌/◌, ◌%◌, ◌^◌, ◌<◌, ◌≤◌, Bool, true, false}
-use Rattle.std.proofs.Common.{List, ◌∷◌, length, refl, ap}
-use Rattle.std.proofs.Common.{sym, ◌∙◌, arith, subst}
-use Rattle.std.specs.Prelude.{◌≢◌, ◌==◌, nat_eq, count_by, if◌then◌else◌, All, AllPairs}
-use Rattle.std.specs.Int.{bit_at}
-use Rattle.std.proofs.Math.Nat.{pow-suc}
-use Rattle.std.proofs.lemmas.Nat.Bits.{bit_at_cat_high, bit_at_above}
-use Rattle.std.proofs.lemmas.Bool.{cases_lt}
-use Rattle.std.proofs.lemmas.Bool.Decides.{eqb_tells}
-use Rattle.std.proofs.lemmas.List.Elements.{All-nil, All-cons, All-weaker}
+use Rattle.std.proofs.Common.{◌≡◌, ⊎_elim, ℕ, zero, suc, ◌+◌, ◌-◌, ◌*◌, ◌/◌, ◌%◌, ◌^◌, ◌<◌, ◌≤◌, Bool, true, false, List, ◌∷◌, length, refl, ap, sym, ◌∙◌, arith, subst}
+use Rattle.std.{specs.{Prelude.{◌≢◌, ◌==◌, nat_eq, count_by, if◌then◌else◌, All, AllPairs}, Int.{bit_at}}, proofs.Math.Nat.{pow-suc}}
+use Rattle.std.proofs.lemmas.{Nat.Bits.{bit_at_cat_high, bit_at_above}, Bool.{cases_lt, Decides.{eqb_tells}}, List.Elements.{All-nil, All-cons, All-weaker}}
 use Rattle.std.proofs.lemmas.List.Kept.{AllPairs-cons}
-use Rattle.board_face.specs.NicEvents.{word_bits}
-use Rattle.board_face.proofs.Tallies.{weight}
+use Rattle.board_face.{specs.NicEvents.{word_bits}, proofs.{Tallies.{weight}, Counting.{count-cons, weight-other, weight-same}}}
 use Rattle.ref_words.specs.FreeSteps.{found_below, found_in}
-use Rattle.board_face.proofs.Counting.{count-cons, weight-other, weight-same}
 use Rattle.zr_kinds.proofs.Booleans.{if-none, if-one}
 
 found-case : (c : Bool) (b x : ℕ) (rest : List ℕ)

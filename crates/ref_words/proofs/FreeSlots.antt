@@ -1,25 +1,10 @@
 -- An application sees slots of its refill ring free, and falls quiet once it saw all of them free.
 use Rattle.std.proofs.Common.{◌≡◌, ⊎_elim, ℕ, ◌%◌, ◌<◌, Bool, true, false, List, [], ◌∷◌, length, set, get_or, refl, ap, arith, mod-lt}
-use Rattle.std.specs.Prelude.{◌==◌, All, Contains}
-use Rattle.std.proofs.Math.Nat.{eq-or-lt_of_le}
-use Rattle.std.proofs.lemmas.Bool.{eqb-true}
-use Rattle.std.proofs.lemmas.List.{drop_all}
-use Rattle.std.proofs.lemmas.List.Elements.{All-cons, All-contains}
-use Rattle.board_face.specs.Sides.{IsApp}
-use Rattle.board_face.specs.Relay.{dealt_entries}
-use Rattle.board_face.specs.Returns.{entries_on_way}
-use Rattle.board_face.specs.SlotSteps.{side_slot_free, side_fell_quiet}
-use Rattle.board_face.specs.declared.views.parts.Setting.{Setting}
-use Rattle.board_face.specs.declared.views.nic.NicSide.{NicSide}
-use Rattle.board_face.specs.declared.views.app.WrittenEntry.{WrittenEntry}
-use Rattle.board_face.specs.declared.views.app.AppSide.{AppSide}
-use Rattle.ref_words.specs.Words.{Words, slot_word}
-use Rattle.ref_words.specs.Rings.{IsFreeSlot, AreRings}
-use Rattle.ref_words.specs.RestSteps.{side_slot_in_use, side_any_looked, side_last_looked}
-use Rattle.ref_words.specs.Rule.{RefRule}
-use Rattle.ref_words.proofs.RingSteps.{rings-others, rings-app}
-use Rattle.ref_words.proofs.SlotSteps.{no-word}
-use Rattle.ref_words.proofs.AppLooks.{RefRule-app}
+use Rattle.std.{specs.Prelude.{◌==◌, All, Contains}, proofs.{Math.Nat.{eq-or-lt_of_le}, lemmas.{Bool.{eqb-true}, List.{drop_all, Elements.{All-cons, All-contains}}}}}
+use Rattle.board_face.specs.{Sides.{IsApp}, Relay.{dealt_entries}, Returns.{entries_on_way}, SlotSteps.{side_slot_free, side_fell_quiet}}
+use Rattle.board_face.specs.declared.views.{parts.Setting.{Setting}, nic.NicSide.{NicSide}, app.{WrittenEntry.{WrittenEntry}, AppSide.{AppSide}}}
+use Rattle.ref_words.specs.{Words.{Words, slot_word}, Rings.{IsFreeSlot, AreRings}, RestSteps.{side_slot_in_use, side_any_looked, side_last_looked}, Rule.{RefRule}}
+use Rattle.ref_words.proofs.{RingSteps.{rings-others, rings-app}, SlotSteps.{no-word}, AppLooks.{RefRule-app}}
 
 module _ (setting : Setting) (words : Words) (nic : NicSide) (apps : List AppSide) (app : AppSide) (rule : RefRule setting words nic apps)
     (here : IsApp apps app.view.app app) where

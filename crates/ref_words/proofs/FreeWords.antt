@@ -1,28 +1,13 @@
 -- Bits of the free list, and the rule where one of its words changes.
-use Rattle.std.proofs.Common.{◌≡◌, ⊎_elim, ℕ, ◌+◌, ◌/◌, ◌%◌, ◌^◌, ◌<◌, ◌≤◌, Bool, true, false, List, length, set}
-use Rattle.std.proofs.Common.{get_or, refl, ap, sym, ◌∙◌, arith, subst}
-use Rattle.std.specs.Prelude.{◌≢◌, ◌==◌}
-use Rattle.std.specs.Prelude.{bit_and, bit_or}
-use Rattle.std.specs.Int.{bit_at, bit_not, w64}
-use Rattle.std.proofs.lemmas.Nat.{one_shl}
+use Rattle.std.proofs.Common.{◌≡◌, ⊎_elim, ℕ, ◌+◌, ◌/◌, ◌%◌, ◌^◌, ◌<◌, ◌≤◌, Bool, true, false, List, length, set, get_or, refl, ap, sym, ◌∙◌, arith, subst}
+use Rattle.std.{specs.{Prelude.{◌≢◌, ◌==◌, bit_and, bit_or}, Int.{bit_at, bit_not, w64}}, proofs.lemmas.Nat.{one_shl}}
 use Rattle.std.proofs.lemmas.Nat.Bits.{bit_at_or, bit_at-lt, bit_at-pow_same, bit_at-pow_other, bit_at_clear_same, bit_at_clear_other}
-use Rattle.std.proofs.lemmas.List.{length-set, get_or-set_same, get_or-set_other}
-use Rattle.std.proofs.lemmas.Bool.{cases_lt}
-use Rattle.std.proofs.lemmas.Bool.Decides.{eqb_tells}
+use Rattle.std.proofs.lemmas.{List.{length-set, get_or-set_same, get_or-set_other}, Bool.{cases_lt, Decides.{eqb_tells}}}
 use Rattle.area_layout.specs.Layout.{pool_buffers}
-use Rattle.board_face.specs.Counts.{pool_count, user_count}
-use Rattle.board_face.specs.FreeOnce.{free_places}
-use Rattle.board_face.specs.NicEvents.{word_bits}
-use Rattle.board_face.specs.Used.{AreKept}
-use Rattle.board_face.specs.declared.views.parts.Setting.{Setting}
-use Rattle.board_face.specs.declared.views.nic.NicSide.{NicSide}
-use Rattle.board_face.specs.declared.views.app.AppSide.{AppSide}
-use Rattle.board_face.proofs.Tallies.{weight, weight-le}
-use Rattle.ref_words.specs.Words.{Words, free_of, with_free, with_listed, with_unlisted, listed_in}
-use Rattle.ref_words.specs.Sides.{SidesRule}
-use Rattle.ref_words.specs.Rule.{RefRule}
+use Rattle.board_face.specs.{Counts.{pool_count, user_count}, FreeOnce.{free_places}, NicEvents.{word_bits}, Used.{AreKept}, declared.views.parts.Setting.{Setting}}
+use Rattle.board_face.{specs.declared.views.{nic.NicSide.{NicSide}, app.AppSide.{AppSide}}, proofs.{Tallies.{weight, weight-le}, Counting.{weight-other, weight-same}}}
+use Rattle.ref_words.specs.{Words.{Words, free_of, with_free, with_listed, with_unlisted, listed_in}, Sides.{SidesRule}, Rule.{RefRule}}
 use Rattle.ref_words.proofs.RingSteps.{AllRings, rings-words}
-use Rattle.board_face.proofs.Counting.{weight-other, weight-same}
 
 -- ---- bits
 

@@ -1,25 +1,13 @@
 -- Free places and used buffers, once a side changed.
-use Rattle.std.proofs.Common.{◌≡◌, ⊎_elim, ℕ, ◌+◌, ◌<◌, ◌≤◌, Bool, true, false, List, [], ◌∷◌, ◌++◌, length, set}
-use Rattle.std.proofs.Common.{refl, ap, sym, ◌∙◌, arith}
-use Rattle.std.proofs.Common.{inl, inr, cond}
-use Rattle.std.specs.Prelude.{◌⊎◌, ◌==◌, nat_eq, nat_lt, count_by, if◌then◌else◌, Contains}
-use Rattle.std.specs.List.{flat_map}
-use Rattle.std.proofs.lemmas.Bool.Decides.{eqb_tells}
-use Rattle.area_layout.specs.Layout.{pool_buffers}
-use Rattle.board_face.specs.Lists.{without}
-use Rattle.board_face.specs.NicEvents.{cached, cache_room}
-use Rattle.board_face.specs.Sides.{IsApp}
-use Rattle.board_face.specs.Counts.{pool_count}
-use Rattle.board_face.specs.FreeOnce.{free_places, AreFreeOnce}
-use Rattle.board_face.specs.Used.{picked_buffers, AreKept}
-use Rattle.board_face.specs.declared.views.nic.NicSide.{NicSide}
-use Rattle.board_face.specs.declared.views.app.AppSide.{AppSide}
-use Rattle.board_face.proofs.ListLemmas.{eqb_same, not-eqb}
-use Rattle.board_face.proofs.Tallies.{weight, tally, tally-flat, tally-without, total-set}
-use Rattle.board_face.proofs.Parts.{count-tally}
-use Rattle.ref_words.proofs.Counting.{if_so, once-more}
+use Rattle.std.proofs.Common.{◌≡◌, ⊎_elim, ℕ, ◌+◌, ◌<◌, ◌≤◌, Bool, true, false, List, [], ◌∷◌, ◌++◌, length, set, refl, ap, sym, ◌∙◌, arith, inl, inr, cond}
+use Rattle.std.{specs.{Prelude.{◌⊎◌, ◌==◌, nat_eq, nat_lt, count_by, if◌then◌else◌, Contains}, List.{flat_map}}, proofs.lemmas.Bool.Decides.{eqb_tells}}
 use Rattle.std.proofs.lemmas.List.{map-id}
+use Rattle.area_layout.specs.Layout.{pool_buffers}
+use Rattle.board_face.specs.{Lists.{without}, NicEvents.{cached, cache_room}, Sides.{IsApp}, Counts.{pool_count}, FreeOnce.{free_places, AreFreeOnce}}
+use Rattle.board_face.{specs.{Used.{picked_buffers, AreKept}, declared.views.{nic.NicSide.{NicSide}, app.AppSide.{AppSide}}}, proofs.ListLemmas.{eqb_same, not-eqb}}
+use Rattle.board_face.proofs.{Tallies.{weight, tally, tally-flat, tally-without, total-set}, Parts.{count-tally}}
 use Rattle.board_face.proofs.Counting.{count-append, count-push, once-freed, once-taken, weight-swap}
+use Rattle.ref_words.proofs.Counting.{if_so, once-more}
 
 -- ---- hands
 

@@ -1,32 +1,14 @@
 -- A loan is given back, or a raw entry written.
-use Rattle.std.proofs.Common.{◌≡◌, ℕ, zero, suc, ◌%◌, ◌<◌, true, false, List, []}
-use Rattle.std.proofs.Common.{length, set, refl, ap, sym, ◌∙◌, arith, Some}
-use Rattle.std.proofs.lemmas.Bool.{cases_Bool}
-use Rattle.std.proofs.Common.{⊎_elim}
+use Rattle.std.proofs.{Common.{◌≡◌, ℕ, zero, suc, ◌%◌, ◌<◌, true, false, List, [], length, set, refl, ap, sym, ◌∙◌, arith, Some, ⊎_elim}, lemmas.Bool.{cases_Bool}}
 use Rattle.std.proofs.lemmas.List.Elements.{All-push, All-nil}
-use Rattle.zr_kinds.specs.declared.place.Place.{Place}
-use Rattle.zr_kinds.specs.declared.ring.Rqe.{Rqe}
-use Rattle.area_layout.specs.Layout.{judged, LiesIn}
-use Rattle.area_layout.proofs.Words.{place_judged}
-use Rattle.board_face.specs.AppCalls.{HasLoan, NamesNoLoan}
-use Rattle.board_face.specs.AppEvents.{entry_of}
-use Rattle.board_face.specs.Counts.{EndedWereReturned}
-use Rattle.board_face.specs.Returns.{IsOfLoan}
-use Rattle.board_face.specs.Sides.{IsApp}
-use Rattle.board_face.specs.SlotSteps.{side_gave, side_pushed}
-use Rattle.board_face.specs.declared.views.parts.Setting.{Setting}
-use Rattle.board_face.specs.declared.views.nic.NicSide.{NicSide}
-use Rattle.board_face.specs.declared.views.app.WrittenEntry.{WrittenEntry}
-use Rattle.board_face.specs.declared.views.app.AppSide.{AppSide}
-use Rattle.board_face.proofs.AppLemmas.{app_count-gave, user_part-gave, EndedWereReturned-abandoned}
-use Rattle.board_face.proofs.ArePlacedLemmas.{app_places-gave}
-use Rattle.board_face.proofs.LiesLemmas.{loan-lies}
-use Rattle.board_face.proofs.WrittenLemmas.{AreReturns-gave, AreReturns-pushed, returned-more}
+use Rattle.zr_kinds.specs.declared.{place.Place.{Place}, ring.Rqe.{Rqe}}
+use Rattle.area_layout.{specs.Layout.{judged, LiesIn}, proofs.Words.{place_judged}}
+use Rattle.board_face.specs.{AppCalls.{HasLoan, NamesNoLoan}, AppEvents.{entry_of}, Counts.{EndedWereReturned}, Returns.{IsOfLoan}, Sides.{IsApp}}
+use Rattle.board_face.specs.{SlotSteps.{side_gave, side_pushed}, declared.views.{parts.Setting.{Setting}, nic.NicSide.{NicSide}, app.WrittenEntry.{WrittenEntry}}}
+use Rattle.board_face.{specs.declared.views.app.AppSide.{AppSide}, proofs.AppLemmas.{app_count-gave, user_part-gave, EndedWereReturned-abandoned}}
+use Rattle.board_face.proofs.{ArePlacedLemmas.{app_places-gave}, LiesLemmas.{loan-lies}, WrittenLemmas.{AreReturns-gave, AreReturns-pushed, returned-more}}
 use Rattle.word_rings.specs.Slots.{entry_body}
-use Rattle.ref_words.specs.Words.{Words, with_refill}
-use Rattle.ref_words.specs.Rings.{EntryFits, writes_entry_at}
-use Rattle.ref_words.specs.Rule.{RefRule}
-use Rattle.ref_words.proofs.SideSteps.{mine, own-setting}
+use Rattle.ref_words.{specs.{Words.{Words, with_refill}, Rings.{EntryFits, writes_entry_at}, Rule.{RefRule}}, proofs.SideSteps.{mine, own-setting}}
 use Rattle.ref_words.proofs.Writing.{RefRule-written, last-raw-stays, few}
 
 module _ (setting : Setting) (words : Words) (nic : NicSide) (apps : List AppSide) (app : AppSide) (rule : RefRule setting words nic apps)

@@ -1,12 +1,8 @@
 -- The entry in hand: what was lowered for it.
-use Rattle.std.proofs.Common.{◌≡◌, ⊎_elim, ℕ, Bool, true, false, refl, ap, sym, ◌∙◌, subst}
-use Rattle.std.specs.Prelude.{◌≢◌, ◌==◌, ◌&&◌, if◌then◌else◌, Option, Some}
+use Rattle.std.{proofs.Common.{◌≡◌, ⊎_elim, ℕ, Bool, true, false, refl, ap, sym, ◌∙◌, subst}, specs.Prelude.{◌≢◌, ◌==◌, ◌&&◌, if◌then◌else◌, Option, Some}}
 use Rattle.std.proofs.lemmas.Bool.Decides.{eqb_tells}
 use Rattle.zr_kinds.specs.declared.ring.Rqe.{Rqe}
-use Rattle.board_face.specs.declared.views.nic.EntryInHand.{EntryInHand}
-use Rattle.board_face.specs.declared.views.nic.Judged.{Judged}
-use Rattle.board_face.proofs.ListLemmas.{eqb_same, not-eqb}
-use Rattle.board_face.proofs.Tallies.{weight}
+use Rattle.board_face.{specs.declared.views.nic.{EntryInHand.{EntryInHand}, Judged.{Judged}}, proofs.{ListLemmas.{eqb_same, not-eqb}, Tallies.{weight}}}
 
 abbrev pub in_hand : ℕ → Rqe → Judged → Option EntryInHand
 in_hand a entry judged = Some (record { app = a; entry = entry; judged = judged })

@@ -1,32 +1,14 @@
 -- The card looks at the user count for the entry in hand.
-use Rattle.std.proofs.Common.{◌≡◌, ⊎_elim, ℕ, ◌+◌, ◌-◌, ◌<◌, Bool, true, false, List}
-use Rattle.std.proofs.Common.{◌∷◌, length, refl}
-use Rattle.std.proofs.Common.{ap, sym, ◌∙◌, arith, subst}
-use Rattle.std.proofs.Common.{length-drop}
-use Rattle.std.specs.Prelude.{◌≢◌, ◌==◌, Some}
-use Rattle.std.proofs.lemmas.Bool.{cases_Bool, cases_lt}
-use Rattle.std.proofs.lemmas.Bool.Decides.{eqb_tells}
+use Rattle.std.proofs.Common.{◌≡◌, ⊎_elim, ℕ, ◌+◌, ◌-◌, ◌<◌, Bool, true, false, List, ◌∷◌, length, refl, ap, sym, ◌∙◌, arith, subst, length-drop}
+use Rattle.std.{specs.Prelude.{◌≢◌, ◌==◌, Some}, proofs.lemmas.Bool.{cases_Bool, cases_lt, Decides.{eqb_tells}}}
 use Rattle.zr_kinds.specs.declared.ring.Rqe.{Rqe}
 use Rattle.area_layout.specs.Layout.{total, judged}
-use Rattle.board_face.specs.Sides.{IsApp}
-use Rattle.board_face.specs.Holders.{lowered_in_hand, returning_in_hand, ended_in, returned_in, owed_in}
-use Rattle.board_face.specs.Returns.{names, returns, is_some_of, entries_on_way}
-use Rattle.board_face.specs.Steps.{side_judged}
-use Rattle.board_face.specs.declared.views.parts.Setting.{Setting}
-use Rattle.board_face.specs.declared.views.nic.Judged.TheVariants.{Not, Stray, Owed}
-use Rattle.board_face.specs.declared.views.nic.NicSide.{NicSide}
-use Rattle.board_face.specs.declared.views.app.AppSide.{AppSide}
-use Rattle.board_face.proofs.ListLemmas.{eqb_same}
-use Rattle.board_face.proofs.Tallies.{weight}
-use Rattle.board_face.proofs.Parts.{owed_count, loans_in, user_count-own}
-use Rattle.board_face.proofs.Parts.{returned_in-count, count-tally}
-use Rattle.ref_words.specs.Words.{Words, user_of}
-use Rattle.ref_words.specs.Sides.{IsInHand, IsFirstRaw}
-use Rattle.ref_words.specs.Rule.{RefRule}
-use Rattle.ref_words.proofs.RingSteps.{rings-card}
-use Rattle.ref_words.proofs.SlotSteps.{no-word}
-use Rattle.ref_words.proofs.CardLooks.{RefRule-card}
-use Rattle.ref_words.proofs.InHand.{in_hand, some-is, if-none}
+use Rattle.board_face.specs.{Sides.{IsApp}, Holders.{lowered_in_hand, returning_in_hand, ended_in, returned_in, owed_in}}
+use Rattle.board_face.specs.{Returns.{names, returns, is_some_of, entries_on_way}, Steps.{side_judged}, declared.views.parts.Setting.{Setting}}
+use Rattle.board_face.{specs.declared.views.{nic.{Judged.TheVariants.{Not, Stray, Owed}, NicSide.{NicSide}}, app.AppSide.{AppSide}}, proofs.ListLemmas.{eqb_same}}
+use Rattle.board_face.proofs.{Tallies.{weight}, Parts.{owed_count, loans_in, user_count-own, returned_in-count, count-tally}}
+use Rattle.ref_words.{specs.{Words.{Words, user_of}, Sides.{IsInHand, IsFirstRaw}, Rule.{RefRule}}, proofs.{RingSteps.{rings-card}, SlotSteps.{no-word}}}
+use Rattle.ref_words.proofs.{CardLooks.{RefRule-card}, InHand.{in_hand, some-is, if-none}}
 
 -- an application's user count is its loans there, out or owed
 pub own-users : (setting : Setting) (words : Words) (nic : NicSide) (apps : List AppSide) (a b : ℕ) (app : AppSide) → RefRule setting words nic apps

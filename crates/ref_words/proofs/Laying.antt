@@ -1,19 +1,13 @@
 -- The words of a group in the table.
-use Rattle.std.proofs.Common.{◌≡◌, ℕ, zero, suc, ◌*◌, suc-mul, mul-le-mul_right, ◌+◌, ◌-◌, ◌<◌, ◌≤◌, List, [], ◌∷◌}
-use Rattle.std.proofs.Common.{◌++◌, length, set, get_or}
-use Rattle.std.proofs.Common.{refl, ap, sym, ◌∙◌, arith, length-append, map, subst}
-use Rattle.std.specs.List.{flat_map}
-use Rattle.std.specs.Prelude.{All}
-use Rattle.std.proofs.lemmas.List.{get_or-append-add, get_or_append_left, set-append_left, set-append_right}
-use Rattle.std.proofs.lemmas.List.Elements.{All-head, All-tail}
+use Rattle.std.proofs.Common.{◌≡◌, ℕ, zero, suc, ◌*◌, suc-mul, mul-le-mul_right, ◌+◌, ◌-◌, ◌<◌, ◌≤◌, List, [], ◌∷◌, ◌++◌, length, set, get_or}
+use Rattle.std.{proofs.Common.{refl, ap, sym, ◌∙◌, arith, length-append, map, subst}, specs.{List.{flat_map}, Prelude.{All}}}
+use Rattle.std.proofs.lemmas.List.{get_or-append-add, get_or_append_left, set-append_left, set-append_right, Elements.{All-head, All-tail}}
 use Rattle.area_layout.specs.Layout.{total}
-use Rattle.board_face.specs.NicCalls.{apps_of}
-use Rattle.board_face.specs.declared.views.parts.Setting.{Setting}
+use Rattle.board_face.specs.{NicCalls.{apps_of}, declared.views.parts.Setting.{Setting}}
 use Rattle.ref_words.specs.Words.{Words, HasSizes, AreSlots, groups, group_sizes, begins, begin_at, joined, table_of}
-use Rattle.word_rings.specs.Slots.{note_width, refill_width}
 use Rattle.ref_words.specs.Words.{pool_at, pool_of, with_pool, user_at, user_of, with_user, role_at, with_role, table_words}
-use Rattle.ref_words.specs.Words.{slot_word, with_slot_word, note_at, with_note, refill_at, with_refill}
-use Rattle.ref_words.specs.Words.{free_at, free_of, with_free}
+use Rattle.ref_words.specs.Words.{slot_word, with_slot_word, note_at, with_note, refill_at, with_refill, free_at, free_of, with_free}
+use Rattle.word_rings.specs.Slots.{note_width, refill_width}
 
 -- ---- lists that lie one behind another
 

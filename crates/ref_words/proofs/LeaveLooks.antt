@@ -1,18 +1,9 @@
 -- The card looks whether an application has left.
-use Rattle.std.proofs.Common.{◌≡◌, ℕ, ◌+◌, Bool, true, false, List, get_or, refl}
-use Rattle.std.specs.Prelude.{◌==◌}
-use Rattle.std.proofs.lemmas.Bool.{eqb-true}
+use Rattle.std.{proofs.{Common.{◌≡◌, ℕ, ◌+◌, Bool, true, false, List, get_or, refl}, lemmas.Bool.{eqb-true}}, specs.Prelude.{◌==◌}}
 use Rattle.std.proofs.lemmas.List.Elements.{All-push, All-weaker}
-use Rattle.board_face.specs.declared.views.parts.Setting.{Setting}
-use Rattle.board_face.specs.declared.views.nic.NicSide.{NicSide}
-use Rattle.board_face.specs.declared.views.app.AppSide.{AppSide}
-use Rattle.ref_words.specs.Words.{Words}
-use Rattle.ref_words.specs.Rule.{RefRule}
-use Rattle.ref_words.specs.PhaseRule.{IsAppPhased, PhaseRule}
-use Rattle.ref_words.specs.PhaseSteps.{side_leave_looked}
-use Rattle.ref_words.proofs.CardLooks.{RefRule-told}
-use Rattle.ref_words.proofs.Phases.{phases-still}
-use Rattle.ref_words.proofs.SlotSteps.{no-word}
+use Rattle.board_face.specs.declared.views.{parts.Setting.{Setting}, nic.NicSide.{NicSide}, app.AppSide.{AppSide}}
+use Rattle.ref_words.{specs.{Words.{Words}, Rule.{RefRule}, PhaseRule.{IsAppPhased, PhaseRule}, PhaseSteps.{side_leave_looked}}, proofs.CardLooks.{RefRule-told}}
+use Rattle.ref_words.proofs.{Phases.{phases-still}, SlotSteps.{no-word}}
 
 module _ (setting : Setting) (words : Words) (nic : NicSide) (apps : List AppSide) (a : ℕ) (rule : RefRule setting words nic apps)
     (was : PhaseRule setting words nic apps) where

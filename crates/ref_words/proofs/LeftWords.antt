@@ -1,15 +1,10 @@
 -- What the slots have that aren't full, after each step at a ring.
 use Rattle.std.proofs.Common.{◌≡◌, ⊎_elim, ℕ, suc, ◌+◌, ◌%◌, ◌<◌, true, List, [], ◌∷◌, ◌++◌, append_assoc}
-use Rattle.std.proofs.Common.{length, map, replicate, drop, get_or, ap, sym, ◌∙◌, arith, subst}
-use Rattle.std.proofs.Math.Nat.{add-mod_right}
-use Rattle.std.proofs.lemmas.Bool.{cases_lt}
+use Rattle.std.proofs.{Common.{length, map, replicate, drop, get_or, ap, sym, ◌∙◌, arith, subst}, Math.Nat.{add-mod_right}, lemmas.Bool.{cases_lt}}
 use Rattle.std.proofs.lemmas.List.{length_push, length-append, length-replicate, get_or_append_left, take-append-drop, drop-drop}
 use Rattle.std.proofs.lemmas.List.{drop-set-lt, drop-set-add, map-append, length-map, get_or-map, get_or-append-add}
-use Rattle.board_face.specs.Opened.{unseen}
-use Rattle.board_face.specs.SlotSteps.{seen_with, one_more}
-use Rattle.board_face.specs.declared.views.parts.Slot.{Slot}
-use Rattle.ref_words.specs.Rings.{slot_of, IsRing, AreLeft, left_for}
-use Rattle.ref_words.specs.Words.{with_word}
+use Rattle.board_face.specs.{Opened.{unseen}, SlotSteps.{seen_with, one_more}, declared.views.parts.Slot.{Slot}}
+use Rattle.ref_words.specs.{Rings.{slot_of, IsRing, AreLeft, left_for}, Words.{with_word}}
 use Rattle.ref_words.proofs.Ringing as ringing
 
 module _ {X : Type 0} (width : ℕ) (words_of : X → List ℕ) (places : ℕ) (written : List X) where

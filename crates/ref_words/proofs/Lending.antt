@@ -1,36 +1,15 @@
 -- An application lends a held piece.
-use Rattle.std.proofs.Common.{◌≡◌, ⊎_elim, ℕ, ◌+◌, ◌^◌, ◌<◌, List, set, refl, sym, ◌∙◌, arith, []}
-use Rattle.std.specs.Prelude.{true, false, ◌==◌, ◌&&◌}
-use Rattle.std.proofs.lemmas.Bool.{cases_lt}
+use Rattle.std.{proofs.{Common.{◌≡◌, ⊎_elim, ℕ, ◌+◌, ◌^◌, ◌<◌, List, set, refl, sym, ◌∙◌, arith, []}, lemmas.Bool.{cases_lt}}, specs.Prelude.{true, false, ◌==◌, ◌&&◌}}
 use Rattle.area_layout.specs.Layout.{total}
-use Rattle.board_face.specs.AppEvents.{reserve_of}
-use Rattle.board_face.specs.Sides.{IsApp}
-use Rattle.board_face.specs.Counts.{pool_count, user_count, EndedWereReturned}
-use Rattle.board_face.specs.declared.views.parts.Setting.{Setting}
-use Rattle.board_face.specs.declared.views.nic.NicSide.{NicSide}
-use Rattle.board_face.specs.declared.views.app.AppSide.{AppSide}
+use Rattle.board_face.specs.{AppEvents.{reserve_of}, Sides.{IsApp}, Counts.{pool_count, user_count, EndedWereReturned}, declared.views.parts.Setting.{Setting}}
+use Rattle.board_face.specs.{declared.views.{nic.NicSide.{NicSide}, app.AppSide.{AppSide}}, AppCalls.{HasHeld, CanLend}}
+use Rattle.board_face.proofs.{AppLemmas.{pool_count-app, user_count-app, app_count-lent, user_part-lent}, ArePlacedLemmas.{ArePlaced-lent}}
+use Rattle.board_face.proofs.{MadeLastLemmas.{IsMadeLast-lent}, IsFilledByOneLemmas.{IsFilledByOne-lent}, FillingsFitLemmas.{FillingsFit-same}}
+use Rattle.board_face.{specs.{AppEvents.{lent}, Sides.{app_at}, Returns.{loans_out, entries_on_way, IsClear}}, proofs.FreeLemmas.{user_count-le}}
+use Rattle.board_face.proofs.{ReturnLemmas.{IsClear-of_loans}, Tallies.{weight}, Counting.{weight-same}}
 use Rattle.zr_kinds.specs.declared.place.Place.{Place}
-use Rattle.board_face.specs.AppCalls.{HasHeld, CanLend}
-use Rattle.board_face.proofs.AppLemmas.{pool_count-app, user_count-app, app_count-lent, user_part-lent}
-use Rattle.board_face.proofs.ArePlacedLemmas.{ArePlaced-lent}
-use Rattle.board_face.proofs.MadeLastLemmas.{IsMadeLast-lent}
-use Rattle.board_face.proofs.IsFilledByOneLemmas.{IsFilledByOne-lent}
-use Rattle.board_face.proofs.FillingsFitLemmas.{FillingsFit-same}
-use Rattle.board_face.specs.AppEvents.{lent}
-use Rattle.board_face.specs.Sides.{app_at}
-use Rattle.board_face.specs.Returns.{loans_out, entries_on_way, IsClear}
-use Rattle.board_face.proofs.FreeLemmas.{user_count-le}
-use Rattle.board_face.proofs.ReturnLemmas.{IsClear-of_loans}
-use Rattle.board_face.proofs.Tallies.{weight}
-use Rattle.ref_words.specs.Words.{Words, user_of, listed_in}
-use Rattle.ref_words.specs.Rule.{RefRule}
-use Rattle.ref_words.proofs.RingSteps.{rings-app}
-use Rattle.ref_words.proofs.Frees.{AreKept-app, free_places-hands}
-use Rattle.ref_words.proofs.InHand.{same-if, other-pair}
-use Rattle.ref_words.proofs.SideSteps.{own-was, mine, SidesRule-app, is-app, in-area}
-use Rattle.ref_words.proofs.UserSteps.{IsUserStep}
-use Rattle.ref_words.proofs.Beginning.{few-holders}
-use Rattle.board_face.proofs.Counting.{weight-same}
+use Rattle.ref_words.{specs.{Words.{Words, user_of, listed_in}, Rule.{RefRule}}, proofs.{RingSteps.{rings-app}, Frees.{AreKept-app, free_places-hands}}}
+use Rattle.ref_words.proofs.{InHand.{same-if, other-pair}, SideSteps.{own-was, mine, SidesRule-app, is-app, in-area}, UserSteps.{IsUserStep}, Beginning.{few-holders}}
 
 module _ (setting : Setting) (words : Words) (nic : NicSide) (apps : List AppSide) (a : ℕ) (app : AppSide) (place : Place)
     (rule : RefRule setting words nic apps) (here : IsApp apps a app) (out : HasHeld app.view place) (can : CanLend app.view)

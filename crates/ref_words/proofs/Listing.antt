@@ -1,23 +1,11 @@
 -- A role lists a buffer that it has in hand.
-use Rattle.std.proofs.Common.{◌≡◌, ℕ, ◌+◌, ◌≤◌, false, List, set, refl, arith}
-use Rattle.std.specs.Prelude.{◌==◌, nat_eq, count_by, Contains}
-use Rattle.board_face.specs.Sides.{IsApp}
-use Rattle.board_face.specs.FreeOnce.{free_places}
-use Rattle.board_face.specs.Used.{HasFewPicks}
-use Rattle.board_face.specs.declared.views.parts.Setting.{Setting}
-use Rattle.board_face.specs.declared.views.nic.NicSide.{NicSide}
-use Rattle.board_face.specs.declared.views.app.AppSide.{AppSide}
-use Rattle.board_face.proofs.Tallies.{weight}
-use Rattle.ref_words.specs.Words.{Words, listed_in, with_listed}
-use Rattle.ref_words.specs.FreeSteps.{side_nic_listed, side_app_listed}
-use Rattle.ref_words.specs.Rule.{RefRule}
-use Rattle.ref_words.proofs.Frees.{AreKept-app, free_places-hands, in-hands, count-taken}
-use Rattle.ref_words.proofs.RingSteps.{rings-card}
-use Rattle.ref_words.proofs.CardSteps.{SidesRule-card}
-use Rattle.ref_words.proofs.SideSteps.{mine}
+use Rattle.std.{proofs.Common.{◌≡◌, ℕ, ◌+◌, ◌≤◌, false, List, set, refl, arith}, specs.Prelude.{◌==◌, nat_eq, count_by, Contains}}
+use Rattle.board_face.specs.{Sides.{IsApp}, FreeOnce.{free_places}, Used.{HasFewPicks}, declared.views.{parts.Setting.{Setting}, nic.NicSide.{NicSide}}}
+use Rattle.board_face.{specs.declared.views.app.AppSide.{AppSide}, proofs.{Tallies.{weight}, Counting.{weight-none, weight-same}}}
+use Rattle.ref_words.specs.{Words.{Words, listed_in, with_listed}, FreeSteps.{side_nic_listed, side_app_listed}, Rule.{RefRule}}
+use Rattle.ref_words.proofs.{Frees.{AreKept-app, free_places-hands, in-hands, count-taken}, RingSteps.{rings-card}, CardSteps.{SidesRule-card}, SideSteps.{mine}}
 use Rattle.ref_words.proofs.FreeWords.{RefRule-free, AreKept-listed, listed-more, in-list, one-place}
 use Rattle.ref_words.proofs.AppHands as hands
-use Rattle.board_face.proofs.Counting.{weight-none, weight-same}
 
 -- a buffer in hand is counted there
 has-one : (b : ℕ) (xs : List ℕ) → Contains xs b → 1 ≤ count_by (nat_eq b) xs

@@ -1,53 +1,23 @@
 -- An application hands a note slot over: a note is taken.
-use Rattle.std.proofs.Common.{◌≡◌, ℕ, zero, suc, ◌+◌, ◌<◌, ◌≤◌, Bool, true, false, List, drop-cons, add-one}
-use Rattle.std.proofs.Common.{[], ◌∷◌, ◌++◌, length, map, take, drop}
-use Rattle.std.proofs.Common.{set, get_or, refl, ap, sym, ◌∙◌, arith, subst, mod-lt}
-use Rattle.std.specs.Prelude.{◌==◌, ◌*◌, All, filter, if◌then◌else◌, min}
-use Rattle.std.proofs.lemmas.List.{length_push, take-append-drop, map-append}
-use Rattle.std.proofs.lemmas.List.Elements.{All-nil, All-cons, All-head, All-tail}
-use Rattle.std.proofs.lemmas.List.Sums.{sum_by-cons}
-use Rattle.board_face.specs.Texts.{unsplit_bytes, IsSplitNote, IsLinearNote}
-use Rattle.zr_kinds.specs.declared.place.Note.{Note}
-use Rattle.zr_kinds.specs.declared.place.Place.{Place}
-use Rattle.board_face.specs.AppEvents.{reserve_of}
-use Rattle.board_face.specs.Holders.{sent_to, on_way}
-use Rattle.board_face.specs.Counts.{pool_count, EndedWereReturned}
-use Rattle.board_face.specs.Opened.{unseen}
-use Rattle.board_face.specs.Relay.{IsProper, as_taken}
-use Rattle.board_face.specs.Sides.{IsApp}
-use Rattle.board_face.specs.SlotSteps.{side_took_note, side_took_linear}
-use Rattle.board_face.specs.Used.{HasFewPicks}
-use Rattle.board_face.specs.declared.views.parts.Setting.{Setting}
-use Rattle.board_face.specs.declared.views.nic.NicSide.{NicSide}
-use Rattle.board_face.specs.declared.views.nic.SentNote.{SentNote}
-use Rattle.board_face.specs.declared.views.app.TakenNote.{TakenNote}
-use Rattle.board_face.specs.declared.views.app.AppSide.{AppSide}
-use Rattle.board_face.proofs.AppLemmas.{pool_count-app, user_count-app, app_count-took_note, app_count-took_linear}
-use Rattle.board_face.proofs.ArePlacedLemmas.{ArePlaced-app}
-use Rattle.board_face.proofs.FillingsFitLemmas.{FillingsFit-same}
-use Rattle.board_face.proofs.IsFilledByOneLemmas.{IsFilledByOne-app}
-use Rattle.board_face.proofs.MadeLastLemmas.{IsMadeLast-app}
-use Rattle.board_face.proofs.Parts.{app_count}
-use Rattle.board_face.proofs.PlaceTallies.{app_places}
-use Rattle.board_face.proofs.PlacesByEvent.{app_places-took_note, app_places-took_linear}
-use Rattle.word_rings.specs.Slots.{note_width, note_fields, note_of, linear_of, words_of, bytes_of, pair, flags_of}
-use Rattle.word_rings.specs.Texts.{text_count}
-use Rattle.word_rings.proofs.NoteSlots.{note_back, note-front, bytes-front}
-use Rattle.word_rings.proofs.Words.{padded_words, text_back}
-use Rattle.ref_words.specs.Words.{Words, listed_in, with_note}
-use Rattle.ref_words.specs.Rings.{AreRings, NoteFits, area_of_note, words_of_note, linear_bytes, takes_note_at}
-use Rattle.ref_words.specs.SlotLaws.{loaded_note, loaded_bytes, note_loads}
-use Rattle.ref_words.specs.Rule.{RefRule}
+use Rattle.std.proofs.Common.{◌≡◌, ℕ, zero, suc, ◌+◌, ◌<◌, ◌≤◌, Bool, true, false, List, drop-cons, add-one, [], ◌∷◌, ◌++◌, length, map, take, drop}
+use Rattle.std.{proofs.Common.{set, get_or, refl, ap, sym, ◌∙◌, arith, subst, mod-lt}, specs.Prelude.{◌==◌, ◌*◌, All, filter, if◌then◌else◌, min}}
+use Rattle.std.proofs.lemmas.List.{length_push, take-append-drop, map-append, Elements.{All-nil, All-cons, All-head, All-tail}, Sums.{sum_by-cons}}
+use Rattle.board_face.specs.{Texts.{unsplit_bytes, IsSplitNote, IsLinearNote}, AppEvents.{reserve_of}, Holders.{sent_to, on_way}}
+use Rattle.board_face.specs.{Counts.{pool_count, EndedWereReturned}, Opened.{unseen}, Relay.{IsProper, as_taken}, Sides.{IsApp}}
+use Rattle.board_face.specs.{SlotSteps.{side_took_note, side_took_linear}, Used.{HasFewPicks}, declared.views.{parts.Setting.{Setting}, nic.NicSide.{NicSide}}}
+use Rattle.board_face.specs.declared.views.{nic.SentNote.{SentNote}, app.{TakenNote.{TakenNote}, AppSide.{AppSide}}}
+use Rattle.board_face.proofs.{AppLemmas.{pool_count-app, user_count-app, app_count-took_note, app_count-took_linear}, ArePlacedLemmas.{ArePlaced-app}}
+use Rattle.board_face.proofs.{FillingsFitLemmas.{FillingsFit-same}, IsFilledByOneLemmas.{IsFilledByOne-app}, MadeLastLemmas.{IsMadeLast-app}, Parts.{app_count}}
+use Rattle.board_face.{proofs.{PlaceTallies.{app_places}, PlacesByEvent.{app_places-took_note, app_places-took_linear}}, specs.Laws.{IsNextNote}}
+use Rattle.zr_kinds.specs.declared.place.{Note.{Note}, Place.{Place}}
+use Rattle.word_rings.specs.{Slots.{note_width, note_fields, note_of, linear_of, words_of, bytes_of, pair, flags_of}, Texts.{text_count}}
+use Rattle.word_rings.proofs.{NoteSlots.{note_back, note-front, bytes-front}, Words.{padded_words, text_back}}
+use Rattle.ref_words.specs.{Words.{Words, listed_in, with_note}, Rings.{AreRings, NoteFits, area_of_note, words_of_note, linear_bytes, takes_note_at}}
+use Rattle.ref_words.{specs.{SlotLaws.{loaded_note, loaded_bytes, note_loads}, Rule.{RefRule}}, proofs.RingSteps.{AllRings, rings-others}}
+use Rattle.ref_words.proofs.{SlotWords.{ring-here, ring-other, differ-note}, SlotSteps.{DifferInSlots, RefRule-slot}, SideSteps.{own-was, SidesRule-app, mine, is-app}}
+use Rattle.ref_words.{proofs.{Frees.{AreKept-app, free_places-hands}, Dealing.{take-next}}, specs.Sides.{IsTakenInOrder}}
 use Rattle.ref_words.proofs.Ringing as ringing
 use Rattle.ref_words.proofs.LeftWords as left-words
-use Rattle.ref_words.proofs.RingSteps.{AllRings, rings-others}
-use Rattle.ref_words.proofs.SlotWords.{ring-here, ring-other, differ-note}
-use Rattle.ref_words.proofs.SlotSteps.{DifferInSlots, RefRule-slot}
-use Rattle.ref_words.proofs.SideSteps.{own-was, SidesRule-app, mine, is-app}
-use Rattle.ref_words.proofs.Frees.{AreKept-app, free_places-hands}
-use Rattle.ref_words.proofs.Dealing.{take-next}
-use Rattle.ref_words.specs.Sides.{IsTakenInOrder}
-use Rattle.board_face.specs.Laws.{IsNextNote}
 
 -- ---- what the words of a slot tell
 

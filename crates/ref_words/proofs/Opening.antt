@@ -1,37 +1,21 @@
 -- A board that was just opened.
-use Rattle.std.proofs.Common.{◌≡◌, ⊎_elim, ℕ, zero, suc, ◌+◌, ◌-◌, ◌*◌, ◌/◌, ◌%◌, ◌<◌, ◌≤◌}
-use Rattle.std.proofs.Common.{List, [], ◌∷◌, length, get_or}
-use Rattle.std.proofs.Common.{mod-lt, replicate, drop, length-drop, refl, ap, sym, ◌∙◌, arith, subst, length-append}
-use Rattle.std.specs.Prelude.{true, ◌==◌, min, All}
-use Rattle.std.specs.Int.{bit_at}
+use Rattle.std.proofs.Common.{◌≡◌, ⊎_elim, ℕ, zero, suc, ◌+◌, ◌-◌, ◌*◌, ◌/◌, ◌%◌, ◌<◌, ◌≤◌, List, [], ◌∷◌, length, get_or}
+use Rattle.std.{proofs.Common.{mod-lt, replicate, drop, length-drop, refl, ap, sym, ◌∙◌, arith, subst, length-append}, specs.Prelude.{true, ◌==◌, min, All}}
+use Rattle.std.{specs.Int.{bit_at}, proofs.lemmas.List.{length-replicate, get_or-replicate, get_or_append_left, get_or-append-add, get_or_past}}
+use Rattle.std.proofs.lemmas.{List.Elements.{All-nil, All-replicate}, Bool.{cases_lt, false≢true}, Nat.Bits.{bit_at_ones, bit_at_ones_above, bit_at-zero}}
 use mathlib.Core.Option.{some, some-injective, some-ne-none}
 use lib.ListN.{get_elem?}
-use Rattle.std.proofs.lemmas.List.{length-replicate, get_or-replicate, get_or_append_left, get_or-append-add, get_or_past}
-use Rattle.std.proofs.lemmas.List.Elements.{All-nil, All-replicate}
-use Rattle.std.proofs.lemmas.Bool.{cases_lt, false≢true}
-use Rattle.std.proofs.lemmas.Nat.Bits.{bit_at_ones, bit_at_ones_above, bit_at-zero}
 use Rattle.area_layout.specs.Layout.{IsLayout, total, pool_buffers, area_words}
-use Rattle.board_face.specs.NicCalls.{apps_of, free_words_of}
-use Rattle.board_face.specs.NicEvents.{word_bits}
-use Rattle.board_face.specs.Opened.{new_nic, new_app, new_apps, unseen}
-use Rattle.board_face.specs.Counts.{EndedWereReturned}
-use Rattle.board_face.specs.Holders.{ended_in}
-use Rattle.board_face.specs.Used.{HasFewPicks}
-use Rattle.board_face.specs.Returns.{AreReturns}
-use Rattle.zr_kinds.specs.declared.place.Place.{Place}
-use Rattle.board_face.specs.declared.views.parts.Setting.{Setting}
-use Rattle.board_face.specs.declared.views.app.AppSide.{AppSide}
-use Rattle.board_face.proofs.Tallies.{weight}
-use Rattle.board_face.proofs.MadeLastLemmas.{IsMadeLast-idle}
+use Rattle.board_face.specs.{NicCalls.{apps_of, free_words_of}, NicEvents.{word_bits}, Opened.{new_nic, new_app, new_apps, unseen}, Counts.{EndedWereReturned}}
+use Rattle.board_face.specs.{Holders.{ended_in}, Used.{HasFewPicks}, Returns.{AreReturns}, declared.views.{parts.Setting.{Setting}, app.AppSide.{AppSide}}}
+use Rattle.board_face.proofs.{Tallies.{weight}, MadeLastLemmas.{IsMadeLast-idle}}
 use Rattle.board_face.proofs.OpenedLemmas.{all-alike, news, length-new_apps, numbered-new_apps, All-new, hands-new, count-new, users-new}
 use Rattle.board_face.proofs.OpenedLemmas.{FillingsFit-opened, IsFilledByOne-opened, ArePlaced-opened}
-use Rattle.ref_words.specs.declared.view.View.{View}
-use Rattle.ref_words.specs.Words.{AreSlots, opened_words, free_list, free_word, listed_in, user_of, roles_of}
+use Rattle.zr_kinds.specs.declared.place.Place.{Place}
+use Rattle.ref_words.specs.{declared.view.View.{View}, Words.{AreSlots, opened_words, free_list, free_word, listed_in, user_of, roles_of}}
+use Rattle.ref_words.specs.{Seated.{Seated, no_role, side_at}, Sides.{HasScrubLists, HasFreeReserve, IsDealtInOrder, IsTakenInOrder, HasNoneOwed, IsScrubbedSoFar}}
+use Rattle.ref_words.specs.{Rings.{slot_of, IsRing, AreLeft, left_for, AreRings, EntryFits, words_of_entry, words_of_note}, Rule.{RefRule}}
 use Rattle.word_rings.specs.Slots.{note_width, refill_width}
-use Rattle.ref_words.specs.Seated.{Seated, no_role, side_at}
-use Rattle.ref_words.specs.Sides.{HasScrubLists, HasFreeReserve, IsDealtInOrder, IsTakenInOrder, HasNoneOwed, IsScrubbedSoFar}
-use Rattle.ref_words.specs.Rings.{slot_of, IsRing, AreLeft, left_for, AreRings, EntryFits, words_of_entry, words_of_note}
-use Rattle.ref_words.specs.Rule.{RefRule}
 
 module _ (setting : Setting) where
   abbrev apps : List AppSide

@@ -1,10 +1,7 @@
 -- A phase word is stored or loaded.
-use Rattle.std.proofs.Common.{◌≡◌, ℕ, ◌<◌, Bool, true, false, set, get_or, length, refl, ◌∙◌, arith}
-use Rattle.std.proofs.lemmas.List.{length-set}
+use Rattle.std.proofs.{Common.{◌≡◌, ℕ, ◌<◌, Bool, true, false, set, get_or, length, refl, ◌∙◌, arith}, lemmas.List.{length-set}}
 use Rattle.board_face.specs.declared.views.parts.Setting.{Setting}
-use Rattle.ref_words.specs.Words.{Words, HasSizes, table_of, phase_at}
-use Rattle.ref_words.specs.PhaseRule.{phase_word, with_phase}
-use Rattle.ref_words.proofs.Laying.{group-word, group-set}
+use Rattle.ref_words.{specs.{Words.{Words, HasSizes, table_of, phase_at}, PhaseRule.{phase_word, with_phase}}, proofs.Laying.{group-word, group-set}}
 use Rattle.ref_words.proofs.SlotSteps.{DifferInSlots}
 
 module _ (setting : Setting) (words : Words) (sizes : HasSizes setting words) where

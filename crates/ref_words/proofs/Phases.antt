@@ -1,15 +1,8 @@
 -- The part of the rule on phases, once a side changed.
-use Rattle.std.proofs.Common.{◌≡◌, ℕ, true, false, List, set, sym, ◌∙◌, subst}
-use Rattle.std.proofs.lemmas.Bool.{false≢true}
-use Rattle.std.proofs.lemmas.List.Elements.{All-set, All-weaker}
-use Rattle.board_face.specs.OwnBuffers.{CardLiesInPool, AppLiesInOwn, LieInOwn}
-use Rattle.board_face.specs.Sides.{IsApp}
-use Rattle.board_face.specs.declared.views.parts.Setting.{Setting}
-use Rattle.board_face.specs.declared.views.nic.NicSide.{NicSide}
+use Rattle.std.proofs.{Common.{◌≡◌, ℕ, true, false, List, set, sym, ◌∙◌, subst}, lemmas.{Bool.{false≢true}, List.Elements.{All-set, All-weaker}}}
+use Rattle.board_face.specs.{OwnBuffers.{CardLiesInPool, AppLiesInOwn, LieInOwn}, Sides.{IsApp}, declared.views.{parts.Setting.{Setting}, nic.NicSide.{NicSide}}}
 use Rattle.board_face.specs.declared.views.app.AppSide.{AppSide}
-use Rattle.ref_words.specs.Words.{Words}
-use Rattle.ref_words.specs.Rule.{RefRule}
-use Rattle.ref_words.specs.PhaseRule.{IsAppPhased, HasPhases, HasStopped, IsMadeInPool, PhaseRule}
+use Rattle.ref_words.specs.{Words.{Words}, Rule.{RefRule}, PhaseRule.{IsAppPhased, HasPhases, HasStopped, IsMadeInPool, PhaseRule}}
 
 -- ---- the card's side changed
 

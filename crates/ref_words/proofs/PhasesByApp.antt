@@ -1,25 +1,14 @@
 -- Phases stay told by each step of an application at counts.
-use Rattle.std.proofs.Common.{◌≡◌, ℕ, Bool, false, List, map, set, refl, sym, ◌∙◌, ap, ⊎_elim, arith, Contains, inl, inr}
-use Rattle.std.proofs.lemmas.Bool.{cases_Bool, false≢true}
-use Rattle.zr_kinds.specs.declared.place.Place.{Place}
+use Rattle.std.proofs.{Common.{◌≡◌, ℕ, Bool, false, List, map, set, refl, sym, ◌∙◌, ap, ⊎_elim, arith, Contains, inl, inr}, lemmas.Bool.{cases_Bool, false≢true}}
+use Rattle.zr_kinds.{specs.declared.place.Place.{Place}, proofs.Lists.{none-in}}
 use Rattle.area_layout.specs.Layout.{pool_buffers}
-use Rattle.board_face.specs.AppCalls.{IsHere, HasHeld, HasLoan, HasSpare, MaySpare}
-use Rattle.board_face.specs.AppEvents.{cut, lent, lent_own, reserve_of}
-use Rattle.board_face.specs.OwnBuffers.{IsOwnBuffer}
-use Rattle.board_face.specs.Sides.{app_at, IsApp}
-use Rattle.board_face.specs.Steps.{side_released, side_spare_begun, side_user_taken, side_owes_lowered}
-use Rattle.board_face.specs.declared.views.parts.Setting.{Setting}
-use Rattle.board_face.specs.declared.views.parts.Filling.{Filling}
-use Rattle.board_face.specs.declared.views.nic.NicSide.{NicSide}
-use Rattle.board_face.specs.declared.views.app.AppSide.{AppSide}
+use Rattle.board_face.specs.{AppCalls.{IsHere, HasHeld, HasLoan, HasSpare, MaySpare}, AppEvents.{cut, lent, lent_own, reserve_of}, OwnBuffers.{IsOwnBuffer}}
+use Rattle.board_face.specs.{Sides.{app_at, IsApp}, Steps.{side_released, side_spare_begun, side_user_taken, side_owes_lowered}, declared.views.parts.Setting.{Setting}}
+use Rattle.board_face.specs.declared.views.{parts.Filling.{Filling}, nic.NicSide.{NicSide}, app.AppSide.{AppSide}}
 use Rattle.board_face.proofs.OwnBufferLemmas.{AppLiesInOwn-cut, AppLiesInOwn-released, AppLiesInOwn-lent, AppLiesInOwn-got_spare, AppLiesInOwn-lent_own}
-use Rattle.ref_words.specs.Words.{Words}
-use Rattle.ref_words.specs.Rule.{RefRule}
-use Rattle.ref_words.specs.PhaseRule.{IsAppPhased, PhaseRule}
-use Rattle.ref_words.proofs.Phases.{phases-mine, phases-here, phases-kept}
+use Rattle.ref_words.{specs.{Words.{Words}, Rule.{RefRule}, PhaseRule.{IsAppPhased, PhaseRule}}, proofs.Phases.{phases-mine, phases-here, phases-kept}}
 use Rattle.ref_words.proofs.SideSteps.{own-setting}
 use Rattle.ref_words.proofs.SpareTaking as spare
-use Rattle.zr_kinds.proofs.Lists.{none-in}
 
 module _ (setting : Setting) (words : Words) (nic : NicSide) (apps : List AppSide) (rule : RefRule setting words nic apps)
     (was : PhaseRule setting words nic apps) (a : ℕ) (app : AppSide) (here : IsApp apps a app) where

@@ -1,27 +1,13 @@
 -- Phases stay told by each step at the words of the area.
-use Rattle.std.proofs.Common.{◌≡◌, ℕ, List, ⊎_elim, length, refl, set, sym, ◌∙◌, subst}
-use Rattle.std.specs.Prelude.{◌<◌, None, Some, IfSome}
-use Rattle.std.proofs.lemmas.Bool.{cases_Bool}
+use Rattle.std.{proofs.{Common.{◌≡◌, ℕ, List, ⊎_elim, length, refl, set, sym, ◌∙◌, subst}, lemmas.Bool.{cases_Bool}}, specs.Prelude.{◌<◌, None, Some, IfSome}}
 use Rattle.std.proofs.lemmas.List.Elements.{All-contains, All-push}
 use Rattle.zr_kinds.specs.declared.place.Place.{Place}
 use Rattle.area_layout.specs.Layout.{pool_buffers}
-use Rattle.board_face.specs.NicCalls.{IsOpen, HasOwn}
-use Rattle.board_face.specs.AppCalls.{HasSpare}
-use Rattle.board_face.specs.Sides.{IsApp}
-use Rattle.board_face.specs.Tokens.{filled_by}
-use Rattle.board_face.specs.declared.views.parts.Setting.{Setting}
-use Rattle.board_face.specs.declared.views.parts.Filling.{Filling}
-use Rattle.board_face.specs.declared.views.parts.Making.{Making}
-use Rattle.board_face.specs.declared.views.nic.NicSide.{NicSide}
-use Rattle.board_face.specs.declared.views.nic.PlacedText.{PlacedText}
-use Rattle.board_face.specs.declared.views.app.AppSide.{AppSide}
+use Rattle.board_face.specs.{NicCalls.{IsOpen, HasOwn}, AppCalls.{HasSpare}, Sides.{IsApp}, Tokens.{filled_by}, declared.views.parts.Setting.{Setting}}
+use Rattle.board_face.specs.declared.views.{parts.{Filling.{Filling}, Making.{Making}}, nic.{NicSide.{NicSide}, PlacedText.{PlacedText}}, app.AppSide.{AppSide}}
 use Rattle.board_face.proofs.OwnBufferLemmas.{AppLiesInOwn-filled}
-use Rattle.ref_words.specs.Words.{Words}
-use Rattle.ref_words.specs.AreaSteps.{side_piece_stored, side_piece_placed, side_spare_stored, side_spare_filled}
-use Rattle.ref_words.specs.Rule.{RefRule}
-use Rattle.ref_words.specs.PhaseRule.{PhaseRule}
-use Rattle.ref_words.proofs.Phases.{phases-open, phases-mine, phases-here, phases-kept}
-use Rattle.ref_words.proofs.PhasesByCard.{own-open}
+use Rattle.ref_words.specs.{Words.{Words}, AreaSteps.{side_piece_stored, side_piece_placed, side_spare_stored, side_spare_filled}, Rule.{RefRule}}
+use Rattle.ref_words.{specs.PhaseRule.{PhaseRule}, proofs.{Phases.{phases-open, phases-mine, phases-here, phases-kept}, PhasesByCard.{own-open}}}
 use Rattle.ref_words.proofs.PhasesByApp.{spare-here}
 
 module _ (setting : Setting) (words : Words) (nic : NicSide) (apps : List AppSide) (rule : RefRule setting words nic apps)

@@ -1,29 +1,13 @@
 -- Phases stay told by each step of the card at counts and slots.
-use Rattle.std.proofs.Common.{◌≡◌, ℕ, Bool, true, false, List, map, refl, ap, ⊎_elim}
-use Rattle.std.proofs.lemmas.Bool.{cases_Bool}
-use Rattle.zr_kinds.specs.declared.place.Note.{Note}
-use Rattle.zr_kinds.specs.declared.ring.Rqe.{Rqe}
-use Rattle.std.specs.Prelude.{◌<◌}
-use Rattle.std.proofs.lemmas.List.Elements.{All-contains}
+use Rattle.std.{proofs.{Common.{◌≡◌, ℕ, Bool, true, false, List, map, refl, ap, ⊎_elim}, lemmas.{Bool.{cases_Bool}, List.Elements.{All-contains}}}, specs.Prelude.{◌<◌}}
+use Rattle.zr_kinds.{specs.declared.{place.Note.{Note}, ring.Rqe.{Rqe}}, proofs.Lists.{none-in}}
 use Rattle.area_layout.specs.Layout.{pool_buffers}
-use Rattle.board_face.specs.NicEvents.{took}
-use Rattle.board_face.specs.NicCalls.{IsOpen, HasOwn, HasPiece}
-use Rattle.board_face.specs.OwnBuffers.{LieInOwn}
-use Rattle.board_face.specs.Sides.{nic_at}
+use Rattle.board_face.specs.{NicEvents.{took}, NicCalls.{IsOpen, HasOwn, HasPiece}, OwnBuffers.{LieInOwn}, Sides.{nic_at}}
 use Rattle.board_face.specs.Steps.{side_begun, side_shut, side_judged, side_user_lowered, side_both_lowered}
-use Rattle.board_face.specs.SlotSteps.{side_entry_looked, side_entry_loaded, side_in_hand, side_dealt, side_note_looked, side_note_stored}
-use Rattle.board_face.specs.SlotSteps.{side_sent, side_sent_linear}
-use Rattle.board_face.specs.declared.views.parts.Setting.{Setting}
-use Rattle.board_face.specs.declared.views.parts.Filling.{Filling}
-use Rattle.board_face.specs.declared.views.nic.Fate.{Fate}
-use Rattle.board_face.specs.declared.views.nic.NicSide.{NicSide}
-use Rattle.board_face.specs.declared.views.app.AppSide.{AppSide}
+use Rattle.board_face.specs.SlotSteps.{side_entry_looked, side_entry_loaded, side_in_hand, side_dealt, side_note_looked, side_note_stored, side_sent, side_sent_linear}
+use Rattle.board_face.specs.declared.views.{parts.{Setting.{Setting}, Filling.{Filling}}, nic.{Fate.{Fate}, NicSide.{NicSide}}, app.AppSide.{AppSide}}
 use Rattle.board_face.proofs.OwnBufferLemmas.{LieInOwn-sent, LieInOwn-sent_linear}
-use Rattle.ref_words.specs.Words.{Words}
-use Rattle.ref_words.specs.Rule.{RefRule}
-use Rattle.ref_words.specs.PhaseRule.{PhaseRule}
-use Rattle.ref_words.proofs.Phases.{phases-open, phases-still, LieInOwn-by}
-use Rattle.zr_kinds.proofs.Lists.{none-in}
+use Rattle.ref_words.{specs.{Words.{Words}, Rule.{RefRule}, PhaseRule.{PhaseRule}}, proofs.Phases.{phases-open, phases-still, LieInOwn-by}}
 
 module _ (setting : Setting) (words : Words) (nic : NicSide) (apps : List AppSide) (rule : RefRule setting words nic apps)
     (was : PhaseRule setting words nic apps) where

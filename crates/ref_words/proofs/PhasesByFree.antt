@@ -1,14 +1,8 @@
 -- Phases stay told by each step at the free list, and by the looks by which an application comes to rest or falls quiet.
 use Rattle.std.proofs.Common.{◌≡◌, ℕ, Bool, true, false, List, set, refl}
-use Rattle.board_face.specs.Sides.{IsApp}
-use Rattle.board_face.specs.declared.views.parts.Setting.{Setting}
-use Rattle.board_face.specs.declared.views.nic.NicSide.{NicSide}
-use Rattle.board_face.specs.declared.views.app.AppSide.{AppSide}
-use Rattle.ref_words.specs.Words.{Words}
-use Rattle.ref_words.specs.FreeSteps.{side_swept, side_nic_listed, side_app_listed, side_word_looked, side_bit_cleared}
-use Rattle.ref_words.specs.RestSteps.{side_raw_looked, side_any_looked, side_last_looked}
-use Rattle.ref_words.specs.PhaseRule.{PhaseRule}
-use Rattle.ref_words.proofs.Phases.{phases-still, phases-kept}
+use Rattle.board_face.specs.{Sides.{IsApp}, declared.views.{parts.Setting.{Setting}, nic.NicSide.{NicSide}, app.AppSide.{AppSide}}}
+use Rattle.ref_words.specs.{Words.{Words}, FreeSteps.{side_swept, side_nic_listed, side_app_listed, side_word_looked, side_bit_cleared}}
+use Rattle.ref_words.{specs.{RestSteps.{side_raw_looked, side_any_looked, side_last_looked}, PhaseRule.{PhaseRule}}, proofs.Phases.{phases-still, phases-kept}}
 
 module _ (setting : Setting) (words : Words) (nic : NicSide) (apps : List AppSide) (was : PhaseRule setting words nic apps) where
   -- ---- the card

@@ -1,26 +1,13 @@
 -- Phases stay told by each step of an application at slots.
 use Rattle.std.proofs.Common.{◌≡◌, ℕ, Bool, true, false, List, set, refl, sym, ◌∙◌, ap}
-use Rattle.zr_kinds.specs.declared.place.Place.{Place}
-use Rattle.zr_kinds.specs.declared.place.Note.{Note}
-use Rattle.zr_kinds.specs.declared.ring.Rqe.{Rqe}
-use Rattle.board_face.specs.AppCalls.{HasLoan, TookNote}
-use Rattle.board_face.specs.AppEvents.{took_note}
-use Rattle.board_face.specs.Texts.{IsSplitNote}
-use Rattle.board_face.specs.Sides.{IsApp}
+use Rattle.zr_kinds.specs.declared.{place.{Place.{Place}, Note.{Note}}, ring.Rqe.{Rqe}}
+use Rattle.board_face.specs.{AppCalls.{HasLoan, TookNote}, AppEvents.{took_note}, Texts.{IsSplitNote}, Sides.{IsApp}}
 use Rattle.board_face.specs.SlotSteps.{side_refill_looked, side_refill_stored, side_gave, side_pushed}
-use Rattle.board_face.specs.SlotSteps.{side_slot_looked, side_slot_loaded, side_took_note, side_took_linear}
-use Rattle.board_face.specs.declared.views.parts.Setting.{Setting}
-use Rattle.board_face.specs.declared.views.nic.NicSide.{NicSide}
-use Rattle.board_face.specs.declared.views.app.AppSide.{AppSide}
-use Rattle.board_face.proofs.OwnBufferLemmas.{AppLiesInOwn-abandoned, AppLiesInOwn-took_note}
-use Rattle.ref_words.specs.Words.{Words}
-use Rattle.ref_words.specs.Rule.{RefRule}
-use Rattle.ref_words.specs.PhaseRule.{IsAppPhased, PhaseRule}
-use Rattle.ref_words.proofs.Phases.{phases-mine, phases-app, phases-here, phases-kept}
-use Rattle.ref_words.proofs.PhasesByApp.{loan-here}
-use Rattle.ref_words.proofs.SideSteps.{own-setting}
-use Rattle.board_face.proofs.NewNotes.{new-of_pool, new-lies, new-apart}
-use Rattle.board_face.specs.Laws.{IsNextNote}
+use Rattle.board_face.specs.{SlotSteps.{side_slot_looked, side_slot_loaded, side_took_note, side_took_linear}, declared.views.parts.Setting.{Setting}}
+use Rattle.board_face.{specs.declared.views.{nic.NicSide.{NicSide}, app.AppSide.{AppSide}}, proofs.OwnBufferLemmas.{AppLiesInOwn-abandoned, AppLiesInOwn-took_note}}
+use Rattle.board_face.{proofs.NewNotes.{new-of_pool, new-lies, new-apart}, specs.Laws.{IsNextNote}}
+use Rattle.ref_words.{specs.{Words.{Words}, Rule.{RefRule}, PhaseRule.{IsAppPhased, PhaseRule}}, proofs.Phases.{phases-mine, phases-app, phases-here, phases-kept}}
+use Rattle.ref_words.proofs.{PhasesByApp.{loan-here}, SideSteps.{own-setting}}
 
 module _ (setting : Setting) (words : Words) (nic : NicSide) (apps : List AppSide) (rule : RefRule setting words nic apps)
     (was : PhaseRule setting words nic apps) (a : ℕ) (app : AppSide) (here : IsApp apps a app) where

@@ -1,13 +1,7 @@
 -- On a board that was just opened nobody has ended or left, and nothing is out.
-use Rattle.std.proofs.Common.{◌+◌}
-use Rattle.std.proofs.lemmas.Bool.{false≢true}
-use Rattle.std.proofs.lemmas.List.Elements.{All-nil}
-use Rattle.board_face.specs.NicCalls.{apps_of}
-use Rattle.board_face.specs.Opened.{new_nic, new_apps}
-use Rattle.board_face.specs.declared.views.parts.Setting.{Setting}
-use Rattle.board_face.proofs.OpenedLemmas.{all-alike, All-new}
-use Rattle.ref_words.specs.Words.{opened_words, roles_of}
-use Rattle.ref_words.specs.PhaseRule.{IsAppPhased, PhaseRule}
+use Rattle.std.proofs.{Common.{◌+◌}, lemmas.{Bool.{false≢true}, List.Elements.{All-nil}}}
+use Rattle.board_face.{specs.{NicCalls.{apps_of}, Opened.{new_nic, new_apps}, declared.views.parts.Setting.{Setting}}, proofs.OpenedLemmas.{all-alike, All-new}}
+use Rattle.ref_words.specs.{Words.{opened_words, roles_of}, PhaseRule.{IsAppPhased, PhaseRule}}
 
 pub opened-phases : (setting : Setting) → PhaseRule setting (opened_words setting) (new_nic setting) (new_apps setting 0 (apps_of setting))
 opened-phases setting = record {

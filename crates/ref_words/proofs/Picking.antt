@@ -1,28 +1,14 @@
 -- An application clears the bit of a buffer in the free list: it picks the buffer, or another was faster.
-use Rattle.std.proofs.Common.{◌≡◌, ℕ, ◌+◌, ◌/◌, ◌<◌, ◌≤◌, Bool, true, false, List, [], ◌∷◌, ◌++◌, set, refl, ap, sym}
-use Rattle.std.proofs.Common.{arith, subst, length-append}
-use Rattle.std.specs.Prelude.{◌==◌, nat_eq, nat_lt, count_by, if◌then◌else◌}
-use Rattle.std.proofs.lemmas.Bool.{lt-ltb}
+use Rattle.std.proofs.Common.{◌≡◌, ℕ, ◌+◌, ◌/◌, ◌<◌, ◌≤◌, Bool, true, false, List, [], ◌∷◌, ◌++◌, set, refl, ap, sym, arith, subst, length-append}
+use Rattle.std.{specs.Prelude.{◌==◌, nat_eq, nat_lt, count_by, if◌then◌else◌}, proofs.lemmas.Bool.{lt-ltb}}
 use Rattle.area_layout.specs.Layout.{pool_buffers}
-use Rattle.board_face.specs.AppCalls.{MaySpare}
-use Rattle.board_face.specs.NicCalls.{free_words_of}
-use Rattle.board_face.specs.NicEvents.{word_bits}
-use Rattle.board_face.specs.Sides.{IsApp}
-use Rattle.board_face.specs.FreeOnce.{free_places}
-use Rattle.board_face.specs.Steps.{side_picked}
-use Rattle.board_face.specs.Used.{HasFewPicks, PicksAreGiven, picked_buffers}
-use Rattle.board_face.specs.declared.views.parts.Setting.{Setting}
-use Rattle.board_face.specs.declared.views.nic.NicSide.{NicSide}
-use Rattle.board_face.specs.declared.views.app.AppSide.{AppSide}
-use Rattle.board_face.proofs.Tallies.{weight}
-use Rattle.ref_words.specs.Words.{Words, listed_in, with_unlisted}
-use Rattle.ref_words.specs.FreeSteps.{side_word_without, side_bit_cleared}
-use Rattle.ref_words.specs.Rule.{RefRule}
-use Rattle.ref_words.proofs.Frees.{AreKept-app, free_places-hands, picked-moved}
-use Rattle.ref_words.proofs.SideSteps.{mine, own-setting}
+use Rattle.board_face.specs.{AppCalls.{MaySpare}, NicCalls.{free_words_of}, NicEvents.{word_bits}, Sides.{IsApp}, FreeOnce.{free_places}, Steps.{side_picked}}
+use Rattle.board_face.specs.{Used.{HasFewPicks, PicksAreGiven, picked_buffers}, declared.views.{parts.Setting.{Setting}, nic.NicSide.{NicSide}, app.AppSide.{AppSide}}}
+use Rattle.board_face.proofs.{Tallies.{weight}, Counting.{count-append, count-push, weight-swap}}
+use Rattle.ref_words.specs.{Words.{Words, listed_in, with_unlisted}, FreeSteps.{side_word_without, side_bit_cleared}, Rule.{RefRule}}
+use Rattle.ref_words.proofs.{Frees.{AreKept-app, free_places-hands, picked-moved}, SideSteps.{mine, own-setting}}
 use Rattle.ref_words.proofs.FreeWords.{RefRule-free, AreKept-listed, listed-fewer, listed-same, of-pool, in-list}
 use Rattle.ref_words.proofs.AppHands as hands
-use Rattle.board_face.proofs.Counting.{count-append, count-push, weight-swap}
 
 module _ (setting : Setting) (words : Words) (nic : NicSide) (apps : List AppSide) (a : ℕ) (app : AppSide) (b : ℕ)
     (rule : RefRule setting words nic apps) (here : IsApp apps a app) where

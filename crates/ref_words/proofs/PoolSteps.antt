@@ -1,18 +1,9 @@
 -- A pool count changes with the holders of its buffer.
-use Rattle.std.proofs.Common.{◌≡◌, ℕ, ◌<◌, List, refl, sym, ◌∙◌, arith}
-use Rattle.std.specs.Prelude.{◌≢◌}
-use Rattle.std.proofs.lemmas.List.{length-set}
+use Rattle.std.{proofs.{Common.{◌≡◌, ℕ, ◌<◌, List, refl, sym, ◌∙◌, arith}, lemmas.List.{length-set}}, specs.Prelude.{◌≢◌}}
 use Rattle.area_layout.specs.Layout.{total}
-use Rattle.board_face.specs.Counts.{pool_count, user_count}
-use Rattle.board_face.specs.FreeOnce.{AreFreeOnce}
-use Rattle.board_face.specs.Used.{AreKept}
-use Rattle.board_face.specs.declared.views.parts.Setting.{Setting}
-use Rattle.board_face.specs.declared.views.nic.NicSide.{NicSide}
+use Rattle.board_face.specs.{Counts.{pool_count, user_count}, FreeOnce.{AreFreeOnce}, Used.{AreKept}, declared.views.{parts.Setting.{Setting}, nic.NicSide.{NicSide}}}
 use Rattle.board_face.specs.declared.views.app.AppSide.{AppSide}
-use Rattle.ref_words.specs.Words.{Words, with_pool, listed_in}
-use Rattle.ref_words.specs.Sides.{SidesRule}
-use Rattle.ref_words.specs.Rule.{RefRule}
-use Rattle.ref_words.proofs.RingSteps.{AllRings, rings-words}
+use Rattle.ref_words.{specs.{Words.{Words, with_pool, listed_in}, Sides.{SidesRule}, Rule.{RefRule}}, proofs.RingSteps.{AllRings, rings-words}}
 use Rattle.zr_kinds.proofs.Lists.{counts-set}
 
 -- What is to be known of the sides after the step, where the count of the buffer i becomes n.

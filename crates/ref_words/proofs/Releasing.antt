@@ -1,36 +1,16 @@
 -- An application gives a held piece up. A buffer of the pool that came to be free by that is in its hands.
-use Rattle.std.proofs.Common.{◌≡◌, ⊎_elim, ℕ, ◌+◌, ◌-◌, ◌<◌, ◌≤◌, Bool, true, false, List}
-use Rattle.std.proofs.Common.{[], ◌∷◌, ◌++◌, set, refl, ap}
-use Rattle.std.proofs.Common.{sym, ◌∙◌, arith}
-use Rattle.std.specs.Prelude.{◌==◌, ◌&&◌, nat_lt, nat_eq, count_by, if◌then◌else◌}
-use Rattle.std.proofs.lemmas.Bool.{lt-ltb, le-ltb, cases_lt}
-use Rattle.zr_kinds.specs.declared.place.Place.{Place}
+use Rattle.std.proofs.Common.{◌≡◌, ⊎_elim, ℕ, ◌+◌, ◌-◌, ◌<◌, ◌≤◌, Bool, true, false, List, [], ◌∷◌, ◌++◌, set, refl, ap, sym, ◌∙◌, arith}
+use Rattle.std.{specs.Prelude.{◌==◌, ◌&&◌, nat_lt, nat_eq, count_by, if◌then◌else◌}, proofs.lemmas.Bool.{lt-ltb, le-ltb, cases_lt}}
+use Rattle.zr_kinds.{specs.declared.place.Place.{Place}, proofs.Booleans.{and-true}}
 use Rattle.area_layout.specs.Layout.{total, pool_buffers}
-use Rattle.board_face.specs.AppEvents.{reserve_of}
-use Rattle.board_face.specs.Sides.{IsApp}
-use Rattle.board_face.specs.Counts.{pool_count, EndedWereReturned}
-use Rattle.board_face.specs.declared.views.parts.Setting.{Setting}
-use Rattle.board_face.specs.declared.views.nic.NicSide.{NicSide}
-use Rattle.board_face.specs.declared.views.app.AppSide.{AppSide}
-use Rattle.board_face.specs.AppCalls.{HasHeld}
-use Rattle.board_face.specs.Steps.{side_released}
-use Rattle.board_face.proofs.AppLemmas.{pool_count-app, user_count-app, app_count-released}
-use Rattle.board_face.proofs.PlacesByEvent.{app_places-released}
-use Rattle.board_face.proofs.ArePlacedLemmas.{ArePlaced-app}
-use Rattle.board_face.proofs.MadeLastLemmas.{IsMadeLast-app}
-use Rattle.board_face.proofs.IsFilledByOneLemmas.{IsFilledByOne-app}
-use Rattle.board_face.proofs.FillingsFitLemmas.{FillingsFit-same}
-use Rattle.board_face.proofs.Tallies.{weight}
-use Rattle.ref_words.specs.Words.{Words, pool_of, listed_in}
-use Rattle.ref_words.specs.Rule.{RefRule}
-use Rattle.ref_words.proofs.RingSteps.{rings-app}
-use Rattle.ref_words.proofs.Counting.{if_so, if_so-weight, and-false}
-use Rattle.ref_words.proofs.Frees.{AreFreeOnce-fewer, AreKept-app, free_places-hands}
-use Rattle.ref_words.proofs.SideSteps.{own-was, mine, own-setting, SidesRule-app, in-area}
-use Rattle.ref_words.proofs.PoolSteps.{IsPoolStep}
-use Rattle.ref_words.proofs.Shutting.{last-is}
+use Rattle.board_face.specs.{AppEvents.{reserve_of}, Sides.{IsApp}, Counts.{pool_count, EndedWereReturned}, declared.views.parts.Setting.{Setting}}
+use Rattle.board_face.specs.{declared.views.{nic.NicSide.{NicSide}, app.AppSide.{AppSide}}, AppCalls.{HasHeld}, Steps.{side_released}}
+use Rattle.board_face.proofs.{AppLemmas.{pool_count-app, user_count-app, app_count-released}, PlacesByEvent.{app_places-released}, ArePlacedLemmas.{ArePlaced-app}}
+use Rattle.board_face.proofs.{MadeLastLemmas.{IsMadeLast-app}, IsFilledByOneLemmas.{IsFilledByOne-app}, FillingsFitLemmas.{FillingsFit-same}, Tallies.{weight}}
 use Rattle.board_face.proofs.Counting.{count-push, weight-other, weight-same, weight-swap}
-use Rattle.zr_kinds.proofs.Booleans.{and-true}
+use Rattle.ref_words.{specs.{Words.{Words, pool_of, listed_in}, Rule.{RefRule}}, proofs.{RingSteps.{rings-app}, Counting.{if_so, if_so-weight, and-false}}}
+use Rattle.ref_words.proofs.{Frees.{AreFreeOnce-fewer, AreKept-app, free_places-hands}, SideSteps.{own-was, mine, own-setting, SidesRule-app, in-area}}
+use Rattle.ref_words.proofs.{PoolSteps.{IsPoolStep}, Shutting.{last-is}}
 
 -- a buffer that came to be free stands in the hands
 pub hands-case : (came : Bool) (hands : List ℕ) (i b : ℕ)

@@ -1,22 +1,9 @@
 -- An application looks at the pool count of its reserve.
-use Rattle.std.proofs.Common.{◌≡◌, ℕ, ◌<◌, Bool, true, false, List, set, refl, sym, ◌∙◌, ap, arith}
-use Rattle.std.specs.Prelude.{◌==◌}
-use Rattle.std.proofs.lemmas.Bool.{eqb-true}
+use Rattle.std.{proofs.{Common.{◌≡◌, ℕ, ◌<◌, Bool, true, false, List, set, refl, sym, ◌∙◌, ap, arith}, lemmas.Bool.{eqb-true}}, specs.Prelude.{◌==◌}}
 use Rattle.area_layout.specs.Layout.{pool_buffers, total}
-use Rattle.board_face.specs.AppEvents.{reserve_of}
-use Rattle.board_face.specs.Sides.{IsApp}
-use Rattle.board_face.specs.declared.views.parts.Setting.{Setting}
-use Rattle.board_face.specs.declared.views.nic.NicSide.{NicSide}
-use Rattle.board_face.specs.declared.views.app.AppSide.{AppSide}
-use Rattle.ref_words.specs.Words.{Words, pool_of}
-use Rattle.ref_words.specs.Rule.{RefRule}
-use Rattle.ref_words.specs.PhaseRule.{PhaseRule}
-use Rattle.ref_words.specs.PhaseSteps.{side_reserve_looked}
-use Rattle.ref_words.proofs.AppLooks.{RefRule-looked}
-use Rattle.ref_words.proofs.Phases.{phases-kept}
-use Rattle.ref_words.proofs.RingSteps.{rings-app}
-use Rattle.ref_words.proofs.SideSteps.{own-setting}
-use Rattle.ref_words.proofs.SlotSteps.{no-word}
+use Rattle.board_face.specs.{AppEvents.{reserve_of}, Sides.{IsApp}, declared.views.{parts.Setting.{Setting}, nic.NicSide.{NicSide}, app.AppSide.{AppSide}}}
+use Rattle.ref_words.{specs.{Words.{Words, pool_of}, Rule.{RefRule}, PhaseRule.{PhaseRule}, PhaseSteps.{side_reserve_looked}}, proofs.AppLooks.{RefRule-looked}}
+use Rattle.ref_words.proofs.{Phases.{phases-kept}, RingSteps.{rings-app}, SideSteps.{own-setting}, SlotSteps.{no-word}}
 
 module _ (setting : Setting) (words : Words) (nic : NicSide) (apps : List AppSide) (app : AppSide) (rule : RefRule setting words nic apps)
     (was : PhaseRule setting words nic apps) (here : IsApp apps app.view.app app) where

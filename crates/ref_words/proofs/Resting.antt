@@ -1,23 +1,11 @@
 -- An application looks at the slot of its last raw entry.
 use Rattle.std.proofs.Common.{◌≡◌, ⊎_elim, ℕ, suc, ◌+◌, ◌-◌, ◌%◌, ◌<◌, Bool, true, false, List, [], ◌∷◌}
-use Rattle.std.proofs.Common.{◌++◌, length, drop, set, get_or, refl, ap, sym, ◌∙◌, arith, subst, length-append}
-use Rattle.std.specs.Prelude.{◌==◌, All, Some}
-use Rattle.std.proofs.Math.Seq.{drop-append-add}
-use Rattle.std.proofs.lemmas.Bool.{cases_lt, eqb-true}
-use Rattle.std.proofs.lemmas.List.Elements.{All-drop}
-use Rattle.board_face.specs.Sides.{IsApp}
-use Rattle.board_face.specs.Relay.{dealt_entries}
-use Rattle.board_face.specs.Returns.{IsOfLoan, entries_on_way}
-use Rattle.board_face.specs.declared.views.parts.Setting.{Setting}
-use Rattle.board_face.specs.declared.views.nic.NicSide.{NicSide}
+use Rattle.std.{proofs.Common.{◌++◌, length, drop, set, get_or, refl, ap, sym, ◌∙◌, arith, subst, length-append}, specs.Prelude.{◌==◌, All, Some}}
+use Rattle.std.proofs.{Math.Seq.{drop-append-add}, lemmas.{Bool.{cases_lt, eqb-true}, List.Elements.{All-drop}}}
+use Rattle.board_face.specs.{Sides.{IsApp}, Relay.{dealt_entries}, Returns.{IsOfLoan, entries_on_way}, declared.views.{parts.Setting.{Setting}, nic.NicSide.{NicSide}}}
 use Rattle.board_face.specs.declared.views.app.AppSide.{AppSide}
-use Rattle.ref_words.specs.Words.{Words, slot_word}
-use Rattle.ref_words.specs.Rings.{IsLastRaw, AreRings}
-use Rattle.ref_words.specs.RestSteps.{side_raw_looked}
-use Rattle.ref_words.specs.Rule.{RefRule}
-use Rattle.ref_words.proofs.RingSteps.{rings-app}
-use Rattle.ref_words.proofs.SlotSteps.{no-word}
-use Rattle.ref_words.proofs.AppLooks.{RefRule-app}
+use Rattle.ref_words.{specs.{Words.{Words, slot_word}, Rings.{IsLastRaw, AreRings}, RestSteps.{side_raw_looked}, Rule.{RefRule}}, proofs.RingSteps.{rings-app}}
+use Rattle.ref_words.proofs.{SlotSteps.{no-word}, AppLooks.{RefRule-app}}
 
 module _ (setting : Setting) (words : Words) (nic : NicSide) (apps : List AppSide) (app : AppSide) (s : ℕ) (rule : RefRule setting words nic apps)
     (here : IsApp apps app.view.app app) (known : app.inside.raw_slot ≡ Some s) where

@@ -1,41 +1,19 @@
 -- The pool count is lowered for the entry in hand, whose user count was lowered before.
-use Rattle.std.proofs.Common.{◌≡◌, ℕ, ◌+◌, ◌-◌, ◌<◌, ◌≤◌, Bool, List, length, get_or, drop, refl, ap, sym}
-use Rattle.std.proofs.Common.{◌∙◌, arith, subst}
-use Rattle.std.specs.Prelude.{◌==◌, ◌&&◌, nat_lt, if◌then◌else◌, Contains}
-use Rattle.std.proofs.lemmas.List.Elements.{All-contains}
-use Rattle.std.proofs.lemmas.Bool.{lt-ltb, le-ltb}
-use Rattle.zr_kinds.specs.declared.ring.Rqe.{Rqe}
+use Rattle.std.proofs.Common.{◌≡◌, ℕ, ◌+◌, ◌-◌, ◌<◌, ◌≤◌, Bool, List, length, get_or, drop, refl, ap, sym, ◌∙◌, arith, subst}
+use Rattle.std.{specs.Prelude.{◌==◌, ◌&&◌, nat_lt, if◌then◌else◌, Contains}, proofs.lemmas.{List.Elements.{All-contains}, Bool.{lt-ltb, le-ltb}}}
+use Rattle.zr_kinds.{specs.declared.ring.Rqe.{Rqe}, proofs.Booleans.{and-true}}
 use Rattle.area_layout.specs.Layout.{total, pool_buffers}
-use Rattle.board_face.specs.AppEvents.{reserve_of}
-use Rattle.board_face.specs.Sides.{IsApp}
-use Rattle.board_face.specs.Opened.{new_app}
+use Rattle.board_face.specs.{AppEvents.{reserve_of}, Sides.{IsApp}, Opened.{new_app}}
 use Rattle.board_face.specs.Holders.{lowered_in_hand, returning_in_hand, ended_in, returning_count, returned_in, owed_in}
-use Rattle.board_face.specs.Counts.{pool_count, user_count, EndedWereReturned}
-use Rattle.board_face.specs.Steps.{side_both_lowered}
-use Rattle.board_face.specs.declared.views.parts.Setting.{Setting}
-use Rattle.board_face.specs.declared.views.nic.Judged.TheVariants.{UserLowered, BothLowered}
-use Rattle.board_face.specs.declared.views.nic.NicSide.{NicSide}
-use Rattle.board_face.specs.declared.views.app.AppSide.{AppSide}
-use Rattle.board_face.proofs.Tallies.{weight, total-agree}
-use Rattle.board_face.proofs.Parts.{user_part, user_count-parts, loans_in, came_back_in}
-use Rattle.board_face.proofs.NicLemmas.{pool_count-stretch}
-use Rattle.board_face.proofs.ArePlacedLemmas.{ArePlaced-stretch}
-use Rattle.board_face.proofs.MadeLastLemmas.{IsMadeLast-stretch}
-use Rattle.board_face.proofs.IsFilledByOneLemmas.{IsFilledByOne-fewer}
-use Rattle.board_face.proofs.SideLemmas.{IsApp-at}
-use Rattle.ref_words.specs.Words.{Words, pool_of, listed_in}
-use Rattle.ref_words.specs.Sides.{IsInHand}
-use Rattle.ref_words.specs.Rule.{RefRule}
-use Rattle.ref_words.proofs.CardSteps.{AreReturns-owed, IsScrubbedSoFar-owed, HasNoneOwed-owed}
-use Rattle.ref_words.proofs.RingSteps.{rings-card}
-use Rattle.ref_words.proofs.Counting.{if_so-weight, and-false}
-use Rattle.ref_words.proofs.Frees.{AreFreeOnce-fewer, AreKept-card, cache-grows}
-use Rattle.ref_words.proofs.PoolSteps.{IsPoolStep}
-use Rattle.ref_words.proofs.Shutting.{last-is, free-gave_up}
-use Rattle.ref_words.proofs.InHand.{in_hand, some-is, if-none, same-if, other-if}
-use Rattle.board_face.proofs.Counting.{weight-and, weight-other, weight-same}
-use Rattle.zr_kinds.proofs.Booleans.{and-true}
-use Rattle.ref_words.proofs.SideSteps.{in-area}
+use Rattle.board_face.specs.{Counts.{pool_count, user_count, EndedWereReturned}, Steps.{side_both_lowered}, declared.views.parts.Setting.{Setting}}
+use Rattle.board_face.specs.declared.views.{nic.{Judged.TheVariants.{UserLowered, BothLowered}, NicSide.{NicSide}}, app.AppSide.{AppSide}}
+use Rattle.board_face.proofs.{Tallies.{weight, total-agree}, Parts.{user_part, user_count-parts, loans_in, came_back_in}, NicLemmas.{pool_count-stretch}}
+use Rattle.board_face.proofs.{ArePlacedLemmas.{ArePlaced-stretch}, MadeLastLemmas.{IsMadeLast-stretch}, IsFilledByOneLemmas.{IsFilledByOne-fewer}}
+use Rattle.board_face.proofs.{SideLemmas.{IsApp-at}, Counting.{weight-and, weight-other, weight-same}}
+use Rattle.ref_words.specs.{Words.{Words, pool_of, listed_in}, Sides.{IsInHand}, Rule.{RefRule}}
+use Rattle.ref_words.proofs.{CardSteps.{AreReturns-owed, IsScrubbedSoFar-owed, HasNoneOwed-owed}, RingSteps.{rings-card}, Counting.{if_so-weight, and-false}}
+use Rattle.ref_words.proofs.{Frees.{AreFreeOnce-fewer, AreKept-card, cache-grows}, PoolSteps.{IsPoolStep}, Shutting.{last-is, free-gave_up}}
+use Rattle.ref_words.proofs.{InHand.{in_hand, some-is, if-none, same-if, other-if}, SideSteps.{in-area}}
 
 module _ (setting : Setting) (words : Words) (nic : NicSide) (apps : List AppSide) (a : ℕ) (entry : Rqe) (b : ℕ) (rule : RefRule setting words nic apps)
     (at : nic.inside.entry ≡ in_hand a entry (UserLowered b)) where

@@ -1,18 +1,9 @@
 -- The rings of a board, where one of them moved.
-use Rattle.std.proofs.Common.{◌≡◌, ⊎_elim, ℕ, ◌<◌, List, length, set, subst}
-use Rattle.std.specs.Prelude.{◌≢◌}
-use Rattle.std.proofs.lemmas.List.{get_or-set_same, get_or-set_other}
+use Rattle.std.{proofs.{Common.{◌≡◌, ⊎_elim, ℕ, ◌<◌, List, length, set, subst}, lemmas.List.{get_or-set_same, get_or-set_other}}, specs.Prelude.{◌≢◌}}
 use Rattle.std.proofs.lemmas.Bool.Decides.{eqb_tells}
-use Rattle.board_face.specs.Sides.{IsApp}
-use Rattle.board_face.specs.Opened.{unseen}
-use Rattle.board_face.specs.SlotSteps.{next_slot}
-use Rattle.board_face.specs.declared.views.parts.Setting.{Setting}
-use Rattle.board_face.specs.declared.views.parts.Slot.{Slot}
-use Rattle.board_face.specs.declared.views.nic.NicSide.{NicSide}
+use Rattle.board_face.specs.{Sides.{IsApp}, Opened.{unseen}, SlotSteps.{next_slot}, declared.views.{parts.{Setting.{Setting}, Slot.{Slot}}, nic.NicSide.{NicSide}}}
 use Rattle.board_face.specs.declared.views.app.AppSide.{AppSide}
-use Rattle.ref_words.specs.Words.{Words}
-use Rattle.ref_words.specs.Rings.{AreRings}
-use Rattle.ref_words.proofs.RingSteps.{AllRings}
+use Rattle.ref_words.{specs.{Words.{Words}, Rings.{AreRings}}, proofs.RingSteps.{AllRings}}
 
 -- what the card has seen of its next slot for one application changes
 pub slot-here : (slots : List Slot) (a : ℕ) (slot : Slot) → a < length slots → next_slot (set slots a slot) a ≡ slot

@@ -1,14 +1,8 @@
 -- The rings stay as they are where neither end of any moved.
-use Rattle.std.proofs.Common.{◌≡◌, ⊎_elim, ℕ, List, set, get_or, ap, sym, ◌∙◌, arith, subst}
-use Rattle.std.specs.Prelude.{◌≢◌}
-use Rattle.std.proofs.lemmas.List.{length-set, get_or-set_same, get_or-set_other}
-use Rattle.std.proofs.lemmas.Bool.Decides.{eqb_tells}
-use Rattle.board_face.specs.Sides.{IsApp}
-use Rattle.board_face.specs.declared.views.parts.Setting.{Setting}
-use Rattle.board_face.specs.declared.views.nic.NicSide.{NicSide}
-use Rattle.board_face.specs.declared.views.app.AppSide.{AppSide}
-use Rattle.ref_words.specs.Words.{Words}
-use Rattle.ref_words.specs.Rings.{AreRings}
+use Rattle.std.{proofs.Common.{◌≡◌, ⊎_elim, ℕ, List, set, get_or, ap, sym, ◌∙◌, arith, subst}, specs.Prelude.{◌≢◌}}
+use Rattle.std.proofs.lemmas.{List.{length-set, get_or-set_same, get_or-set_other}, Bool.Decides.{eqb_tells}}
+use Rattle.board_face.specs.{Sides.{IsApp}, declared.views.{parts.Setting.{Setting}, nic.NicSide.{NicSide}, app.AppSide.{AppSide}}}
+use Rattle.ref_words.specs.{Words.{Words}, Rings.{AreRings}}
 
 -- all rings of a board
 abbrev pub AllRings : Setting → Words → NicSide → List AppSide → Type 0

@@ -1,18 +1,11 @@
 -- Each step at a ring keeps it, whatever is written there and however many words a slot has.
 use Rattle.std.proofs.Common.{◌≡◌, ⊎_elim, inl, inr, ℕ, suc, ◌+◌, ◌%◌, ◌<◌, ◌≤◌, true, List, [], ◌∷◌, ◌++◌}
-use Rattle.std.proofs.Common.{length, take, drop, set, get_or, refl, ap, sym, ◌∙◌, arith, subst, mod-lt}
-use Rattle.std.specs.Prelude.{◌≢◌, ◌⊎◌}
-use Rattle.std.proofs.lemmas.List.{length-set, get_or-set_same, get_or-set_other, length_push, get_or_append_left}
-use Rattle.std.proofs.lemmas.List.{get_or_push, take_more, take_more_set, take_all}
-use Rattle.std.proofs.Math.Nat.{add-mod_right}
-use Rattle.std.proofs.lemmas.Bool.{cases_lt}
-use Rattle.std.proofs.lemmas.Bool.Decides.{eqb_tells}
+use Rattle.std.{proofs.Common.{length, take, drop, set, get_or, refl, ap, sym, ◌∙◌, arith, subst, mod-lt}, specs.Prelude.{◌≢◌, ◌⊎◌}}
+use Rattle.std.proofs.lemmas.List.{length-set, get_or-set_same, get_or-set_other, length_push, get_or_append_left, get_or_push, take_more, take_more_set, take_all}
+use Rattle.std.proofs.{Math.Nat.{add-mod_right}, lemmas.Bool.{cases_lt, Decides.{eqb_tells}}}
 use Rattle.atomic_table.proofs.Lists.{one_turn}
-use Rattle.board_face.specs.declared.views.parts.Slot.{Slot}
-use Rattle.ref_words.specs.Rings.{slot_of, IsSoFar, IsRing}
-use Rattle.ref_words.specs.Words.{with_word}
-use Rattle.board_face.specs.Opened.{unseen}
-use Rattle.board_face.specs.SlotSteps.{seen_with, one_more}
+use Rattle.board_face.specs.{declared.views.parts.Slot.{Slot}, Opened.{unseen}, SlotSteps.{seen_with, one_more}}
+use Rattle.ref_words.specs.{Rings.{slot_of, IsSoFar, IsRing}, Words.{with_word}}
 
 pub apart : (k j p : ℕ) → k < j → j < k + p → k % p ≢ j % p
 apart k j p less near e = let same : k ≡ j = one_turn k j p (omega arith) near e in absurd (omega arith)

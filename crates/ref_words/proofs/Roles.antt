@@ -1,19 +1,12 @@
 -- The seats of the card and of the applications, after a step of one of them.
-use Rattle.std.proofs.Common.{◌≡◌, ℕ, zero, ◌+◌, ◌<◌, List, [], ◌∷◌, ◌++◌, set, get_or, length, refl, sym, ◌∙◌, arith}
-use Rattle.std.specs.Prelude.{◌≢◌}
+use Rattle.std.{proofs.Common.{◌≡◌, ℕ, zero, ◌+◌, ◌<◌, List, [], ◌∷◌, ◌++◌, set, get_or, length, refl, sym, ◌∙◌, arith}, specs.Prelude.{◌≢◌}}
 use Rattle.std.proofs.lemmas.List.{get_or-set_same, get_or-set_other, length-set, get_or_default}
 use mathlib.Core.Option.{some}
 use lib.ListN.{get_elem?}
-use Rattle.board_face.specs.NicCalls.{apps_of}
-use Rattle.board_face.specs.Opened.{new_nic, new_app}
-use Rattle.board_face.specs.Sides.{IsApp}
-use Rattle.board_face.specs.declared.views.parts.Setting.{Setting}
-use Rattle.board_face.specs.declared.views.nic.NicSide.{NicSide}
+use Rattle.board_face.specs.{NicCalls.{apps_of}, Opened.{new_nic, new_app}, Sides.{IsApp}, declared.views.{parts.Setting.{Setting}, nic.NicSide.{NicSide}}}
 use Rattle.board_face.specs.declared.views.app.AppSide.{AppSide}
-use Rattle.ref_words.specs.declared.view.View.{View}
-use Rattle.ref_words.specs.Words.{Words, with_role}
-use Rattle.ref_words.specs.Seated.{Seated, times_in, card_view, app_view, due_view, dealt_out, both_sides, no_role, side_at}
-use Rattle.ref_words.specs.Rule.{RefRule}
+use Rattle.ref_words.specs.{declared.view.View.{View}, Words.{Words, with_role}}
+use Rattle.ref_words.specs.{Seated.{Seated, times_in, card_view, app_view, due_view, dealt_out, both_sides, no_role, side_at}, Rule.{RefRule}}
 use Rattle.ref_words.proofs.RingSteps.{rings-words}
 use Rattle.ref_words.proofs.Seating as seating
 

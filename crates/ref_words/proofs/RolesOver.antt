@@ -1,33 +1,15 @@
 -- Roles that are over were served, and nobody of them has a buffer.
-use Rattle.std.proofs.Common.{◌≡◌, ℕ, ◌+◌, ◌<◌, ◌≤◌, true, List, [], length, map, take, drop}
-use Rattle.std.proofs.Common.{get_or, refl, ap, sym, ◌∙◌, arith, subst, ⊎_elim, length-drop}
-use Rattle.std.specs.Prelude.{◌==◌, All, nat_eq, count_by, if◌then◌else◌, Option, Some, None}
-use Rattle.std.specs.List.{flat_map}
-use Rattle.std.proofs.lemmas.List.{take_all, length-map, nil_from_length}
-use Rattle.std.proofs.lemmas.Bool.Decides.{eqb_tells}
+use Rattle.std.proofs.Common.{◌≡◌, ℕ, ◌+◌, ◌<◌, ◌≤◌, true, List, [], length, map, take, drop, get_or, refl, ap, sym, ◌∙◌, arith, subst, ⊎_elim, length-drop}
+use Rattle.std.specs.{Prelude.{◌==◌, All, nat_eq, count_by, if◌then◌else◌, Option, Some, None}, List.{flat_map}}
+use Rattle.std.proofs.lemmas.{List.{take_all, length-map, nil_from_length}, Bool.Decides.{eqb_tells}}
 use Rattle.area_layout.specs.Layout.{pool_buffers}
-use Rattle.board_face.specs.Sides.{IsApp}
-use Rattle.board_face.specs.AppCalls.{CanLeave}
-use Rattle.board_face.specs.Counts.{pool_count}
-use Rattle.board_face.specs.Ended.{IsServed}
-use Rattle.board_face.specs.Holders.{sent_to, on_way, returning_in_hand, returning_count, nic_holders, app_holders}
-use Rattle.board_face.specs.Relay.{as_taken, dealt_entries}
-use Rattle.board_face.specs.Returns.{entries_on_way}
-use Rattle.board_face.specs.declared.views.parts.Setting.{Setting}
-use Rattle.board_face.specs.declared.views.nic.EntryInHand.{EntryInHand}
-use Rattle.board_face.specs.declared.views.nic.NicSide.{NicSide}
-use Rattle.board_face.specs.declared.views.app.WrittenEntry.{WrittenEntry}
-use Rattle.board_face.specs.declared.views.app.AppSide.{AppSide}
-use Rattle.board_face.proofs.SideLemmas.{IsApp-at}
-use Rattle.board_face.proofs.Tallies.{tally, tally-flat}
+use Rattle.board_face.specs.{Sides.{IsApp}, AppCalls.{CanLeave}, Counts.{pool_count}, Ended.{IsServed}}
+use Rattle.board_face.specs.{Holders.{sent_to, on_way, returning_in_hand, returning_count, nic_holders, app_holders}, Relay.{as_taken, dealt_entries}}
+use Rattle.board_face.specs.{Returns.{entries_on_way}, declared.views.{parts.Setting.{Setting}, nic.{EntryInHand.{EntryInHand}, NicSide.{NicSide}}}}
+use Rattle.board_face.{specs.declared.views.app.{WrittenEntry.{WrittenEntry}, AppSide.{AppSide}}, proofs.{SideLemmas.{IsApp-at}, Tallies.{tally, tally-flat}}}
 use Rattle.board_face.proofs.Parts.{nic_count, app_count, helds_in, spares_in, loans_in, notes_in, owed_count, owed-count, count-tally}
-use Rattle.board_face.proofs.Parts.{length-nic_holders, length-app_holders, pool_count-parts}
-use Rattle.ref_words.specs.Words.{Words, listed_in}
-use Rattle.ref_words.specs.Over.{CardIsOver, AppIsOver}
-use Rattle.ref_words.specs.PhaseRule.{IsAppPhased}
-use Rattle.ref_words.specs.TextRule.{HasTexts}
-use Rattle.ref_words.specs.Rule.{BoardRule}
-use Rattle.board_face.proofs.Counting.{total-zero}
+use Rattle.board_face.proofs.{Parts.{length-nic_holders, length-app_holders, pool_count-parts}, Counting.{total-zero}}
+use Rattle.ref_words.specs.{Words.{Words, listed_in}, Over.{CardIsOver, AppIsOver}, PhaseRule.{IsAppPhased}, TextRule.{HasTexts}, Rule.{BoardRule}}
 
 -- what nothing is left of behind its first n was taken whole
 all-taken : {A B : Type 0} (f : A → B) (n : ℕ) (xs : List A) → drop n xs ≡ [] → take n (map f xs) ≡ map f xs

@@ -1,32 +1,18 @@
 -- Whatever the steps, the rule is kept: by the law of each kind, step after step.
-use Rattle.std.proofs.Common.{◌≡◌, ℕ, ◌<◌, List, length, [], ◌∷◌, set, refl, sym, subst, arith}
-use Rattle.std.specs.Prelude.{◌≤◌, All}
-use Rattle.std.proofs.lemmas.List.Elements.{All-weaker}
+use Rattle.std.{proofs.{Common.{◌≡◌, ℕ, ◌<◌, List, length, [], ◌∷◌, set, refl, sym, subst, arith}, lemmas.List.Elements.{All-weaker}}, specs.Prelude.{◌≤◌, All}}
 use Rattle.area_layout.specs.Layout.{IsLayout, total}
-use Rattle.board_face.specs.Counts.{pool_count}
-use Rattle.board_face.specs.Holders.{sent_to}
-use Rattle.board_face.specs.Relay.{IsAsSent}
-use Rattle.board_face.specs.Sides.{IsApp}
-use Rattle.board_face.specs.declared.views.parts.Setting.{Setting}
-use Rattle.board_face.specs.declared.views.nic.NicSide.{NicSide}
-use Rattle.board_face.specs.declared.views.app.AppSide.{AppSide}
-use Rattle.board_face.proofs.FreeLemmas.{user_count-le}
-use Rattle.ref_words.specs.Words.{Words}
-use Rattle.ref_words.specs.Seated.{Seated, card_view, app_view, side_at}
-use Rattle.ref_words.specs.Rule.{BoardRule}
+use Rattle.board_face.specs.{Counts.{pool_count}, Holders.{sent_to}, Relay.{IsAsSent}, Sides.{IsApp}, declared.views.{parts.Setting.{Setting}, nic.NicSide.{NicSide}}}
+use Rattle.board_face.{specs.declared.views.app.AppSide.{AppSide}, proofs.FreeLemmas.{user_count-le}}
+use Rattle.ref_words.specs.{Words.{Words}, Seated.{Seated, card_view, app_view, side_at}, Rule.{BoardRule}}
 use Rattle.ref_words.specs.Laws.{OpenLaw, SplitLaw, JoinLaw, MoveLaw, TakeRoleLaw, TakeLaw, HoldLaw, GiveUpLaw, LendStepLaw, LookLaw, ReturnLaw, ScrubLaw}
-use Rattle.ref_words.specs.SlotLaws.{WriterLooksLaw, FreeSlotLaw, RawSlotLaw, StoreLaw, PublishLaw}
-use Rattle.ref_words.specs.SlotLaws.{PublishNoteLaw, ReaderLooksLaw, LoadLaw, FreeLaw, TakeNoteLaw}
-use Rattle.ref_words.specs.TextRule.{HasTexts}
-use Rattle.ref_words.specs.AreaLaws.{StoreTextLaw, LoadTextLaw}
-use Rattle.ref_words.specs.FreeLaws.{SweepLaw, ListLaw, WordLookLaw, PickLaw}
+use Rattle.ref_words.specs.SlotLaws.{WriterLooksLaw, FreeSlotLaw, RawSlotLaw, StoreLaw, PublishLaw, PublishNoteLaw, ReaderLooksLaw, LoadLaw, FreeLaw, TakeNoteLaw}
+use Rattle.ref_words.specs.{TextRule.{HasTexts}, AreaLaws.{StoreTextLaw, LoadTextLaw}, FreeLaws.{SweepLaw, ListLaw, WordLookLaw, PickLaw}}
 use Rattle.ref_words.specs.PhaseLaws.{EndLaw, PhaseLookLaw, SeekLaw, ReserveLookLaw}
-use Rattle.ref_words.specs.Runs
 use Rattle.ref_words.specs.Runs.{State, Step, CardStep, AppStep, CardMay, AppMay, card_words, card_after, app_words, app_after}
-use Rattle.ref_words.specs.Runs.{May, MayRun, after, run_of, opened_state, view_of, most_holders, Keeps, Holds}
-use Rattle.ref_words.proofs.Beginning.{holders-few}
+use Rattle.ref_words.{specs.Runs.{May, MayRun, after, run_of, opened_state, view_of, most_holders, Keeps, Holds}, proofs.Beginning.{holders-few}}
 use Rattle.ref_words.proofs.AppNumbers.{refill_looked-number, slot_looked-number, raw_looked-number, any_looked-number, last_looked-number}
 use Rattle.ref_words.proofs.AppNumbers.{word_looked-number, bit_cleared-number, end_looked-number, note_sought-number, reserve_looked-number, loaded-number}
+use Rattle.ref_words.specs.Runs
 
 -- the law of each kind
 pub record AreLaws : Type 0 where

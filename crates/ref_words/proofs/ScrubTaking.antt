@@ -1,41 +1,17 @@
 -- A scrub takes what an application owes in a buffer: the user count is 0 then, and as many references are returning.
-use Rattle.std.proofs.Common.{◌≡◌, ⊎_elim, ℕ, ◌+◌, ◌<◌, ◌≤◌, Bool, true, false, List, [], length, set, get_or, refl, ap, sym}
-use Rattle.std.proofs.Common.{◌∙◌, arith, subst}
-use Rattle.std.proofs.Common.{length-drop, inl}
-use Rattle.std.specs.Prelude.{◌≢◌, ◌==◌, if◌then◌else◌, nat_eq, slice_index}
-use Rattle.std.proofs.lemmas.Bool.{cases_lt, false≢true}
-use Rattle.std.proofs.lemmas.Bool.Decides.{eqb_tells}
-use Rattle.std.proofs.lemmas.List.{length-set, get_or-set_same, get_or-set_other}
+use Rattle.std.proofs.Common.{◌≡◌, ⊎_elim, ℕ, ◌+◌, ◌<◌, ◌≤◌, Bool, true, false, List, [], length, set, get_or, refl, ap, sym, ◌∙◌, arith, subst, length-drop, inl}
+use Rattle.std.{specs.Prelude.{◌≢◌, ◌==◌, if◌then◌else◌, nat_eq, slice_index}, proofs.lemmas.Bool.{cases_lt, false≢true, Decides.{eqb_tells}}}
+use Rattle.std.{proofs.lemmas.List.{length-set, get_or-set_same, get_or-set_other}, specs.Prelude.{All}}
 use Rattle.area_layout.specs.Layout.{total}
-use Rattle.board_face.specs.AppEvents.{reserve_of}
-use Rattle.board_face.specs.Sides.{IsApp}
-use Rattle.board_face.specs.Holders.{ended_in, returning_count, returned_in}
-use Rattle.board_face.specs.Counts.{pool_count, user_count, EndedWereReturned}
-use Rattle.board_face.specs.Used.{HasFewPicks}
-use Rattle.board_face.specs.Returns.{entries_on_way}
-use Rattle.board_face.specs.Steps.{side_user_taken}
-use Rattle.board_face.specs.declared.views.parts.Setting.{Setting}
-use Rattle.board_face.specs.declared.views.nic.NicSide.{NicSide}
-use Rattle.board_face.specs.declared.views.app.AppSide.{AppSide}
-use Rattle.board_face.proofs.Parts.{user_part, owed_count, owed-count, loans_in, returned_in-count}
-use Rattle.board_face.proofs.NicLemmas.{app_count-stretch}
-use Rattle.board_face.proofs.AppLemmas.{pool_count-app, user_count-app}
-use Rattle.board_face.proofs.PlacesByEvent.{app_places-stretch}
-use Rattle.board_face.proofs.ArePlacedLemmas.{ArePlaced-app}
-use Rattle.board_face.proofs.MadeLastLemmas.{IsMadeLast-app}
-use Rattle.board_face.proofs.IsFilledByOneLemmas.{IsFilledByOne-app}
-use Rattle.board_face.proofs.FillingsFitLemmas.{FillingsFit-same}
+use Rattle.board_face.specs.{AppEvents.{reserve_of}, Sides.{IsApp}, Holders.{ended_in, returning_count, returned_in}}
+use Rattle.board_face.specs.{Counts.{pool_count, user_count, EndedWereReturned}, Used.{HasFewPicks}, Returns.{entries_on_way}, Steps.{side_user_taken}}
+use Rattle.board_face.specs.declared.views.{parts.Setting.{Setting}, nic.NicSide.{NicSide}, app.AppSide.{AppSide}}
+use Rattle.board_face.proofs.{Parts.{user_part, owed_count, owed-count, loans_in, returned_in-count}, NicLemmas.{app_count-stretch}}
+use Rattle.board_face.proofs.{AppLemmas.{pool_count-app, user_count-app}, PlacesByEvent.{app_places-stretch}, ArePlacedLemmas.{ArePlaced-app}}
+use Rattle.board_face.proofs.{MadeLastLemmas.{IsMadeLast-app}, IsFilledByOneLemmas.{IsFilledByOne-app}, FillingsFitLemmas.{FillingsFit-same}}
 use Rattle.board_face.proofs.ListLemmas.{eqb_same, not-eqb}
-use Rattle.ref_words.specs.Words.{Words, user_of, listed_in}
-use Rattle.ref_words.specs.Sides.{HasScrubLists}
-use Rattle.std.specs.Prelude.{All}
-use Rattle.ref_words.specs.Rings.{EntryFits}
-use Rattle.ref_words.specs.Rule.{RefRule}
-use Rattle.ref_words.proofs.RingSteps.{rings-app}
-use Rattle.ref_words.proofs.Counting.{if_so}
-use Rattle.ref_words.proofs.Frees.{AreKept-app, free_places-hands}
-use Rattle.ref_words.proofs.SideSteps.{mine, own-setting, SidesRule-app, is-app}
-use Rattle.ref_words.proofs.UserSteps.{IsUserStep}
+use Rattle.ref_words.{specs.{Words.{Words, user_of, listed_in}, Sides.{HasScrubLists}, Rings.{EntryFits}, Rule.{RefRule}}, proofs.RingSteps.{rings-app}}
+use Rattle.ref_words.proofs.{Counting.{if_so}, Frees.{AreKept-app, free_places-hands}, SideSteps.{mine, own-setting, SidesRule-app, is-app}, UserSteps.{IsUserStep}}
 use Rattle.ref_words.proofs.Judging.{own-users}
 
 -- one number of a list is raised by n

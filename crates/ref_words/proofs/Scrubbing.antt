@@ -1,34 +1,15 @@
 -- What a scrub took of a buffer's user count is taken from its pool count.
-use Rattle.std.proofs.Common.{◌≡◌, ⊎_elim, ℕ, ◌+◌, ◌-◌, ◌<◌, ◌≤◌, Bool, List, length, set, get_or, refl, ap, sym}
-use Rattle.std.proofs.Common.{◌∙◌, arith}
-use Rattle.std.specs.Prelude.{◌≢◌, ◌==◌, ◌&&◌, nat_lt, slice_index}
-use Rattle.std.proofs.lemmas.Bool.{lt-ltb, le-ltb, cases_lt}
-use Rattle.std.proofs.lemmas.Bool.Decides.{eqb_tells}
+use Rattle.std.proofs.Common.{◌≡◌, ⊎_elim, ℕ, ◌+◌, ◌-◌, ◌<◌, ◌≤◌, Bool, List, length, set, get_or, refl, ap, sym, ◌∙◌, arith}
+use Rattle.std.{specs.Prelude.{◌≢◌, ◌==◌, ◌&&◌, nat_lt, slice_index}, proofs.lemmas.Bool.{lt-ltb, le-ltb, cases_lt, Decides.{eqb_tells}}}
 use Rattle.std.proofs.lemmas.List.{length-set, get_or_past, get_or-set_same, get_or-set_other}
 use Rattle.area_layout.specs.Layout.{total, pool_buffers}
-use Rattle.board_face.specs.AppEvents.{reserve_of}
-use Rattle.board_face.specs.Sides.{IsApp}
-use Rattle.board_face.specs.Counts.{pool_count, EndedWereReturned}
-use Rattle.board_face.specs.declared.views.parts.Setting.{Setting}
-use Rattle.board_face.specs.declared.views.nic.NicSide.{NicSide}
-use Rattle.board_face.specs.declared.views.app.AppSide.{AppSide}
-use Rattle.board_face.specs.Steps.{side_owes_lowered}
-use Rattle.board_face.proofs.NicLemmas.{app_count-stretch}
-use Rattle.board_face.proofs.AppLemmas.{pool_count-app, user_count-app}
-use Rattle.board_face.proofs.PlacesByEvent.{app_places-stretch}
-use Rattle.board_face.proofs.ArePlacedLemmas.{ArePlaced-app}
-use Rattle.board_face.proofs.MadeLastLemmas.{IsMadeLast-app}
-use Rattle.board_face.proofs.IsFilledByOneLemmas.{IsFilledByOne-app}
-use Rattle.board_face.proofs.FillingsFitLemmas.{FillingsFit-same}
-use Rattle.ref_words.specs.Words.{Words, pool_of, listed_in}
-use Rattle.ref_words.specs.Rule.{RefRule}
-use Rattle.ref_words.proofs.RingSteps.{rings-app}
-use Rattle.ref_words.proofs.Counting.{if_so, and-false}
-use Rattle.ref_words.proofs.Frees.{AreFreeOnce-fewer, AreKept-app, free_places-hands}
-use Rattle.ref_words.proofs.SideSteps.{own-was, mine, own-setting, SidesRule-app}
-use Rattle.ref_words.proofs.PoolSteps.{IsPoolStep}
-use Rattle.ref_words.proofs.Shutting.{last-is}
-use Rattle.ref_words.proofs.Releasing.{hands-case}
+use Rattle.board_face.specs.{AppEvents.{reserve_of}, Sides.{IsApp}, Counts.{pool_count, EndedWereReturned}, declared.views.parts.Setting.{Setting}}
+use Rattle.board_face.{specs.{declared.views.{nic.NicSide.{NicSide}, app.AppSide.{AppSide}}, Steps.{side_owes_lowered}}, proofs.NicLemmas.{app_count-stretch}}
+use Rattle.board_face.proofs.{AppLemmas.{pool_count-app, user_count-app}, PlacesByEvent.{app_places-stretch}, ArePlacedLemmas.{ArePlaced-app}}
+use Rattle.board_face.proofs.{MadeLastLemmas.{IsMadeLast-app}, IsFilledByOneLemmas.{IsFilledByOne-app}, FillingsFitLemmas.{FillingsFit-same}}
+use Rattle.ref_words.{specs.{Words.{Words, pool_of, listed_in}, Rule.{RefRule}}, proofs.{RingSteps.{rings-app}, Counting.{if_so, and-false}}}
+use Rattle.ref_words.proofs.{Frees.{AreFreeOnce-fewer, AreKept-app, free_places-hands}, SideSteps.{own-was, mine, own-setting, SidesRule-app}, PoolSteps.{IsPoolStep}}
+use Rattle.ref_words.proofs.{Shutting.{last-is}, Releasing.{hands-case}}
 use Rattle.zr_kinds.proofs.Booleans.{and-true}
 
 module _ (setting : Setting) (words : Words) (nic : NicSide) (apps : List AppSide) (a : ℕ) (app : AppSide) (b n : ℕ)

@@ -1,17 +1,13 @@
 -- Who has which role, after a step of a seat.
-use Rattle.std.proofs.Common.{◌≡◌, ℕ, zero, suc, ◌+◌, ◌<◌, ◌≤◌, List, [], ◌∷◌, ◌++◌, set, get_or, length, refl, ap, sym}
-use Rattle.std.proofs.Common.{◌∙◌, arith, ⊎_elim, subst, inl, inr}
-use Rattle.std.specs.Prelude.{◌≢◌, ◌⊎◌, ◌==◌}
+use Rattle.std.proofs.Common.{◌≡◌, ℕ, zero, suc, ◌+◌, ◌<◌, ◌≤◌, List, [], ◌∷◌, ◌++◌, set, get_or, length, refl, ap, sym, ◌∙◌, arith, ⊎_elim, subst, inl, inr}
+use Rattle.std.{specs.Prelude.{◌≢◌, ◌⊎◌, ◌==◌}, proofs.lemmas.List.{length-set, get_or-set_same, get_or-set_other, append-nil}}
 use mathlib.Core.Option.{some, some-injective, some-ne-none}
 use mathlib.Core.Logic.{dite}
 use native.Mathlib.Decide.{ℕ_discrete}
 use lib.ListN.{get_elem?}
 use Rattle.atomic_table.proofs.Lists.{at_set, at_snoc, set_else}
-use Rattle.board_face.proofs.ListLemmas.{eqb_same, not-eqb}
-use Rattle.board_face.proofs.Tallies.{weight, weight-le}
-use Rattle.std.proofs.lemmas.List.{length-set, get_or-set_same, get_or-set_other, append-nil}
-use Rattle.ref_words.specs.declared.view.View.{View}
-use Rattle.ref_words.specs.Seated.{times_in, times_taken, AreTaken, AreDealt, dealt_out, due_view, no_role, both_sides}
+use Rattle.board_face.proofs.{ListLemmas.{eqb_same, not-eqb}, Tallies.{weight, weight-le}}
+use Rattle.ref_words.specs.{declared.view.View.{View}, Seated.{times_in, times_taken, AreTaken, AreDealt, dealt_out, due_view, no_role, both_sides}}
 
 module _ {V S : Type 0} (sides : V → List S) (number : S → ℕ) where
   pub taken-set : (k : ℕ) (views : List V) (i : ℕ) (v w : V) → get_elem? views i ≡ some v

@@ -1,48 +1,21 @@
 -- The card hands a note slot over: a note is on its way.
-use Rattle.std.proofs.Common.{◌≡◌, ⊎_elim, ℕ, ◌<◌, ◌≤◌, true, false, List, [], ◌∷◌}
-use Rattle.std.proofs.Common.{◌++◌, length, map, take, set, get_or, refl}
-use Rattle.std.proofs.Common.{ap, sym, ◌∙◌, arith, subst, mod-lt}
-use Rattle.std.specs.Prelude.{◌≢◌, if◌then◌else◌}
-use Rattle.std.proofs.lemmas.Bool.Decides.{eqb_tells}
-use Rattle.std.proofs.lemmas.List.{length-set}
-use Rattle.std.proofs.lemmas.List.Elements.{All-push}
+use Rattle.std.proofs.Common.{◌≡◌, ⊎_elim, ℕ, ◌<◌, ◌≤◌, true, false, List, [], ◌∷◌, ◌++◌, length, map, take, set, get_or, refl, ap, sym, ◌∙◌, arith, subst, mod-lt}
+use Rattle.std.{specs.Prelude.{◌≢◌, if◌then◌else◌}, proofs.lemmas.{Bool.Decides.{eqb_tells}, List.{length-set, Elements.{All-push}}}}
 use Rattle.zr_kinds.specs.declared.place.Note.{Note}
 use Rattle.area_layout.specs.Layout.{area_of_buffer}
-use Rattle.board_face.specs.NicCalls.{HasPiece, apps_of}
-use Rattle.board_face.specs.NicEvents.{text_at, sent, sent_linear}
-use Rattle.board_face.specs.Holders.{sent_to}
-use Rattle.board_face.specs.Counts.{pool_count}
-use Rattle.board_face.specs.Places.{ArePlaced, IsMadeLast}
-use Rattle.board_face.specs.Fillings.{IsFilledByOne}
-use Rattle.board_face.specs.Opened.{new_app, unseen}
-use Rattle.board_face.specs.Relay.{IsProper, as_taken}
-use Rattle.board_face.specs.Texts.{IsSplitNote, IsLinearNote}
-use Rattle.board_face.specs.Sides.{IsApp, nic_at}
-use Rattle.board_face.specs.SlotSteps.{next_slot, side_sent, side_sent_linear}
-use Rattle.board_face.specs.declared.views.parts.Setting.{Setting}
-use Rattle.board_face.specs.declared.views.nic.NicView.{NicView}
-use Rattle.board_face.specs.declared.views.nic.NicSide.{NicSide}
-use Rattle.board_face.specs.declared.views.nic.SentNote.{SentNote}
-use Rattle.board_face.specs.declared.views.app.AppSide.{AppSide}
+use Rattle.board_face.specs.{NicCalls.{HasPiece, apps_of}, NicEvents.{text_at, sent, sent_linear}, Holders.{sent_to}, Counts.{pool_count}}
+use Rattle.board_face.specs.{Places.{ArePlaced, IsMadeLast}, Fillings.{IsFilledByOne}, Opened.{new_app, unseen}, Relay.{IsProper, as_taken}}
+use Rattle.board_face.specs.{Texts.{IsSplitNote, IsLinearNote}, Sides.{IsApp, nic_at}, SlotSteps.{next_slot, side_sent, side_sent_linear}}
+use Rattle.board_face.specs.declared.views.{parts.Setting.{Setting}, nic.{NicView.{NicView}, NicSide.{NicSide}, SentNote.{SentNote}}, app.AppSide.{AppSide}}
 use Rattle.board_face.proofs.NicLemmas.{pool_count-sent, pool_count-sent_linear, user_count-nic, sent_to-same, sent_to-other}
-use Rattle.board_face.proofs.ArePlacedLemmas.{ArePlaced-sent, ArePlaced-sent_linear}
-use Rattle.board_face.proofs.IsFilledByOneLemmas.{IsFilledByOne-sent, IsFilledByOne-sent_linear}
-use Rattle.board_face.proofs.MadeLastLemmas.{IsMadeLast-sent, IsMadeLast-sent_linear}
-use Rattle.board_face.proofs.SideLemmas.{IsApp-at}
+use Rattle.board_face.proofs.{ArePlacedLemmas.{ArePlaced-sent, ArePlaced-sent_linear}, IsFilledByOneLemmas.{IsFilledByOne-sent, IsFilledByOne-sent_linear}}
+use Rattle.board_face.proofs.{MadeLastLemmas.{IsMadeLast-sent, IsMadeLast-sent_linear}, SideLemmas.{IsApp-at}}
 use Rattle.word_rings.specs.Slots.{note_body}
-use Rattle.ref_words.specs.Words.{Words, listed_in, with_note}
-use Rattle.ref_words.specs.Rings.{NoteFits, words_of_note, note_so_far, writes_note_at}
-use Rattle.ref_words.specs.Sides.{IsTakenInOrder}
-use Rattle.ref_words.specs.Rule.{RefRule}
+use Rattle.ref_words.specs.{Words.{Words, listed_in, with_note}, Rings.{NoteFits, words_of_note, note_so_far, writes_note_at}, Sides.{IsTakenInOrder}, Rule.{RefRule}}
+use Rattle.ref_words.proofs.{RingSteps.{AllRings}, RingMoves.{slot-here, slot-other, rings-parts}, SlotWords.{ring-here, ring-other, differ-note}}
+use Rattle.ref_words.proofs.{SlotSteps.{DifferInSlots, RefRule-slot}, CardSteps.{SidesRule-card}, Frees.{AreKept-card}, Writing.{take-mapped}}
 use Rattle.ref_words.proofs.Ringing as ringing
 use Rattle.ref_words.proofs.LeftWords as left-words
-use Rattle.ref_words.proofs.RingSteps.{AllRings}
-use Rattle.ref_words.proofs.RingMoves.{slot-here, slot-other, rings-parts}
-use Rattle.ref_words.proofs.SlotWords.{ring-here, ring-other, differ-note}
-use Rattle.ref_words.proofs.SlotSteps.{DifferInSlots, RefRule-slot}
-use Rattle.ref_words.proofs.CardSteps.{SidesRule-card}
-use Rattle.ref_words.proofs.Frees.{AreKept-card}
-use Rattle.ref_words.proofs.Writing.{take-mapped}
 
 -- What is to be known of the view v after the event, by which the note s was sent.
 pub record IsSending (nic : NicSide) (apps : List AppSide) (v : NicView) (s : SentNote) : Type 0 where

@@ -1,34 +1,14 @@
 -- The card gives its own reference to a buffer up.
-use Rattle.std.proofs.Common.{◌≡◌, ⊎_elim, ℕ, ◌+◌, ◌-◌, ◌<◌, ◌≤◌, Bool, List, refl, ap, sym, ◌∙◌, arith}
-use Rattle.std.specs.Prelude.{◌==◌, ◌&&◌, nat_lt, if◌then◌else◌}
-use Rattle.std.proofs.lemmas.List.Elements.{All-contains}
-use Rattle.std.proofs.lemmas.Bool.{lt-ltb}
-use Rattle.std.proofs.lemmas.Bool.Decides.{eqb_tells}
+use Rattle.std.{proofs.Common.{◌≡◌, ⊎_elim, ℕ, ◌+◌, ◌-◌, ◌<◌, ◌≤◌, Bool, List, refl, ap, sym, ◌∙◌, arith}, specs.Prelude.{◌==◌, ◌&&◌, nat_lt, if◌then◌else◌}}
+use Rattle.std.proofs.lemmas.{List.Elements.{All-contains}, Bool.{lt-ltb, Decides.{eqb_tells}}}
 use Rattle.area_layout.specs.Layout.{total, pool_buffers}
-use Rattle.board_face.specs.NicCalls.{HasOwn}
-use Rattle.board_face.specs.NicEvents.{shut}
-use Rattle.board_face.specs.Counts.{pool_count}
-use Rattle.board_face.specs.FreeOnce.{free_places}
-use Rattle.board_face.specs.Steps.{side_shut, hands_after}
-use Rattle.board_face.specs.declared.views.parts.Setting.{Setting}
-use Rattle.board_face.specs.declared.views.parts.Filling.{Filling}
-use Rattle.board_face.specs.declared.views.nic.NicSide.{NicSide}
-use Rattle.board_face.specs.declared.views.app.AppSide.{AppSide}
-use Rattle.board_face.proofs.NicLemmas.{pool_count-shut, user_count-nic}
-use Rattle.board_face.proofs.ArePlacedLemmas.{ArePlaced-shut}
-use Rattle.board_face.proofs.MadeLastLemmas.{IsMadeLast-nic}
-use Rattle.board_face.proofs.IsFilledByOneLemmas.{IsFilledByOne-shut}
-use Rattle.board_face.proofs.FillingsFitLemmas.{FillingsFit-shut}
-use Rattle.board_face.proofs.ListLemmas.{not-eqb}
-use Rattle.board_face.proofs.Tallies.{weight}
-use Rattle.ref_words.specs.Words.{Words, pool_of, listed_in}
-use Rattle.ref_words.specs.Rule.{RefRule}
-use Rattle.ref_words.proofs.RingSteps.{rings-card}
-use Rattle.ref_words.proofs.Counting.{cached-or-in_hand, if_so, if_so-weight}
-use Rattle.ref_words.proofs.Frees.{AreFreeOnce-fewer, AreKept-card, cache-grows}
-use Rattle.ref_words.proofs.CardSteps.{SidesRule-card}
-use Rattle.ref_words.proofs.PoolSteps.{IsPoolStep}
+use Rattle.board_face.specs.{NicCalls.{HasOwn}, NicEvents.{shut}, Counts.{pool_count}, FreeOnce.{free_places}, Steps.{side_shut, hands_after}}
+use Rattle.board_face.specs.declared.views.{parts.{Setting.{Setting}, Filling.{Filling}}, nic.NicSide.{NicSide}, app.AppSide.{AppSide}}
+use Rattle.board_face.proofs.{NicLemmas.{pool_count-shut, user_count-nic}, ArePlacedLemmas.{ArePlaced-shut}, MadeLastLemmas.{IsMadeLast-nic}}
+use Rattle.board_face.proofs.{IsFilledByOneLemmas.{IsFilledByOne-shut}, FillingsFitLemmas.{FillingsFit-shut}, ListLemmas.{not-eqb}, Tallies.{weight}}
 use Rattle.board_face.proofs.Counting.{weight-other, weight-same, weight-swap}
+use Rattle.ref_words.{specs.{Words.{Words, pool_of, listed_in}, Rule.{RefRule}}, proofs.{RingSteps.{rings-card}, Counting.{cached-or-in_hand, if_so, if_so-weight}}}
+use Rattle.ref_words.proofs.{Frees.{AreFreeOnce-fewer, AreKept-card, cache-grows}, CardSteps.{SidesRule-card}, PoolSteps.{IsPoolStep}}
 use Rattle.zr_kinds.proofs.Booleans.{and-true}
 
 -- a count of w is lowered by w to 0, and no greater one

@@ -1,28 +1,14 @@
 -- What holds of the sides holds again once an application's side changed.
-use Rattle.std.proofs.Common.{◌≡◌, ⊎_elim, ℕ, ◌<◌, ◌≤◌, true, List, [], ◌∷◌, length, set}
-use Rattle.std.proofs.Common.{get_or, ap, refl, sym, ◌∙◌, arith, subst, inr}
-use Rattle.std.specs.Prelude.{◌≢◌, ◌⊎◌, All}
-use Rattle.std.proofs.lemmas.List.{length-set, get_or-set_same, get_or-set_other}
-use Rattle.std.proofs.lemmas.List.Elements.{All-set}
-use Rattle.std.proofs.lemmas.Bool.Decides.{eqb_tells}
+use Rattle.std.proofs.Common.{◌≡◌, ⊎_elim, ℕ, ◌<◌, ◌≤◌, true, List, [], ◌∷◌, length, set, get_or, ap, refl, sym, ◌∙◌, arith, subst, inr}
+use Rattle.std.{specs.Prelude.{◌≢◌, ◌⊎◌, All}, proofs.lemmas.{List.{length-set, get_or-set_same, get_or-set_other, Elements.{All-set}}, Bool.Decides.{eqb_tells}}}
 use Rattle.zr_kinds.specs.declared.ring.Rqe.{Rqe}
 use Rattle.area_layout.specs.Layout.{pool_buffers, total}
-use Rattle.board_face.specs.AppEvents.{reserve_of}
-use Rattle.board_face.specs.Sides.{IsApp}
-use Rattle.board_face.specs.Holders.{ended_in, returned_in}
-use Rattle.board_face.specs.Counts.{pool_count, EndedWereReturned}
-use Rattle.board_face.specs.Places.{ArePlaced, IsMadeLast}
-use Rattle.board_face.specs.Fillings.{IsFilledByOne, FillingsFit}
-use Rattle.board_face.specs.Used.{HasFewPicks}
-use Rattle.board_face.specs.Returns.{AreReturns, entries_on_way}
-use Rattle.board_face.specs.declared.views.parts.Setting.{Setting}
-use Rattle.board_face.specs.declared.views.nic.NicSide.{NicSide}
-use Rattle.board_face.specs.declared.views.app.AppSide.{AppSide}
-use Rattle.board_face.proofs.SideLemmas.{AreNumbered-set}
-use Rattle.ref_words.specs.Rings.{EntryFits}
-use Rattle.ref_words.specs.Sides.{SidesRule, HasScrubLists, HasFreeReserve, IsDealtInOrder, IsTakenInOrder, HasNoneOwed}
-use Rattle.ref_words.specs.Sides.{IsScrubbedSoFar, IsFirst, IsFirstRaw}
+use Rattle.board_face.specs.{AppEvents.{reserve_of}, Sides.{IsApp}, Holders.{ended_in, returned_in}, Counts.{pool_count, EndedWereReturned}}
+use Rattle.board_face.specs.{Places.{ArePlaced, IsMadeLast}, Fillings.{IsFilledByOne, FillingsFit}, Used.{HasFewPicks}, Returns.{AreReturns, entries_on_way}}
+use Rattle.board_face.{specs.declared.views.{parts.Setting.{Setting}, nic.NicSide.{NicSide}, app.AppSide.{AppSide}}, proofs.SideLemmas.{AreNumbered-set}}
 use Rattle.board_face.specs.NicCalls.{apps_of}
+use Rattle.ref_words.specs.{Rings.{EntryFits}, Sides.{SidesRule, HasScrubLists, HasFreeReserve, IsDealtInOrder, IsTakenInOrder, HasNoneOwed}}
+use Rattle.ref_words.specs.Sides.{IsScrubbedSoFar, IsFirst, IsFirstRaw}
 
 -- What is to be known of what the application itself did and knows.
 pub record IsOwnStep (nic : NicSide) (app now : AppSide) : Type 0 where

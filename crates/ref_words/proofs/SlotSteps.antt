@@ -1,19 +1,8 @@
 -- At a slot no count changes: neither holders nor users nor free places.
-use Rattle.std.proofs.Common.{◌≡◌, ℕ, ◌/◌, ◌%◌, List, [], get_or, refl, ap, sym, ◌∙◌, subst}
-use Rattle.std.specs.Prelude.{◌==◌}
-use Rattle.std.specs.Int.{bit_at}
-use Rattle.board_face.specs.Counts.{pool_count, user_count}
-use Rattle.board_face.specs.FreeOnce.{free_places, AreFreeOnce}
-use Rattle.board_face.specs.NicEvents.{word_bits}
-use Rattle.board_face.specs.Used.{AreKept}
-use Rattle.board_face.specs.declared.views.parts.Setting.{Setting}
-use Rattle.board_face.specs.declared.views.nic.NicSide.{NicSide}
-use Rattle.board_face.specs.declared.views.app.AppSide.{AppSide}
-use Rattle.ref_words.specs.Words.{Words, HasSizes, listed_in}
-use Rattle.ref_words.specs.Sides.{SidesRule}
-use Rattle.ref_words.specs.Rule.{RefRule}
-use Rattle.ref_words.proofs.RingSteps.{AllRings}
-use Rattle.ref_words.proofs.UserSteps.{AreFreeOnce-same}
+use Rattle.std.{proofs.Common.{◌≡◌, ℕ, ◌/◌, ◌%◌, List, [], get_or, refl, ap, sym, ◌∙◌, subst}, specs.{Prelude.{◌==◌}, Int.{bit_at}}}
+use Rattle.board_face.specs.{Counts.{pool_count, user_count}, FreeOnce.{free_places, AreFreeOnce}, NicEvents.{word_bits}, Used.{AreKept}}
+use Rattle.board_face.specs.declared.views.{parts.Setting.{Setting}, nic.NicSide.{NicSide}, app.AppSide.{AppSide}}
+use Rattle.ref_words.{specs.{Words.{Words, HasSizes, listed_in}, Sides.{SidesRule}, Rule.{RefRule}}, proofs.{RingSteps.{AllRings}, UserSteps.{AreFreeOnce-same}}}
 
 -- the words differ in slots or in the area alone
 pub record DifferInSlots (setting : Setting) (words words' : Words) : Type 0 where

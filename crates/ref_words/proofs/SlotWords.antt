@@ -1,13 +1,9 @@
 -- One word of a slot changes.
-use Rattle.std.proofs.Common.{◌≡◌, ℕ, ◌<◌, List, [], length, set, get_or, arith, ◌∙◌}
-use Rattle.std.specs.Prelude.{◌≢◌, All}
-use Rattle.std.proofs.lemmas.List.{length-set, get_or-set_same, get_or-set_other}
-use Rattle.std.proofs.lemmas.List.Elements.{All-set}
-use Rattle.board_face.specs.NicCalls.{apps_of}
-use Rattle.board_face.specs.declared.views.parts.Setting.{Setting}
+use Rattle.std.{proofs.Common.{◌≡◌, ℕ, ◌<◌, List, [], length, set, get_or, arith, ◌∙◌}, specs.Prelude.{◌≢◌, All}}
+use Rattle.std.proofs.lemmas.List.{length-set, get_or-set_same, get_or-set_other, Elements.{All-set}}
+use Rattle.board_face.specs.{NicCalls.{apps_of}, declared.views.parts.Setting.{Setting}}
 use Rattle.word_rings.specs.Slots.{note_width, refill_width}
-use Rattle.ref_words.proofs.SlotSteps.{DifferInSlots}
-use Rattle.ref_words.specs.Words.{Words, HasSizes, AreSlots, with_word, with_slot_word, with_refill, with_note}
+use Rattle.ref_words.{proofs.SlotSteps.{DifferInSlots}, specs.Words.{Words, HasSizes, AreSlots, with_word, with_slot_word, with_refill, with_note}}
 
 module _ (rings : List (List (List ℕ))) (a s i n : ℕ) where
   -- the ring in which it changes, and the others

@@ -1,39 +1,17 @@
 -- An application takes a spare that nobody has: a buffer that it picked from the free list, or its reserve.
 use Rattle.std.proofs.Common.{◌≡◌, ⊎_elim, ℕ, ◌+◌, ◌<◌, ◌≤◌, true, List, [], map, set, refl, ap, sym, ◌∙◌, arith, inl, inr}
-use Rattle.std.specs.Prelude.{◌⊎◌, ◌==◌, nat_eq, count_by, Contains}
-use Rattle.std.proofs.lemmas.Bool.{cases_lt, false≢true}
-use Rattle.std.proofs.lemmas.List.Elements.{All-push}
+use Rattle.std.{specs.Prelude.{◌⊎◌, ◌==◌, nat_eq, count_by, Contains}, proofs.lemmas.{Bool.{cases_lt, false≢true}, List.Elements.{All-push}}}
 use Rattle.area_layout.specs.Layout.{total, pool_buffers}
-use Rattle.board_face.specs.AppEvents.{reserve_of}
-use Rattle.board_face.specs.AppCalls.{HasNoneIn}
-use Rattle.board_face.specs.Sides.{IsApp}
-use Rattle.board_face.specs.Counts.{pool_count, EndedWereReturned}
-use Rattle.board_face.specs.FreeOnce.{free_places}
-use Rattle.board_face.specs.Used.{HasFewPicks}
-use Rattle.board_face.specs.declared.views.parts.Setting.{Setting}
-use Rattle.board_face.specs.declared.views.nic.NicSide.{NicSide}
-use Rattle.board_face.specs.declared.views.app.AppSide.{AppSide}
-use Rattle.board_face.specs.NicEvents.{fresh}
-use Rattle.board_face.specs.Texts.{unsplit_bytes}
-use Rattle.board_face.specs.FreeOnce.{AreFreeOnce}
-use Rattle.board_face.specs.Steps.{side_spare_begun}
-use Rattle.board_face.specs.declared.views.app.SpareOwn.{SpareOwn}
-use Rattle.board_face.proofs.AppLemmas.{pool_count-app, user_count-app, app_count-got_spare}
-use Rattle.board_face.proofs.ArePlacedLemmas.{ArePlaced-app, app_places-spare_begun}
-use Rattle.board_face.proofs.MadeLastLemmas.{IsMadeLast-app}
-use Rattle.board_face.proofs.FillerCounts.{spares_in-got_spare}
-use Rattle.board_face.proofs.FreeLemmas.{IsFreeOnce-unheld}
-use Rattle.board_face.proofs.IsFilledByOneLemmas.{one-spare}
-use Rattle.board_face.proofs.FillingsFitLemmas.{IsFit, FillingsFit-app, FillingsFit-spares}
-use Rattle.board_face.proofs.TokenLemmas.{FitsBuffer-fresh}
-use Rattle.board_face.proofs.Tallies.{weight}
-use Rattle.ref_words.specs.Words.{Words, pool_of, listed_in}
-use Rattle.ref_words.specs.Rule.{RefRule}
-use Rattle.ref_words.proofs.RingSteps.{rings-app}
-use Rattle.ref_words.proofs.Frees.{AreFreeOnce-taken, AreFreeOnce-reserve, AreKept-app, free_places-hands, in-hands, count-taken, without-none}
-use Rattle.ref_words.proofs.SideSteps.{own-was, mine, own-setting, SidesRule-app}
-use Rattle.ref_words.proofs.PoolSteps.{IsPoolStep}
+use Rattle.board_face.specs.{AppEvents.{reserve_of}, AppCalls.{HasNoneIn}, Sides.{IsApp}, Counts.{pool_count, EndedWereReturned}, FreeOnce.{free_places}}
+use Rattle.board_face.specs.{Used.{HasFewPicks}, declared.views.{parts.Setting.{Setting}, nic.NicSide.{NicSide}, app.AppSide.{AppSide}}, NicEvents.{fresh}}
+use Rattle.board_face.specs.{Texts.{unsplit_bytes}, FreeOnce.{AreFreeOnce}, Steps.{side_spare_begun}, declared.views.app.SpareOwn.{SpareOwn}}
+use Rattle.board_face.proofs.{AppLemmas.{pool_count-app, user_count-app, app_count-got_spare}, ArePlacedLemmas.{ArePlaced-app, app_places-spare_begun}}
+use Rattle.board_face.proofs.{MadeLastLemmas.{IsMadeLast-app}, FillerCounts.{spares_in-got_spare}, FreeLemmas.{IsFreeOnce-unheld}, IsFilledByOneLemmas.{one-spare}}
+use Rattle.board_face.proofs.{FillingsFitLemmas.{IsFit, FillingsFit-app, FillingsFit-spares}, TokenLemmas.{FitsBuffer-fresh}, Tallies.{weight}}
 use Rattle.board_face.proofs.Counting.{All-none, weight-other, weight-same}
+use Rattle.ref_words.{specs.{Words.{Words, pool_of, listed_in}, Rule.{RefRule}}, proofs.RingSteps.{rings-app}}
+use Rattle.ref_words.proofs.Frees.{AreFreeOnce-taken, AreFreeOnce-reserve, AreKept-app, free_places-hands, in-hands, count-taken, without-none}
+use Rattle.ref_words.proofs.{SideSteps.{own-was, mine, own-setting, SidesRule-app}, PoolSteps.{IsPoolStep}}
 
 -- an application has nothing in a buffer that nobody has
 pub own-none : (b : ℕ) (nic : NicSide) (apps : List AppSide) (a : ℕ) (app : AppSide) → IsApp apps a app → pool_count b nic apps ≡ 0

@@ -1,37 +1,15 @@
 -- The card sweeps a word of the free list.
-use Rattle.std.proofs.Common.{◌≡◌, ⊎_elim, ℕ, ◌+◌, ◌/◌, ◌%◌, ◌<◌, ◌≤◌, true, List, length}
-use Rattle.std.proofs.Common.{refl, ap, ◌∙◌, arith, length-append}
-use Rattle.std.specs.Prelude.{◌==◌, nat_eq, count_by}
-use Rattle.std.specs.Int.{bit_at}
-use Rattle.std.proofs.lemmas.Nat.Bits.{bit_at-zero}
-use Rattle.std.proofs.lemmas.Bool.Decides.{eqb_tells}
-use Rattle.std.proofs.lemmas.List.Elements.{All-weaker}
+use Rattle.std.proofs.Common.{◌≡◌, ⊎_elim, ℕ, ◌+◌, ◌/◌, ◌%◌, ◌<◌, ◌≤◌, true, List, length, refl, ap, ◌∙◌, arith, length-append}
+use Rattle.std.{specs.{Prelude.{◌==◌, nat_eq, count_by}, Int.{bit_at}}, proofs.lemmas.{Nat.Bits.{bit_at-zero}, Bool.Decides.{eqb_tells}, List.Elements.{All-weaker}}}
 use Rattle.area_layout.specs.Layout.{pool_buffers}
-use Rattle.board_face.specs.NicCalls.{SweptWord, free_words_of, lost_of, sent_unsplit_bytes}
-use Rattle.board_face.specs.NicEvents.{word_bits, cache_room, swept}
-use Rattle.board_face.specs.Used.{AreKept}
-use Rattle.board_face.specs.declared.views.nic.NicLook.TheVariants.{Swept}
-use Rattle.board_face.specs.declared.views.parts.Setting.{Setting}
-use Rattle.board_face.specs.declared.views.nic.NicSide.{NicSide}
-use Rattle.board_face.specs.declared.views.nic.NicView.{NicView}
-use Rattle.board_face.specs.declared.views.app.AppSide.{AppSide}
-use Rattle.board_face.proofs.NicLemmas.{pool_count-swept, user_count-nic}
-use Rattle.board_face.proofs.FreeLemmas.{free_places-swept}
-use Rattle.board_face.proofs.ArePlacedLemmas.{ArePlaced-swept}
-use Rattle.board_face.proofs.MadeLastLemmas.{IsMadeLast-nic}
-use Rattle.board_face.proofs.IsFilledByOneLemmas.{IsFilledByOne-swept}
-use Rattle.board_face.proofs.FillingsFitLemmas.{FillingsFit-nic}
-use Rattle.board_face.proofs.LookLemmas.{NicRose-nic_saw}
-use Rattle.board_face.proofs.Tallies.{weight}
-use Rattle.ref_words.specs.Words.{Words, listed_in, free_of, with_free}
-use Rattle.ref_words.specs.FreeSteps.{found_in, side_swept}
-use Rattle.ref_words.specs.Rule.{RefRule}
-use Rattle.ref_words.proofs.Found.{IsFound, found-none, found-one, found-all, found-falling, found-few}
-use Rattle.ref_words.proofs.FreeWords.{RefRule-free, listed-here, listed-there, of-pool}
-use Rattle.board_face.proofs.Losing.{lost-bound}
-use Rattle.ref_words.proofs.RingSteps.{rings-card}
-use Rattle.ref_words.proofs.CardSteps.{SidesRule-card}
-use Rattle.board_face.proofs.Counting.{count-append, count-push}
+use Rattle.board_face.specs.{NicCalls.{SweptWord, free_words_of, lost_of, sent_unsplit_bytes}, NicEvents.{word_bits, cache_room, swept}, Used.{AreKept}}
+use Rattle.board_face.specs.declared.views.{nic.{NicLook.TheVariants.{Swept}, NicSide.{NicSide}, NicView.{NicView}}, parts.Setting.{Setting}, app.AppSide.{AppSide}}
+use Rattle.board_face.proofs.{NicLemmas.{pool_count-swept, user_count-nic}, FreeLemmas.{free_places-swept}, ArePlacedLemmas.{ArePlaced-swept}}
+use Rattle.board_face.proofs.{MadeLastLemmas.{IsMadeLast-nic}, IsFilledByOneLemmas.{IsFilledByOne-swept}, FillingsFitLemmas.{FillingsFit-nic}}
+use Rattle.board_face.proofs.{LookLemmas.{NicRose-nic_saw}, Tallies.{weight}, Losing.{lost-bound}, Counting.{count-append, count-push}}
+use Rattle.ref_words.specs.{Words.{Words, listed_in, free_of, with_free}, FreeSteps.{found_in, side_swept}, Rule.{RefRule}}
+use Rattle.ref_words.proofs.{Found.{IsFound, found-none, found-one, found-all, found-falling, found-few}, FreeWords.{RefRule-free, listed-here, listed-there, of-pool}}
+use Rattle.ref_words.proofs.{RingSteps.{rings-card}, CardSteps.{SidesRule-card}}
 
 module _ (setting : Setting) (words : Words) (nic : NicSide) (apps : List AppSide) (j : ℕ) (rule : RefRule setting words nic apps)
     (within : j < free_words_of setting) where

@@ -1,32 +1,14 @@
 -- The card takes the buffer that entered its cache last.
-use Rattle.std.proofs.Common.{◌≡◌, ⊎_elim, ℕ, ◌+◌, ◌<◌, List, [], ◌∷◌, ◌++◌, refl, ap, sym, ◌∙◌, arith}
-use Rattle.std.specs.Prelude.{◌==◌, nat_eq, count_by}
+use Rattle.std.{proofs.Common.{◌≡◌, ⊎_elim, ℕ, ◌+◌, ◌<◌, List, [], ◌∷◌, ◌++◌, refl, ap, sym, ◌∙◌, arith}, specs.Prelude.{◌==◌, nat_eq, count_by}}
 use Rattle.std.proofs.lemmas.Bool.{cases_lt}
 use Rattle.area_layout.specs.Layout.{total, pool_buffers}
-use Rattle.board_face.specs.NicEvents.{took}
-use Rattle.board_face.specs.NicCalls.{HasNothingIn}
-use Rattle.board_face.specs.Sides.{nic_at}
-use Rattle.board_face.specs.Counts.{pool_count}
-use Rattle.board_face.specs.FreeOnce.{free_places}
-use Rattle.board_face.specs.Used.{picked_buffers}
-use Rattle.board_face.specs.declared.views.parts.Setting.{Setting}
-use Rattle.board_face.specs.declared.views.nic.NicSide.{NicSide}
-use Rattle.board_face.specs.declared.views.app.AppSide.{AppSide}
-use Rattle.board_face.proofs.NicLemmas.{pool_count-took, user_count-nic}
-use Rattle.board_face.proofs.FreeLemmas.{free_places-took, IsFreeOnce-cached}
-use Rattle.board_face.proofs.ArePlacedLemmas.{ArePlaced-took}
-use Rattle.board_face.proofs.MadeLastLemmas.{IsMadeLast-nic}
-use Rattle.board_face.proofs.IsFilledByOneLemmas.{IsFilledByOne-took}
-use Rattle.board_face.proofs.FillingsFitLemmas.{FillingsFit-took}
-use Rattle.board_face.proofs.Tallies.{weight}
-use Rattle.board_face.proofs.Parts.{pool_count-parts}
-use Rattle.ref_words.specs.Words.{Words, pool_of, listed_in}
-use Rattle.ref_words.specs.Rule.{RefRule}
-use Rattle.ref_words.proofs.RingSteps.{rings-card}
-use Rattle.ref_words.proofs.Frees.{AreFreeOnce-taken}
-use Rattle.ref_words.proofs.CardSteps.{SidesRule-card}
-use Rattle.ref_words.proofs.PoolSteps.{IsPoolStep}
+use Rattle.board_face.specs.{NicEvents.{took}, NicCalls.{HasNothingIn}, Sides.{nic_at}, Counts.{pool_count}, FreeOnce.{free_places}, Used.{picked_buffers}}
+use Rattle.board_face.{specs.declared.views.{parts.Setting.{Setting}, nic.NicSide.{NicSide}, app.AppSide.{AppSide}}, proofs.NicLemmas.{pool_count-took, user_count-nic}}
+use Rattle.board_face.proofs.{FreeLemmas.{free_places-took, IsFreeOnce-cached}, ArePlacedLemmas.{ArePlaced-took}, MadeLastLemmas.{IsMadeLast-nic}}
+use Rattle.board_face.proofs.{IsFilledByOneLemmas.{IsFilledByOne-took}, FillingsFitLemmas.{FillingsFit-took}, Tallies.{weight}, Parts.{pool_count-parts}}
 use Rattle.board_face.proofs.Counting.{All-none, count-append, count-push, weight-other, weight-same, weight-swap}
+use Rattle.ref_words.{specs.{Words.{Words, pool_of, listed_in}, Rule.{RefRule}}, proofs.{RingSteps.{rings-card}, Frees.{AreFreeOnce-taken}, CardSteps.{SidesRule-card}}}
+use Rattle.ref_words.proofs.PoolSteps.{IsPoolStep}
 
 module _ (setting : Setting) (words : Words) (nic : NicSide) (apps : List AppSide) (b : ℕ) (rule : RefRule setting words nic apps)
     (last : nic.view.cache ≡ (took nic.view b).cache ++ b ∷ []) where

@@ -1,34 +1,17 @@
 -- What an application's events leave of the texts, where no word of the area changes.
-use Rattle.std.proofs.Common.{◌≡◌, ℕ, zero, suc, ◌<◌, ◌≤◌, Bool, true, false, cond, List}
-use Rattle.std.proofs.Common.{[], ◌∷◌, length, map, set, refl, ap, sym, ◌∙◌, subst, arith}
-use Rattle.std.specs.Prelude.{◌≢◌, All, Contains}
-use Rattle.std.proofs.lemmas.Option.{IfSome_then}
-use Rattle.std.proofs.lemmas.List.Elements.{All-set, All-push, All-head, All-tail, Contains-append_left}
+use Rattle.std.proofs.Common.{◌≡◌, ℕ, zero, suc, ◌<◌, ◌≤◌, Bool, true, false, cond, List, [], ◌∷◌, length, map, set, refl, ap, sym, ◌∙◌, subst, arith}
+use Rattle.std.{specs.Prelude.{◌≢◌, All, Contains}, proofs.lemmas.{Option.{IfSome_then}, List.Elements.{All-set, All-push, All-head, All-tail, Contains-append_left}}}
 use Rattle.std.proofs.lemmas.List.{map-append}
 use Rattle.zr_kinds.specs.declared.place.Place.{Place}
 use Rattle.area_layout.specs.Layout.{Shape}
-use Rattle.board_face.specs.NicEvents.{fresh}
-use Rattle.board_face.specs.Lists.{without, at_first}
-use Rattle.board_face.specs.Tokens.{same_filling}
-use Rattle.board_face.specs.AppEvents.{cut, released, lent, spare_begun, lent_own, own_bytes}
-use Rattle.board_face.specs.AppCalls.{HasHeld, HasSpare, IsFilled}
-use Rattle.board_face.specs.Sides.{IsApp, app_at}
-use Rattle.board_face.specs.Holders.{ended_in}
-use Rattle.board_face.specs.Shown.{AppIsShown}
-use Rattle.board_face.specs.Steps.{side_released, side_spare_begun, side_user_taken, side_owes_lowered}
-use Rattle.board_face.specs.declared.views.parts.Setting.{Setting}
-use Rattle.board_face.specs.declared.views.parts.Filling.{Filling}
-use Rattle.board_face.specs.declared.views.nic.NicSide.{NicSide}
-use Rattle.board_face.specs.declared.views.app.AppInside.{AppInside}
-use Rattle.board_face.specs.declared.views.app.SpareOwn.{SpareOwn}
-use Rattle.board_face.specs.declared.views.app.AppSide.{AppSide}
+use Rattle.board_face.specs.{NicEvents.{fresh}, Lists.{without, at_first}, Tokens.{same_filling}, AppEvents.{cut, released, lent, spare_begun, lent_own, own_bytes}}
+use Rattle.board_face.specs.{AppCalls.{HasHeld, HasSpare, IsFilled}, Sides.{IsApp, app_at}, Holders.{ended_in}, Shown.{AppIsShown}}
+use Rattle.board_face.specs.{Steps.{side_released, side_spare_begun, side_user_taken, side_owes_lowered}, declared.views.parts.{Setting.{Setting}, Filling.{Filling}}}
+use Rattle.board_face.specs.declared.views.{nic.NicSide.{NicSide}, app.{AppInside.{AppInside}, SpareOwn.{SpareOwn}, AppSide.{AppSide}}}
 use Rattle.board_face.proofs.ListLemmas.{All-without, same_filling-is}
 use Rattle.board_face.proofs.TextsByEvent.{AppIsShown-same, AppIsShown-cut, AppIsShown-released, AppIsShown-lent, AppIsShown-lent_own, AppIsShown-ended}
 use Rattle.board_face.proofs.AreShownLemmas.{AppIsShown-spare_begun}
-use Rattle.ref_words.specs.Area.{byte_in}
-use Rattle.ref_words.specs.Sides.{SidesRule}
-use Rattle.ref_words.specs.TextRule.{HasTexts, AreTexts}
-use Rattle.ref_words.proofs.ScrubTaking.{raised-at}
+use Rattle.ref_words.{specs.{Area.{byte_in}, Sides.{SidesRule}, TextRule.{HasTexts, AreTexts}}, proofs.ScrubTaking.{raised-at}}
 
 -- What an application fills, and what it read, stay.
 pub record LeavesOwnTexts (app now : AppSide) : Type 0 where

@@ -1,26 +1,13 @@
 -- What the card's events leave of the texts, where no word of the area changes.
-use Rattle.std.proofs.Common.{◌≡◌, ℕ, ◌+◌, ◌<◌, ◌≤◌, Bool, List, refl, ap, ◌∙◌, subst, arith}
-use Rattle.std.specs.Prelude.{◌==◌, IfSome}
+use Rattle.std.{proofs.Common.{◌≡◌, ℕ, ◌+◌, ◌<◌, ◌≤◌, Bool, List, refl, ap, ◌∙◌, subst, arith}, specs.Prelude.{◌==◌, IfSome}}
 use Rattle.std.proofs.lemmas.List.Elements.{All-weaker, All-contains}
 use Rattle.zr_kinds.specs.declared.ring.Rqe.{Rqe}
 use Rattle.area_layout.specs.Layout.{Shape, pool_buffers, size_of}
-use Rattle.board_face.specs.Holders.{ended_in, lowered_in_hand}
-use Rattle.board_face.specs.Shown.{AppIsShown}
-use Rattle.board_face.specs.NicCalls.{HasOwn}
-use Rattle.board_face.specs.NicEvents.{took}
-use Rattle.board_face.specs.Sides.{nic_at}
-use Rattle.board_face.specs.Steps.{side_begun, side_shut, side_judged, side_user_lowered, side_both_lowered}
-use Rattle.board_face.specs.declared.views.parts.Setting.{Setting}
-use Rattle.board_face.specs.declared.views.parts.Filling.{Filling}
-use Rattle.board_face.specs.declared.views.nic.Judged.TheVariants.{Not, Owed, UserLowered}
-use Rattle.board_face.specs.declared.views.nic.NicSide.{NicSide}
-use Rattle.board_face.specs.declared.views.app.AppSide.{AppSide}
-use Rattle.board_face.proofs.TextsByEvent.{AppIsShown-ended}
-use Rattle.board_face.proofs.FillingsFitLemmas.{FillingsFit-own}
-use Rattle.ref_words.specs.Area.{byte_in}
-use Rattle.ref_words.specs.Sides.{SidesRule}
-use Rattle.ref_words.specs.TextRule.{IsInMaking, HasTexts, AreTexts}
-use Rattle.ref_words.proofs.InHand.{in_hand, if-none}
+use Rattle.board_face.specs.{Holders.{ended_in, lowered_in_hand}, Shown.{AppIsShown}, NicCalls.{HasOwn}, NicEvents.{took}, Sides.{nic_at}}
+use Rattle.board_face.specs.{Steps.{side_begun, side_shut, side_judged, side_user_lowered, side_both_lowered}, declared.views.parts.Setting.{Setting}}
+use Rattle.board_face.specs.declared.views.{parts.Filling.{Filling}, nic.{Judged.TheVariants.{Not, Owed, UserLowered}, NicSide.{NicSide}}, app.AppSide.{AppSide}}
+use Rattle.board_face.proofs.{TextsByEvent.{AppIsShown-ended}, FillingsFitLemmas.{FillingsFit-own}}
+use Rattle.ref_words.{specs.{Area.{byte_in}, Sides.{SidesRule}, TextRule.{IsInMaking, HasTexts, AreTexts}}, proofs.InHand.{in_hand, if-none}}
 
 -- Neither pieces nor notes change, and no loan that was ended is owed again.
 pub record LeavesTexts (nic now : NicSide) : Type 0 where

@@ -1,29 +1,15 @@
 -- The texts stand after each step at the free list and at the phase words, and after the looks by which an application comes to rest,
 -- falls quiet, or is told that nothing comes: no word of the area changes.
-use Rattle.std.proofs.Common.{ℕ, ◌≤◌, Bool, true, false, List, set, refl, arith}
-use Rattle.std.specs.Prelude.{if◌then◌else◌}
+use Rattle.std.{proofs.Common.{ℕ, ◌≤◌, Bool, true, false, List, set, refl, arith}, specs.Prelude.{if◌then◌else◌}}
 use Rattle.zr_kinds.specs.declared.place.Place.{Place}
-use Rattle.board_face.specs.AppCalls.{HasLoan}
-use Rattle.board_face.specs.AppEvents.{app_saw, told_end, abandoned}
-use Rattle.board_face.specs.Counts.{EndedWereReturned}
-use Rattle.board_face.specs.Holders.{ended_in}
-use Rattle.board_face.specs.Sides.{IsApp, app_at}
-use Rattle.board_face.specs.declared.views.parts.Setting.{Setting}
-use Rattle.board_face.specs.declared.views.nic.NicSide.{NicSide}
-use Rattle.board_face.specs.declared.views.app.AppInside.{AppInside}
-use Rattle.board_face.specs.declared.views.app.AppLook.TheVariants.{NoNote}
-use Rattle.board_face.specs.declared.views.app.AppView.{AppView}
-use Rattle.board_face.specs.declared.views.app.AppSide.{AppSide}
-use Rattle.board_face.proofs.AppLemmas.{SameHoldings}
+use Rattle.board_face.specs.{AppCalls.{HasLoan}, AppEvents.{app_saw, told_end, abandoned}, Counts.{EndedWereReturned}, Holders.{ended_in}, Sides.{IsApp, app_at}}
+use Rattle.board_face.specs.declared.views.{parts.Setting.{Setting}, nic.NicSide.{NicSide}, app.{AppInside.{AppInside}, AppLook.TheVariants.{NoNote}}}
+use Rattle.board_face.{specs.declared.views.app.{AppView.{AppView}, AppSide.{AppSide}}, proofs.AppLemmas.{SameHoldings}}
 use Rattle.board_face.proofs.TextsByEvent.{AppIsShown-same, AppIsShown-abandoned}
-use Rattle.ref_words.specs.Area.{byte_in}
-use Rattle.ref_words.specs.FreeSteps.{side_swept, side_nic_listed, side_app_listed, side_word_looked, side_bit_cleared}
+use Rattle.ref_words.specs.{Area.{byte_in}, FreeSteps.{side_swept, side_nic_listed, side_app_listed, side_word_looked, side_bit_cleared}}
 use Rattle.ref_words.specs.PhaseSteps.{side_ended, side_leave_looked, side_left, side_end_looked, side_note_sought, side_reserve_looked, side_abandoned}
-use Rattle.ref_words.specs.RestSteps.{side_raw_looked, side_any_looked, side_last_looked}
-use Rattle.ref_words.specs.Sides.{SidesRule}
-use Rattle.ref_words.specs.TextRule.{AreTexts}
-use Rattle.ref_words.proofs.TextsByCard.{AreTexts-card}
-use Rattle.ref_words.proofs.TextsByApp.{LeavesOwnTexts, HasTexts-left, AreTexts-app, AppIsShown-inside}
+use Rattle.ref_words.specs.{RestSteps.{side_raw_looked, side_any_looked, side_last_looked}, Sides.{SidesRule}, TextRule.{AreTexts}}
+use Rattle.ref_words.proofs.{TextsByCard.{AreTexts-card}, TextsByApp.{LeavesOwnTexts, HasTexts-left, AreTexts-app, AppIsShown-inside}}
 
 -- ---- the card
 

@@ -1,54 +1,21 @@
 -- What the events at the slots of the rings leave of the texts: no word of the area changes.
-use Rattle.std.proofs.Common.{◌≡◌, ⊎_elim, ℕ, ◌<◌, ◌≤◌, Bool, true, false, List, []}
-use Rattle.std.proofs.Common.{◌∷◌, ◌++◌, length, map, drop, get_or, set, refl, ap, sym, ◌∙◌}
-use Rattle.std.proofs.Common.{subst, arith}
-use Rattle.std.specs.Prelude.{◌==◌, All, Contains, None}
-use Rattle.std.proofs.lemmas.List.{take-append-drop}
-use Rattle.std.proofs.lemmas.List.Elements.{All-weaker, Contains-get_or}
-use Rattle.std.proofs.lemmas.Bool.Decides.{eqb_tells}
-use Rattle.zr_kinds.specs.declared.place.Note.{Note}
-use Rattle.zr_kinds.specs.declared.place.Place.{Place}
-use Rattle.zr_kinds.specs.declared.ring.Rqe.{Rqe}
-use Rattle.board_face.specs.AppCalls.{HasLoan}
-use Rattle.board_face.specs.AppEvents.{gave, pushed_raw, took_note, took_linear}
-use Rattle.board_face.specs.NicCalls.{HasPiece, apps_of}
-use Rattle.board_face.specs.NicEvents.{sent, sent_linear, text_at}
-use Rattle.board_face.specs.Counts.{EndedWereReturned}
-use Rattle.board_face.specs.Holders.{sent_to, lowered_in_hand, is_honoured_for}
-use Rattle.board_face.specs.Opened.{new_app}
-use Rattle.board_face.specs.Relay.{as_taken, dealt_entries, IsAsSent, Relayed}
-use Rattle.board_face.specs.Shown.{AppIsShown, AreShown}
-use Rattle.board_face.specs.Sides.{IsApp, nic_at, app_at}
+use Rattle.std.proofs.Common.{◌≡◌, ⊎_elim, ℕ, ◌<◌, ◌≤◌, Bool, true, false, List, [], ◌∷◌, ◌++◌, length, map, drop, get_or, set, refl, ap, sym, ◌∙◌, subst, arith}
+use Rattle.std.{specs.Prelude.{◌==◌, All, Contains, None}, proofs.lemmas.{List.{take-append-drop, Elements.{All-weaker, Contains-get_or}}, Bool.Decides.{eqb_tells}}}
+use Rattle.zr_kinds.specs.declared.{place.{Note.{Note}, Place.{Place}}, ring.Rqe.{Rqe}}
+use Rattle.board_face.specs.{AppCalls.{HasLoan}, AppEvents.{gave, pushed_raw, took_note, took_linear}, NicCalls.{HasPiece, apps_of}}
+use Rattle.board_face.specs.{NicEvents.{sent, sent_linear, text_at}, Counts.{EndedWereReturned}, Holders.{sent_to, lowered_in_hand, is_honoured_for}, Opened.{new_app}}
+use Rattle.board_face.specs.{Relay.{as_taken, dealt_entries, IsAsSent, Relayed}, Shown.{AppIsShown, AreShown}, Sides.{IsApp, nic_at, app_at}}
 use Rattle.board_face.specs.SlotSteps.{side_refill_looked, side_refill_stored, side_gave, side_pushed}
 use Rattle.board_face.specs.SlotSteps.{side_entry_looked, side_entry_loaded, side_in_hand, side_dealt, side_note_looked, side_note_stored}
 use Rattle.board_face.specs.SlotSteps.{side_sent, side_sent_linear, side_slot_looked, side_slot_loaded, side_took_note, side_took_linear}
-use Rattle.board_face.specs.declared.views.parts.Setting.{Setting}
-use Rattle.board_face.specs.declared.views.nic.Dealt.{Dealt}
-use Rattle.board_face.specs.declared.views.nic.Fate.{Fate}
-use Rattle.board_face.specs.declared.views.nic.Fate.TheVariants.{Honoured, Stray}
-use Rattle.board_face.specs.declared.views.nic.Judged.{Judged}
-use Rattle.board_face.specs.declared.views.nic.Judged.TheVariants.{Not, Stray as judged_stray, BothLowered}
-use Rattle.board_face.specs.declared.views.nic.NicSide.{NicSide}
-use Rattle.board_face.specs.declared.views.nic.SentNote.{SentNote}
-use Rattle.board_face.specs.declared.views.nic.NicView.{NicView}
-use Rattle.board_face.specs.declared.views.app.WrittenEntry.{WrittenEntry}
-use Rattle.board_face.specs.declared.views.app.AppSide.{AppSide}
-use Rattle.board_face.proofs.Parts.{count-tally}
-use Rattle.board_face.proofs.RelayLemmas.{Relayed-sent, Relayed-sent_other}
-use Rattle.board_face.proofs.SideLemmas.{IsApp-at}
-use Rattle.board_face.proofs.Tallies.{weight, tally-push}
+use Rattle.board_face.specs.declared.views.{parts.Setting.{Setting}, nic.{Dealt.{Dealt}, Fate.{Fate, TheVariants.{Honoured, Stray}}, Judged.{Judged}}}
+use Rattle.board_face.specs.declared.views.nic.{Judged.TheVariants.{Not, Stray as judged_stray, BothLowered}, NicSide.{NicSide}, SentNote.{SentNote}, NicView.{NicView}}
+use Rattle.board_face.{specs.declared.views.app.{WrittenEntry.{WrittenEntry}, AppSide.{AppSide}}, proofs.Parts.{count-tally}}
+use Rattle.board_face.proofs.{RelayLemmas.{Relayed-sent, Relayed-sent_other}, SideLemmas.{IsApp-at}, Tallies.{weight, tally-push}}
 use Rattle.board_face.proofs.TextsByEvent.{AppIsShown-same, AppIsShown-took_note, AppIsShown-took_linear, AppIsShown-ended}
-use Rattle.board_face.proofs.AreShownLemmas.{AppIsShown-gave, AreShown-sent, AreShown-sent_linear}
-use Rattle.ref_words.specs.Words.{Words}
-use Rattle.ref_words.specs.Area.{byte_in}
-use Rattle.ref_words.specs.Sides.{SidesRule, IsTakenInOrder, IsDealtInOrder}
-use Rattle.ref_words.specs.Rule.{RefRule}
-use Rattle.ref_words.specs.TextRule.{AreTexts}
-use Rattle.ref_words.proofs.InHand.{in_hand, if-none}
-use Rattle.ref_words.proofs.TextsByCard.{ends-in-hand, AreTexts-card}
-use Rattle.ref_words.proofs.TextsByApp.{HasTexts-left, AreTexts-app, AppIsShown-inside}
-use Rattle.board_face.proofs.Counting.{weight-and}
-use Rattle.board_face.specs.Laws.{IsNextNote}
+use Rattle.board_face.{proofs.{AreShownLemmas.{AppIsShown-gave, AreShown-sent, AreShown-sent_linear}, Counting.{weight-and}}, specs.Laws.{IsNextNote}}
+use Rattle.ref_words.specs.{Words.{Words}, Area.{byte_in}, Sides.{SidesRule, IsTakenInOrder, IsDealtInOrder}, Rule.{RefRule}, TextRule.{AreTexts}}
+use Rattle.ref_words.proofs.{InHand.{in_hand, if-none}, TextsByCard.{ends-in-hand, AreTexts-card}, TextsByApp.{HasTexts-left, AreTexts-app, AppIsShown-inside}}
 
 -- ---- an application's slots
 

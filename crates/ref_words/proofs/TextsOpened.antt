@@ -1,16 +1,8 @@
 -- On a board that was just opened there is no text, and nothing was read.
-use Rattle.std.specs.Prelude.{◌≡◌, ℕ, []}
-use Rattle.std.proofs.lemmas.List.Elements.{All-nil}
-use Rattle.board_face.specs.NicCalls.{apps_of}
-use Rattle.board_face.specs.Holders.{sent_to}
-use Rattle.board_face.specs.Opened.{new_nic, new_app, new_apps}
-use Rattle.board_face.specs.Relay.{IsAsSent}
-use Rattle.board_face.specs.declared.views.parts.Setting.{Setting}
-use Rattle.board_face.specs.declared.views.app.SpareOwn.{SpareOwn}
-use Rattle.board_face.proofs.OpenedLemmas.{news, All-new, AreShown-opened}
-use Rattle.ref_words.specs.Area.{byte_in}
-use Rattle.ref_words.specs.Words.{opened_words}
-use Rattle.ref_words.specs.TextRule.{HasTexts, TextRule}
+use Rattle.std.{specs.Prelude.{◌≡◌, ℕ, []}, proofs.lemmas.List.Elements.{All-nil}}
+use Rattle.board_face.specs.{NicCalls.{apps_of}, Holders.{sent_to}, Opened.{new_nic, new_app, new_apps}, Relay.{IsAsSent}, declared.views.parts.Setting.{Setting}}
+use Rattle.board_face.{specs.declared.views.app.SpareOwn.{SpareOwn}, proofs.OpenedLemmas.{news, All-new, AreShown-opened}}
+use Rattle.ref_words.specs.{Area.{byte_in}, Words.{opened_words}, TextRule.{HasTexts, TextRule}}
 
 module _ (setting : Setting) where
   has-none : (a : ℕ) → HasTexts setting.layout (opened_words setting).area (new_nic setting) (new_app setting a)

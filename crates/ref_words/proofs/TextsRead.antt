@@ -1,41 +1,17 @@
 -- A word is loaded for a read: its bytes are those of the loan's text.
-use Rattle.std.proofs.Common.{◌≡◌, ℕ, ◌+◌, ◌%◌, ◌<◌, ◌≤◌, cond}
-use Rattle.std.proofs.Common.{List, [], ◌∷◌, ◌++◌, length, take, drop, get_or, set, true}
-use Rattle.std.proofs.Common.{refl, ap, sym, ◌∙◌, subst, arith}
-use Rattle.std.specs.Prelude.{All, Some, nat_lt}
-use Rattle.std.proofs.lemmas.Bool.{lt-ltb}
-use Rattle.std.proofs.lemmas.List.{length-take, length-take-le, length-drop, length-append, get_or-take, get_or-drop, ext_get_or, drop-drop}
-use Rattle.std.proofs.lemmas.Option.{IfSome_then}
-use Rattle.std.proofs.Math.Seq.{take-add}
-use Rattle.std.proofs.lemmas.List.Elements.{All-push, All-pop}
+use Rattle.std.proofs.Common.{◌≡◌, ℕ, ◌+◌, ◌%◌, ◌<◌, ◌≤◌, cond, List, [], ◌∷◌, ◌++◌, length, take, drop, get_or, set, true, refl, ap, sym, ◌∙◌, subst, arith}
+use Rattle.std.{specs.Prelude.{All, Some, nat_lt}, proofs.lemmas.Bool.{lt-ltb}}
+use Rattle.std.proofs.lemmas.{List.{length-take, length-take-le, length-drop, length-append, get_or-take, get_or-drop, ext_get_or, drop-drop}, Option.{IfSome_then}}
+use Rattle.std.proofs.{Math.Seq.{take-add}, lemmas.List.Elements.{All-push, All-pop}}
 use Rattle.zr_kinds.specs.declared.place.Place.{Place}
 use Rattle.area_layout.specs.Layout.{LiesIn, size_of}
-use Rattle.board_face.specs.AppCalls.{HasLoan, ShowsCopy}
-use Rattle.board_face.specs.AppEvents.{has_read, loan_origin, reads_with}
-use Rattle.board_face.specs.Holders.{sent_to}
-use Rattle.board_face.specs.Relay.{IsAsSent}
-use Rattle.board_face.specs.Shown.{IsShown, origin_bytes, bytes_sent, AppIsShown}
-use Rattle.board_face.specs.Sides.{IsApp, app_at}
-use Rattle.board_face.specs.Texts.{further}
-use Rattle.board_face.specs.declared.views.parts.Setting.{Setting}
-use Rattle.board_face.specs.declared.views.nic.NicSide.{NicSide}
-use Rattle.board_face.specs.declared.views.nic.SentNote.{SentNote}
-use Rattle.board_face.specs.declared.views.app.Origin.{Origin}
-use Rattle.board_face.specs.declared.views.app.Origin.TheVariants.{Note as of_note, Copied as of_copy}
-use Rattle.board_face.specs.declared.views.app.Reading.{Reading}
-use Rattle.board_face.specs.declared.views.app.AppSide.{AppSide}
-use Rattle.board_face.proofs.LiesLemmas.{loan-lies}
-use Rattle.board_face.proofs.TextsByEvent.{AppIsShown-same, IsShown-loan}
-use Rattle.word_rings.specs.Texts.{word_bytes}
-use Rattle.word_rings.proofs.TextWords.{length-word_bytes}
-use Rattle.ref_words.specs.Words.{Words}
-use Rattle.ref_words.specs.Area.{area_word, byte_in}
-use Rattle.ref_words.specs.AreaLaws.{part_of}
-use Rattle.ref_words.specs.AreaSteps.{longer, side_loaded}
-use Rattle.ref_words.specs.Rule.{RefRule}
-use Rattle.ref_words.specs.Sides.{SidesRule}
-use Rattle.ref_words.specs.TextRule.{HasTexts, AreTexts}
-use Rattle.ref_words.proofs.TextsByApp.{AreTexts-app}
+use Rattle.board_face.specs.{AppCalls.{HasLoan, ShowsCopy}, AppEvents.{has_read, loan_origin, reads_with}, Holders.{sent_to}, Relay.{IsAsSent}}
+use Rattle.board_face.specs.{Shown.{IsShown, origin_bytes, bytes_sent, AppIsShown}, Sides.{IsApp, app_at}, Texts.{further}, declared.views.parts.Setting.{Setting}}
+use Rattle.board_face.specs.declared.views.{nic.{NicSide.{NicSide}, SentNote.{SentNote}}, app.Origin.{Origin, TheVariants.{Note as of_note, Copied as of_copy}}}
+use Rattle.board_face.{specs.declared.views.app.{Reading.{Reading}, AppSide.{AppSide}}, proofs.{LiesLemmas.{loan-lies}, TextsByEvent.{AppIsShown-same, IsShown-loan}}}
+use Rattle.word_rings.{specs.Texts.{word_bytes}, proofs.TextWords.{length-word_bytes}}
+use Rattle.ref_words.specs.{Words.{Words}, Area.{area_word, byte_in}, AreaLaws.{part_of}, AreaSteps.{longer, side_loaded}, Rule.{RefRule}, Sides.{SidesRule}}
+use Rattle.ref_words.{specs.TextRule.{HasTexts, AreTexts}, proofs.TextsByApp.{AreTexts-app}}
 
 -- ---- readings
 

@@ -1,43 +1,18 @@
 -- A word of a text is stored: no word is another's, so each text that is shown stays so, and each that is in the making.
-use Rattle.std.proofs.Common.{◌≡◌, ⊎_elim, ℕ, zero, suc, ◌+◌, ◌*◌, ◌<◌}
-use Rattle.std.proofs.Common.{◌≤◌, Bool, true, false, cond, List, [], ◌∷◌, ◌++◌, length}
-use Rattle.std.proofs.Common.{map, get_or, set, refl, ap, sym, ◌∙◌, subst, arith}
-use Rattle.std.specs.Prelude.{◌≢◌, ◌&&◌, All, Option, Some, None, IfSome, nat_lt}
-use Rattle.std.proofs.lemmas.Bool.{cases_lt}
-use Rattle.std.proofs.lemmas.Bool.Decides.{eqb_tells}
-use Rattle.std.proofs.lemmas.List.{get_or-set_other, get_or-set_same, get_or_append_left, length_push, length-set}
-use Rattle.std.proofs.lemmas.List.Elements.{All-head, All-tail, All-map, All-contains}
-use Rattle.std.proofs.Math.Seq.{get_or-append_seam}
+use Rattle.std.proofs.Common.{◌≡◌, ⊎_elim, ℕ, zero, suc, ◌+◌, ◌*◌, ◌<◌, ◌≤◌, Bool, true, false, cond, List, [], ◌∷◌, ◌++◌, length}
+use Rattle.std.{proofs.Common.{map, get_or, set, refl, ap, sym, ◌∙◌, subst, arith}, specs.Prelude.{◌≢◌, ◌&&◌, All, Option, Some, None, IfSome, nat_lt}}
+use Rattle.std.proofs.lemmas.{Bool.{cases_lt, Decides.{eqb_tells}}, List.{get_or-set_other, get_or-set_same, get_or_append_left, length_push, length-set}}
+use Rattle.std.proofs.{lemmas.List.Elements.{All-head, All-tail, All-map, All-contains}, Math.Seq.{get_or-append_seam}}
 use Rattle.zr_kinds.specs.declared.place.Place.{Place}
 use Rattle.area_layout.specs.Layout.{Shape, IsLayout, size_of, area_words}
-use Rattle.board_face.specs.Lists.{without}
-use Rattle.board_face.specs.Tokens.{same_filling}
-use Rattle.board_face.specs.AppEvents.{begin_place}
-use Rattle.board_face.specs.AppCalls.{HasSpare}
-use Rattle.board_face.specs.Counts.{pool_count}
-use Rattle.board_face.specs.Fillings.{IsFilledByOne}
-use Rattle.board_face.specs.Places.{places_of, ends_behind}
-use Rattle.board_face.specs.Sides.{IsApp}
-use Rattle.board_face.specs.declared.views.parts.Setting.{Setting}
-use Rattle.board_face.specs.declared.views.parts.Filling.{Filling}
-use Rattle.board_face.specs.declared.views.parts.Making.{Making}
-use Rattle.board_face.specs.declared.views.nic.NicSide.{NicSide}
-use Rattle.board_face.specs.declared.views.app.SpareOwn.{SpareOwn}
-use Rattle.board_face.specs.declared.views.app.AppSide.{AppSide}
-use Rattle.board_face.proofs.ListLemmas.{eqb_same, same_filling-is}
-use Rattle.board_face.proofs.Tallies.{weight, tally}
-use Rattle.board_face.proofs.Parts.{making_in, pool_count-parts, count-tally}
-use Rattle.board_face.proofs.PlaceTallies.{in_buffer}
-use Rattle.board_face.proofs.PlacesByEvent.{places-app}
-use Rattle.board_face.proofs.ArePlacedLemmas.{less_spare, spare-free, places-none}
-use Rattle.board_face.proofs.SideLemmas.{IsApp-at}
-use Rattle.board_face.proofs.StoresAtLemmas.{texts_with, HasNoText, HasNoText-making, HasNoText-behind}
-use Rattle.board_face.proofs.AreShownLemmas.{AreShown-stored_at}
-use Rattle.ref_words.specs.Area.{area_word, byte_in}
-use Rattle.ref_words.specs.Sides.{SidesRule}
-use Rattle.ref_words.specs.TextRule.{IsInMaking, IsOfSpare, HasTexts, AreTexts}
-use Rattle.ref_words.proofs.AreaWords.{same-word, within-area, stores-word}
-use Rattle.ref_words.proofs.SpareTaking.{own-none}
+use Rattle.board_face.specs.{Lists.{without}, Tokens.{same_filling}, AppEvents.{begin_place}, AppCalls.{HasSpare}, Counts.{pool_count}, Fillings.{IsFilledByOne}}
+use Rattle.board_face.specs.{Places.{places_of, ends_behind}, Sides.{IsApp}, declared.views.parts.{Setting.{Setting}, Filling.{Filling}, Making.{Making}}}
+use Rattle.board_face.{specs.declared.views.{nic.NicSide.{NicSide}, app.{SpareOwn.{SpareOwn}, AppSide.{AppSide}}}, proofs.ListLemmas.{eqb_same, same_filling-is}}
+use Rattle.board_face.proofs.{Tallies.{weight, tally}, Parts.{making_in, pool_count-parts, count-tally}, PlaceTallies.{in_buffer}, PlacesByEvent.{places-app}}
+use Rattle.board_face.proofs.{ArePlacedLemmas.{less_spare, spare-free, places-none}, SideLemmas.{IsApp-at}}
+use Rattle.board_face.proofs.{StoresAtLemmas.{texts_with, HasNoText, HasNoText-making, HasNoText-behind}, AreShownLemmas.{AreShown-stored_at}}
+use Rattle.ref_words.specs.{Area.{area_word, byte_in}, Sides.{SidesRule}, TextRule.{IsInMaking, IsOfSpare, HasTexts, AreTexts}}
+use Rattle.ref_words.proofs.{AreaWords.{same-word, within-area, stores-word}, SpareTaking.{own-none}}
 
 -- ---- the words of a text in the making
 

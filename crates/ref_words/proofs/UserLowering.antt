@@ -1,39 +1,18 @@
 -- The user count is lowered for the entry in hand: the loan that was owed is returning.
-use Rattle.std.proofs.Common.{◌≡◌, ⊎_elim, ℕ, ◌+◌, ◌-◌, ◌<◌, ◌≤◌, List, length, get_or, refl, ap, sym}
-use Rattle.std.proofs.Common.{◌∙◌, arith, subst, length-drop}
-use Rattle.std.specs.Prelude.{◌≢◌, ◌==◌, ◌&&◌, if◌then◌else◌, Contains}
-use Rattle.std.proofs.lemmas.List.Elements.{All-contains}
-use Rattle.std.proofs.lemmas.Bool.Decides.{eqb_tells}
+use Rattle.std.proofs.Common.{◌≡◌, ⊎_elim, ℕ, ◌+◌, ◌-◌, ◌<◌, ◌≤◌, List, length, get_or, refl, ap, sym, ◌∙◌, arith, subst, length-drop}
+use Rattle.std.{specs.Prelude.{◌≢◌, ◌==◌, ◌&&◌, if◌then◌else◌, Contains}, proofs.lemmas.{List.Elements.{All-contains}, Bool.Decides.{eqb_tells}}}
 use Rattle.zr_kinds.specs.declared.ring.Rqe.{Rqe}
 use Rattle.area_layout.specs.Layout.{total}
-use Rattle.board_face.specs.AppEvents.{reserve_of}
-use Rattle.board_face.specs.NicCalls.{apps_of}
-use Rattle.board_face.specs.Sides.{IsApp}
-use Rattle.board_face.specs.Opened.{new_app}
+use Rattle.board_face.specs.{AppEvents.{reserve_of}, NicCalls.{apps_of}, Sides.{IsApp}, Opened.{new_app}}
 use Rattle.board_face.specs.Holders.{lowered_in_hand, returning_in_hand, ended_in, returning_count, returned_in, owed_in}
-use Rattle.board_face.specs.Counts.{pool_count, user_count, EndedWereReturned}
-use Rattle.board_face.specs.Steps.{side_user_lowered}
-use Rattle.board_face.specs.declared.views.parts.Setting.{Setting}
-use Rattle.board_face.specs.declared.views.nic.Judged.TheVariants.{Owed, UserLowered}
-use Rattle.board_face.specs.declared.views.nic.NicSide.{NicSide}
-use Rattle.board_face.specs.declared.views.app.AppSide.{AppSide}
-use Rattle.board_face.proofs.Tallies.{weight}
-use Rattle.board_face.proofs.Parts.{user_part, user_count-parts, total-shift, owed_count, loans_in, came_back_in, returned_in-count}
-use Rattle.board_face.proofs.NicLemmas.{pool_count-stretch}
-use Rattle.board_face.proofs.ArePlacedLemmas.{ArePlaced-stretch}
-use Rattle.board_face.proofs.MadeLastLemmas.{IsMadeLast-stretch}
-use Rattle.board_face.proofs.IsFilledByOneLemmas.{IsFilledByOne-fewer}
-use Rattle.board_face.proofs.SideLemmas.{IsApp-at}
-use Rattle.ref_words.specs.Words.{Words, user_of, listed_in}
-use Rattle.ref_words.specs.Sides.{IsInHand}
-use Rattle.ref_words.specs.Rule.{RefRule}
-use Rattle.ref_words.proofs.CardSteps.{AreReturns-owed, IsScrubbedSoFar-owed, HasNoneOwed-owed}
-use Rattle.ref_words.proofs.RingSteps.{rings-card}
-use Rattle.ref_words.proofs.Frees.{AreKept-card}
-use Rattle.ref_words.proofs.UserSteps.{IsUserStep}
-use Rattle.ref_words.proofs.InHand.{in_hand, some-is, if-none, same-if, other-if, other-pair}
-use Rattle.board_face.proofs.Counting.{user_case, weight-and, weight-same}
-use Rattle.ref_words.proofs.SideSteps.{in-area}
+use Rattle.board_face.specs.{Counts.{pool_count, user_count, EndedWereReturned}, Steps.{side_user_lowered}, declared.views.parts.Setting.{Setting}}
+use Rattle.board_face.{specs.declared.views.{nic.{Judged.TheVariants.{Owed, UserLowered}, NicSide.{NicSide}}, app.AppSide.{AppSide}}, proofs.Tallies.{weight}}
+use Rattle.board_face.proofs.{Parts.{user_part, user_count-parts, total-shift, owed_count, loans_in, came_back_in, returned_in-count}, NicLemmas.{pool_count-stretch}}
+use Rattle.board_face.proofs.{ArePlacedLemmas.{ArePlaced-stretch}, MadeLastLemmas.{IsMadeLast-stretch}, IsFilledByOneLemmas.{IsFilledByOne-fewer}}
+use Rattle.board_face.proofs.{SideLemmas.{IsApp-at}, Counting.{user_case, weight-and, weight-same}}
+use Rattle.ref_words.specs.{Words.{Words, user_of, listed_in}, Sides.{IsInHand}, Rule.{RefRule}}
+use Rattle.ref_words.proofs.{CardSteps.{AreReturns-owed, IsScrubbedSoFar-owed, HasNoneOwed-owed}, RingSteps.{rings-card}, Frees.{AreKept-card}, UserSteps.{IsUserStep}}
+use Rattle.ref_words.proofs.{InHand.{in_hand, some-is, if-none, same-if, other-if, other-pair}, SideSteps.{in-area}}
 
 module _ (setting : Setting) (words : Words) (nic : NicSide) (apps : List AppSide) (a : ℕ) (entry : Rqe) (b : ℕ) (rule : RefRule setting words nic apps)
     (at : nic.inside.entry ≡ in_hand a entry (Owed b)) where

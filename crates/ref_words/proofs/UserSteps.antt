@@ -1,21 +1,10 @@
 -- A user count changes with the loans of its application in its buffer.
-use Rattle.std.proofs.Common.{◌≡◌, ⊎_elim, ℕ, ◌<◌, List, [], length, set, get_or, refl, ap, sym, ◌∙◌, arith, subst}
-use Rattle.std.specs.Prelude.{◌≢◌, ◌==◌, if◌then◌else◌}
-use Rattle.std.proofs.lemmas.List.{length-set, get_or-set_same, get_or-set_other}
-use Rattle.std.proofs.lemmas.List.Elements.{All-set, All-get_or}
-use Rattle.std.proofs.lemmas.Bool.Decides.{eqb_tells}
+use Rattle.std.{proofs.Common.{◌≡◌, ⊎_elim, ℕ, ◌<◌, List, [], length, set, get_or, refl, ap, sym, ◌∙◌, arith, subst}, specs.Prelude.{◌≢◌, ◌==◌, if◌then◌else◌}}
+use Rattle.std.proofs.lemmas.{List.{length-set, get_or-set_same, get_or-set_other, Elements.{All-set, All-get_or}}, Bool.Decides.{eqb_tells}}
 use Rattle.area_layout.specs.Layout.{total}
-use Rattle.board_face.specs.NicCalls.{apps_of}
-use Rattle.board_face.specs.Counts.{pool_count, user_count}
-use Rattle.board_face.specs.FreeOnce.{free_places, AreFreeOnce}
-use Rattle.board_face.specs.Used.{AreKept}
-use Rattle.board_face.specs.declared.views.parts.Setting.{Setting}
-use Rattle.board_face.specs.declared.views.nic.NicSide.{NicSide}
-use Rattle.board_face.specs.declared.views.app.AppSide.{AppSide}
-use Rattle.ref_words.specs.Words.{Words, with_user, user_of, listed_in}
-use Rattle.ref_words.specs.Sides.{SidesRule}
-use Rattle.ref_words.specs.Rule.{RefRule}
-use Rattle.ref_words.proofs.RingSteps.{AllRings, rings-words}
+use Rattle.board_face.specs.{NicCalls.{apps_of}, Counts.{pool_count, user_count}, FreeOnce.{free_places, AreFreeOnce}, Used.{AreKept}}
+use Rattle.board_face.specs.declared.views.{parts.Setting.{Setting}, nic.NicSide.{NicSide}, app.AppSide.{AppSide}}
+use Rattle.ref_words.{specs.{Words.{Words, with_user, user_of, listed_in}, Sides.{SidesRule}, Rule.{RefRule}}, proofs.RingSteps.{AllRings, rings-words}}
 
 -- What is to be known of the sides after the step, where the count of the application a for the buffer b becomes n.
 pub record IsUserStep (setting : Setting) (words : Words) (nic now : NicSide) (apps apps' : List AppSide) (a b n : ℕ) : Type 0 where

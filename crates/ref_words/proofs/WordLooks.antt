@@ -1,17 +1,8 @@
 -- An application looks at a word of the free list.
-use Rattle.std.proofs.Common.{◌≡◌, ℕ, Bool, true, false, List, ◌∷◌, set, refl, sym, arith, subst}
-use Rattle.std.proofs.lemmas.List.{set-get_or}
-use Rattle.board_face.specs.Sides.{IsApp}
-use Rattle.board_face.specs.Used.{HasFewPicks}
-use Rattle.board_face.specs.declared.views.parts.Setting.{Setting}
-use Rattle.board_face.specs.declared.views.nic.NicSide.{NicSide}
-use Rattle.board_face.specs.declared.views.app.AppSide.{AppSide}
-use Rattle.ref_words.specs.Words.{Words, listed_in}
-use Rattle.ref_words.specs.FreeSteps.{side_word_without, side_word_looked}
-use Rattle.ref_words.specs.Rule.{RefRule}
-use Rattle.ref_words.proofs.Frees.{AreKept-app, free_places-hands}
-use Rattle.ref_words.proofs.SideSteps.{mine}
-use Rattle.ref_words.proofs.SlotSteps.{RefRule-slot, no-word}
+use Rattle.std.proofs.{Common.{◌≡◌, ℕ, Bool, true, false, List, ◌∷◌, set, refl, sym, arith, subst}, lemmas.List.{set-get_or}}
+use Rattle.board_face.specs.{Sides.{IsApp}, Used.{HasFewPicks}, declared.views.{parts.Setting.{Setting}, nic.NicSide.{NicSide}, app.AppSide.{AppSide}}}
+use Rattle.ref_words.{specs.{Words.{Words, listed_in}, FreeSteps.{side_word_without, side_word_looked}, Rule.{RefRule}}, proofs.Frees.{AreKept-app, free_places-hands}}
+use Rattle.ref_words.proofs.{SideSteps.{mine}, SlotSteps.{RefRule-slot, no-word}}
 use Rattle.ref_words.proofs.AppHands as hands
 
 module _ (setting : Setting) (words : Words) (nic : NicSide) (apps : List AppSide) (a : ℕ) (app : AppSide) (j : ℕ)

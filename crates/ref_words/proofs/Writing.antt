@@ -1,41 +1,17 @@
 -- An application hands a refill slot over: an entry is on its way.
-use Rattle.std.proofs.Common.{◌≡◌, ℕ, zero, suc, ◌<◌, ◌≤◌, Bool, true, false, List}
-use Rattle.std.proofs.Common.{[], ◌∷◌, ◌++◌, length, map, take, set}
-use Rattle.std.proofs.Common.{refl, ap, sym, ◌∙◌, arith, subst, Some, None, mod-lt}
-use Rattle.std.specs.Prelude.{All}
-use Rattle.std.proofs.lemmas.List.{append_assoc}
-use Rattle.std.proofs.lemmas.List.Elements.{All-push, All-nil}
-use Rattle.zr_kinds.specs.declared.place.Place.{Place}
-use Rattle.board_face.specs.AppEvents.{reserve_of}
-use Rattle.board_face.specs.Opened.{unseen}
-use Rattle.board_face.specs.Holders.{returned_in, owed_in}
-use Rattle.board_face.specs.Counts.{pool_count, EndedWereReturned}
-use Rattle.board_face.specs.Relay.{dealt_entries}
-use Rattle.board_face.specs.Returns.{AreReturns, IsOfLoan, entries_on_way}
-use Rattle.board_face.specs.Sides.{IsApp}
-use Rattle.board_face.specs.declared.views.parts.Setting.{Setting}
-use Rattle.board_face.specs.declared.views.nic.NicSide.{NicSide}
-use Rattle.board_face.specs.declared.views.app.WrittenEntry.{WrittenEntry}
-use Rattle.board_face.specs.declared.views.app.AppSide.{AppSide}
-use Rattle.board_face.proofs.AppLemmas.{pool_count-app, user_count-app}
-use Rattle.board_face.proofs.ArePlacedLemmas.{ArePlaced-app}
-use Rattle.board_face.proofs.FillingsFitLemmas.{FillingsFit-same}
-use Rattle.board_face.proofs.IsFilledByOneLemmas.{IsFilledByOne-app}
-use Rattle.board_face.proofs.MadeLastLemmas.{IsMadeLast-app}
-use Rattle.board_face.proofs.Parts.{app_count, user_part}
-use Rattle.board_face.proofs.PlaceTallies.{app_places}
-use Rattle.board_face.proofs.WrittenLemmas.{way-written}
-use Rattle.ref_words.specs.Words.{Words, listed_in, with_refill}
-use Rattle.ref_words.specs.Rings.{AreRings, EntryFits, IsLastRaw, words_of_entry, writes_entry_at}
-use Rattle.ref_words.specs.Sides.{IsFirst, IsFirstRaw, IsDealtInOrder}
-use Rattle.ref_words.specs.Rule.{RefRule}
-use Rattle.ref_words.proofs.Ringing as ringing
-use Rattle.ref_words.proofs.RingSteps.{AllRings, rings-others}
-use Rattle.ref_words.proofs.SlotWords.{ring-here, ring-other, differ-refill}
-use Rattle.ref_words.proofs.SlotSteps.{DifferInSlots, RefRule-slot}
-use Rattle.ref_words.proofs.SideSteps.{SidesRule-app, own-was, is-app}
+use Rattle.std.proofs.Common.{◌≡◌, ℕ, zero, suc, ◌<◌, ◌≤◌, Bool, true, false, List, [], ◌∷◌, ◌++◌, length, map, take, set}
+use Rattle.std.{proofs.{Common.{refl, ap, sym, ◌∙◌, arith, subst, Some, None, mod-lt}, lemmas.List.{append_assoc, Elements.{All-push, All-nil}}}, specs.Prelude.{All}}
+use Rattle.zr_kinds.specs.declared.{place.Place.{Place}, ring.Rqe.{Rqe}}
+use Rattle.board_face.specs.{AppEvents.{reserve_of}, Opened.{unseen}, Holders.{returned_in, owed_in}, Counts.{pool_count, EndedWereReturned}, Relay.{dealt_entries}}
+use Rattle.board_face.specs.{Returns.{AreReturns, IsOfLoan, entries_on_way}, Sides.{IsApp}, declared.views.{parts.Setting.{Setting}, nic.NicSide.{NicSide}}}
+use Rattle.board_face.{specs.declared.views.app.{WrittenEntry.{WrittenEntry}, AppSide.{AppSide}}, proofs.AppLemmas.{pool_count-app, user_count-app}}
+use Rattle.board_face.proofs.{ArePlacedLemmas.{ArePlaced-app}, FillingsFitLemmas.{FillingsFit-same}, IsFilledByOneLemmas.{IsFilledByOne-app}}
+use Rattle.board_face.proofs.{MadeLastLemmas.{IsMadeLast-app}, Parts.{app_count, user_part}, PlaceTallies.{app_places}, WrittenLemmas.{way-written}}
+use Rattle.ref_words.specs.{Words.{Words, listed_in, with_refill}, Rings.{AreRings, EntryFits, IsLastRaw, words_of_entry, writes_entry_at}}
+use Rattle.ref_words.{specs.{Sides.{IsFirst, IsFirstRaw, IsDealtInOrder}, Rule.{RefRule}}, proofs.RingSteps.{AllRings, rings-others}}
+use Rattle.ref_words.proofs.{SlotWords.{ring-here, ring-other, differ-refill}, SlotSteps.{DifferInSlots, RefRule-slot}, SideSteps.{SidesRule-app, own-was, is-app}}
 use Rattle.ref_words.proofs.Frees.{AreKept-app, free_places-hands}
-use Rattle.zr_kinds.specs.declared.ring.Rqe.{Rqe}
+use Rattle.ref_words.proofs.Ringing as ringing
 
 pub take-mapped : {A B : Type 0} (f : A → B) (n : ℕ) (xs : List A) (x : A) → n ≤ length xs → take n (map f (xs ++ x ∷ [])) ≡ take n (map f xs)
 take-mapped f zero xs x few = refl

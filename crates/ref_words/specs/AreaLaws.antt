@@ -1,28 +1,14 @@
 -- The laws of steps at the words of the area: a text is stored word by word, and read word by word.
-use Rattle.std.specs.Prelude.{◌≡◌, ℕ, ◌+◌, ◌*◌, ◌%◌, ◌<◌, ◌≤◌, List}
-use Rattle.std.specs.Prelude.{[], ◌∷◌, ◌++◌, length, take, drop, slice_index, slice_set}
-use Rattle.std.specs.Prelude.{All, Option, Some, IfSome}
+use Rattle.std.specs.Prelude.{◌≡◌, ℕ, ◌+◌, ◌*◌, ◌%◌, ◌<◌, ◌≤◌, List, [], ◌∷◌, ◌++◌, length, take, drop, slice_index, slice_set, All, Option, Some, IfSome}
 use Rattle.zr_kinds.specs.declared.place.Place.{Place}
 use Rattle.area_layout.specs.Layout.{Shape}
-use Rattle.board_face.specs.AppCalls.{HasLoan, HasSpare, ShowsCopy}
-use Rattle.board_face.specs.AppEvents.{begin_place, filled, has_read, loan_origin, reads_with}
-use Rattle.board_face.specs.NicCalls.{HasOwn}
-use Rattle.board_face.specs.NicEvents.{placed}
-use Rattle.board_face.specs.Sides.{IsApp, app_at}
-use Rattle.board_face.specs.Steps.{side_begun}
-use Rattle.board_face.specs.Texts.{further}
-use Rattle.board_face.specs.Tokens.{filled_by, next_place}
-use Rattle.board_face.specs.declared.views.parts.Setting.{Setting}
-use Rattle.board_face.specs.declared.views.parts.Filling.{Filling}
-use Rattle.board_face.specs.declared.views.parts.Making.{Making}
-use Rattle.board_face.specs.declared.views.nic.NicSide.{NicSide}
-use Rattle.board_face.specs.declared.views.app.Reading.{Reading}
+use Rattle.board_face.specs.{AppCalls.{HasLoan, HasSpare, ShowsCopy}, AppEvents.{begin_place, filled, has_read, loan_origin, reads_with}, NicCalls.{HasOwn}}
+use Rattle.board_face.specs.{NicEvents.{placed}, Sides.{IsApp, app_at}, Steps.{side_begun}, Texts.{further}, Tokens.{filled_by, next_place}}
+use Rattle.board_face.specs.declared.views.{parts.{Setting.{Setting}, Filling.{Filling}, Making.{Making}}, nic.NicSide.{NicSide}, app.Reading.{Reading}}
 use Rattle.board_face.specs.declared.views.app.AppSide.{AppSide}
 use Rattle.word_rings.specs.Texts.{text_words, word_bytes}
-use Rattle.ref_words.specs.Words.{Words}
-use Rattle.ref_words.specs.Area.{area_word, with_area}
-use Rattle.ref_words.specs.AreaSteps.{made_words, side_piece_stored, side_piece_placed, side_spare_stored, side_spare_filled, side_loaded}
-use Rattle.ref_words.specs.Rule.{BoardRule}
+use Rattle.ref_words.specs.{Words.{Words}, Area.{area_word, with_area}}
+use Rattle.ref_words.specs.{AreaSteps.{made_words, side_piece_stored, side_piece_placed, side_spare_stored, side_spare_filled, side_loaded}, Rule.{BoardRule}}
 
 -- ---- a text is stored
 

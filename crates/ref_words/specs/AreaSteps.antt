@@ -1,14 +1,8 @@
 -- Steps at the words of the area: the next word of a text is stored, or a word is loaded for a read.
 use Rattle.std.specs.Prelude.{ℕ, zero, suc, Option, Some, None, List, [], ◌∷◌, ◌++◌}
 use Rattle.zr_kinds.specs.declared.place.Place.{Place}
-use Rattle.board_face.specs.NicEvents.{text_done}
-use Rattle.board_face.specs.AppEvents.{filled, has_read}
-use Rattle.board_face.specs.Sides.{app_at}
-use Rattle.board_face.specs.declared.views.parts.Filling.{Filling}
-use Rattle.board_face.specs.declared.views.parts.Making.{Making}
-use Rattle.board_face.specs.declared.views.nic.NicSide.{NicSide}
-use Rattle.board_face.specs.declared.views.app.Reading.{Reading}
-use Rattle.board_face.specs.declared.views.app.AppSide.{AppSide}
+use Rattle.board_face.specs.{NicEvents.{text_done}, AppEvents.{filled, has_read}, Sides.{app_at}, declared.views.parts.{Filling.{Filling}, Making.{Making}}}
+use Rattle.board_face.specs.declared.views.{nic.NicSide.{NicSide}, app.{Reading.{Reading}, AppSide.{AppSide}}}
 
 -- ---- a text is stored
 

@@ -1,17 +1,10 @@
 -- The laws of steps at the free list.
 use Rattle.std.specs.Prelude.{◌≡◌, ℕ, ◌<◌, ◌≤◌, ◌/◌, ◌==◌, true, false, List, length, slice_set, Contains}
 use Rattle.area_layout.specs.Layout.{pool_buffers}
-use Rattle.board_face.specs.NicCalls.{SweptWord, free_words_of, lost_of, sent_unsplit_bytes}
-use Rattle.board_face.specs.NicEvents.{word_bits, cache_room}
-use Rattle.board_face.specs.AppCalls.{MaySpare}
-use Rattle.board_face.specs.Sides.{IsApp}
-use Rattle.board_face.specs.Used.{PicksAreGiven}
-use Rattle.board_face.specs.declared.views.parts.Setting.{Setting}
-use Rattle.board_face.specs.declared.views.nic.NicSide.{NicSide}
-use Rattle.board_face.specs.declared.views.app.AppSide.{AppSide}
+use Rattle.board_face.specs.{NicCalls.{SweptWord, free_words_of, lost_of, sent_unsplit_bytes}, NicEvents.{word_bits, cache_room}, AppCalls.{MaySpare}, Sides.{IsApp}}
+use Rattle.board_face.specs.{Used.{PicksAreGiven}, declared.views.{parts.Setting.{Setting}, nic.NicSide.{NicSide}, app.AppSide.{AppSide}}}
 use Rattle.ref_words.specs.Words.{Words, listed_in, free_of, with_free, with_listed, with_unlisted}
-use Rattle.ref_words.specs.FreeSteps.{found_in, side_swept, side_nic_listed, side_app_listed, side_word_looked, side_bit_cleared}
-use Rattle.ref_words.specs.Rule.{BoardRule}
+use Rattle.ref_words.specs.{FreeSteps.{found_in, side_swept, side_nic_listed, side_app_listed, side_word_looked, side_bit_cleared}, Rule.{BoardRule}}
 
 -- What the card knows once it swept a word, where it found n: the buffers found are of the pool and of this word, the highest first, and
 -- the cache has room for them. Buffers of swept words that are neither cached nor were taken were picked as spares, and each spare is for

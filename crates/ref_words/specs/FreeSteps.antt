@@ -1,12 +1,7 @@
 -- Steps at the free list, on a board of words: the card sweeps a word, a role lists a buffer that it has in hand, and an application looks
 -- at a word and picks a buffer whose bit it saw there.
-use Rattle.std.specs.Prelude.{ℕ, zero, suc, ◌+◌, ◌*◌, Bool, if◌then◌else◌, List, [], ◌∷◌, ◌==◌, nat_eq}
-use Rattle.std.specs.Int.{bit_at}
-use Rattle.board_face.specs.Lists.{without}
-use Rattle.board_face.specs.NicEvents.{word_bits, swept}
-use Rattle.board_face.specs.Sides.{nic_at}
-use Rattle.board_face.specs.Steps.{side_picked}
-use Rattle.board_face.specs.declared.views.nic.NicSide.{NicSide}
+use Rattle.std.specs.{Prelude.{ℕ, zero, suc, ◌+◌, ◌*◌, Bool, if◌then◌else◌, List, [], ◌∷◌, ◌==◌, nat_eq}, Int.{bit_at}}
+use Rattle.board_face.specs.{Lists.{without}, NicEvents.{word_bits, swept}, Sides.{nic_at}, Steps.{side_picked}, declared.views.nic.NicSide.{NicSide}}
 use Rattle.board_face.specs.declared.views.app.AppSide.{AppSide}
 
 -- the buffers of a word of the free list whose bits are set among the k lowest of n, the highest first

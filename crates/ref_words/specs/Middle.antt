@@ -1,12 +1,9 @@
 -- A board on which three roles are in the middle of calls, which a list of steps leads to from the opening.
 use Rattle.std.specs.Prelude.{◌≡◌, true, List, [], ◌∷◌, Some}
 use Rattle.area_layout.specs.Layout.{IsLayout, shape_of}
-use Rattle.board_face.specs.Tokens.{filling}
-use Rattle.board_face.specs.declared.views.parts.Setting.{Setting}
+use Rattle.board_face.specs.{Tokens.{filling}, declared.views.parts.Setting.{Setting}}
 use Rattle.ref_words.specs.Runs.{State, Step, deals, becomes_card, becomes_app, by_card, by_app, run_of, opened_state, MayRun, Keeps}
-use Rattle.ref_words.specs.Runs.{sweeps, takes, begins, looks_end, looks_any}
-use Rattle.ref_words.specs.Words.{pool_of}
-use Rattle.ref_words.specs.Seated.{side_at}
+use Rattle.ref_words.specs.{Runs.{sweeps, takes, begins, looks_end, looks_any}, Words.{pool_of}, Seated.{side_at}}
 
 -- two buffers of 1,024 bytes, two applications, and two slots in each ring
 abbrev pub small : Setting

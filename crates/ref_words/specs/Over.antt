@@ -1,14 +1,9 @@
 -- What holds of roles that are over: they were served, and nobody has a buffer.
 use Rattle.std.specs.Prelude.{◌≡◌, ℕ, ◌+◌, ◌<◌, ◌≤◌, true, if◌then◌else◌, List, [], slice_index, All, nat_eq, count_by}
 use Rattle.area_layout.specs.Layout.{pool_buffers}
-use Rattle.board_face.specs.Ended.{IsServed}
-use Rattle.board_face.specs.Holders.{nic_holders, app_holders}
-use Rattle.board_face.specs.Sides.{IsApp}
-use Rattle.board_face.specs.declared.views.parts.Setting.{Setting}
-use Rattle.board_face.specs.declared.views.nic.NicSide.{NicSide}
+use Rattle.board_face.specs.{Ended.{IsServed}, Holders.{nic_holders, app_holders}, Sides.{IsApp}, declared.views.{parts.Setting.{Setting}, nic.NicSide.{NicSide}}}
 use Rattle.board_face.specs.declared.views.app.AppSide.{AppSide}
-use Rattle.ref_words.specs.Words.{Words, listed_in}
-use Rattle.ref_words.specs.Rule.{BoardRule}
+use Rattle.ref_words.specs.{Words.{Words, listed_in}, Rule.{BoardRule}}
 
 -- The card has ended, and has no free buffer in hand.
 pub record CardIsOver (nic : NicSide) : Type 0 where

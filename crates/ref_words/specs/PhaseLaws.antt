@@ -2,18 +2,9 @@
 -- the pool count of its reserve.
 use Rattle.std.specs.Prelude.{◌≡◌, ℕ, ◌+◌, ◌<◌, ◌==◌, true, List, None, slice_index, slice_set}
 use Rattle.zr_kinds.specs.declared.place.Place.{Place}
-use Rattle.board_face.specs.NicCalls.{HasNoToken, apps_of}
-use Rattle.board_face.specs.AppCalls.{HasLoan, CanLeave}
-use Rattle.board_face.specs.AppEvents.{reserve_of}
-use Rattle.board_face.specs.Sides.{IsApp}
-use Rattle.board_face.specs.Steps.{HasSearched}
-use Rattle.board_face.specs.declared.views.parts.Setting.{Setting}
-use Rattle.board_face.specs.declared.views.nic.NicSide.{NicSide}
-use Rattle.board_face.specs.declared.views.app.AppSide.{AppSide}
-use Rattle.ref_words.specs.Words.{Words, pool_of, slot_word}
-use Rattle.ref_words.specs.Rings.{takes_note_at}
-use Rattle.ref_words.specs.Rule.{BoardRule}
-use Rattle.ref_words.specs.PhaseRule.{with_phase}
+use Rattle.board_face.specs.{NicCalls.{HasNoToken, apps_of}, AppCalls.{HasLoan, CanLeave}, AppEvents.{reserve_of}, Sides.{IsApp}, Steps.{HasSearched}}
+use Rattle.board_face.specs.declared.views.{parts.Setting.{Setting}, nic.NicSide.{NicSide}, app.AppSide.{AppSide}}
+use Rattle.ref_words.specs.{Words.{Words, pool_of, slot_word}, Rings.{takes_note_at}, Rule.{BoardRule}, PhaseRule.{with_phase}}
 use Rattle.ref_words.specs.PhaseSteps.{side_ended, side_leave_looked, side_left, side_end_looked, side_note_sought, side_reserve_looked, side_abandoned}
 
 -- A role stores 1 into its own phase word: the card, of which no token is out and no piece in the making, ends, and an application that

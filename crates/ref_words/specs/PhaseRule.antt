@@ -1,13 +1,8 @@
 -- Phases: what the phase words say of how far the card and the applications have come, and what follows from that.
 use Rattle.std.specs.Prelude.{◌≡◌, ℕ, ◌+◌, Bool, true, ◌<◌, if◌then◌else◌, List, [], None, IfSome, slice_index, slice_set, All}
 use Rattle.area_layout.specs.Layout.{pool_buffers}
-use Rattle.board_face.specs.NicCalls.{HasNoToken}
-use Rattle.board_face.specs.AppCalls.{CanLeave}
-use Rattle.board_face.specs.Holders.{on_way}
-use Rattle.board_face.specs.OwnBuffers.{CardLiesInPool, AppLiesInOwn}
-use Rattle.board_face.specs.declared.views.parts.Setting.{Setting}
-use Rattle.board_face.specs.declared.views.nic.NicSide.{NicSide}
-use Rattle.board_face.specs.declared.views.app.AppSide.{AppSide}
+use Rattle.board_face.specs.{NicCalls.{HasNoToken}, AppCalls.{CanLeave}, Holders.{on_way}, OwnBuffers.{CardLiesInPool, AppLiesInOwn}}
+use Rattle.board_face.specs.declared.views.{parts.Setting.{Setting}, nic.NicSide.{NicSide}, app.AppSide.{AppSide}}
 use Rattle.ref_words.specs.Words.{Words}
 
 -- the phase word of a role: 1 where it is over

@@ -1,13 +1,8 @@
 -- Steps at the phase words and those by which an application is told that nothing comes, on a board of words.
 use Rattle.std.specs.Prelude.{ℕ, Bool, true, false, if◌then◌else◌, []}
 use Rattle.zr_kinds.specs.declared.place.Place.{Place}
-use Rattle.board_face.specs.NicEvents.{nic_saw, nic_ended, saw_leave}
-use Rattle.board_face.specs.AppEvents.{app_saw, told_end, abandoned, left_board}
-use Rattle.board_face.specs.Sides.{nic_at, app_at}
-use Rattle.board_face.specs.SlotSteps.{seen_with}
-use Rattle.board_face.specs.declared.views.nic.NicLook.TheVariants.{NotLeft}
-use Rattle.board_face.specs.declared.views.nic.NicSide.{NicSide}
-use Rattle.board_face.specs.declared.views.app.AppLook.TheVariants.{NoNote, NoSpare}
+use Rattle.board_face.specs.{NicEvents.{nic_saw, nic_ended, saw_leave}, AppEvents.{app_saw, told_end, abandoned, left_board}, Sides.{nic_at, app_at}}
+use Rattle.board_face.specs.{SlotSteps.{seen_with}, declared.views.{nic.{NicLook.TheVariants.{NotLeft}, NicSide.{NicSide}}, app.AppLook.TheVariants.{NoNote, NoSpare}}}
 use Rattle.board_face.specs.declared.views.app.AppSide.{AppSide}
 
 -- the card ended

@@ -1,10 +1,7 @@
 -- Looks of an application at its refill slots, on a board of words, by which it comes to rest or falls quiet.
 use Rattle.std.specs.Prelude.{ℕ, Bool, if◌then◌else◌}
-use Rattle.board_face.specs.AppEvents.{app_saw, came_to_rest}
-use Rattle.board_face.specs.Sides.{app_at}
-use Rattle.board_face.specs.SlotSteps.{side_slot_free, side_fell_quiet}
-use Rattle.board_face.specs.declared.views.app.AppLook.TheVariants.{RawOnItsWay, NotQuiet}
-use Rattle.board_face.specs.declared.views.app.AppSide.{AppSide}
+use Rattle.board_face.specs.{AppEvents.{app_saw, came_to_rest}, Sides.{app_at}, SlotSteps.{side_slot_free, side_fell_quiet}}
+use Rattle.board_face.specs.declared.views.app.{AppLook.TheVariants.{RawOnItsWay, NotQuiet}, AppSide.{AppSide}}
 
 -- it looked at the slot of its last raw entry: free, it says that no raw entry is on its way
 abbrev pub side_raw_looked : AppSide → Bool → AppSide

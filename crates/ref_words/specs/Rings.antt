@@ -1,20 +1,11 @@
 -- Rings of slots. A slot is a list of words of which the first is the flag, 1 where the slot is full. The writer and the reader use
 -- the slots in turn; what either has seen of its next slot is so until it goes on.
-use Rattle.std.specs.Prelude.{◌≡◌, ℕ, ◌+◌, ◌%◌, ◌^◌, ◌<◌, ◌≤◌, true, false}
-use Rattle.std.specs.Prelude.{if◌then◌else◌, List, [], ◌∷◌, ◌++◌, length, map, replicate}
+use Rattle.std.specs.Prelude.{◌≡◌, ℕ, ◌+◌, ◌%◌, ◌^◌, ◌<◌, ◌≤◌, true, false, if◌then◌else◌, List, [], ◌∷◌, ◌++◌, length, map, replicate}
 use Rattle.std.specs.Prelude.{take, drop, slice_index, slice_index_or, All, Option, Some, None}
 use Rattle.zr_kinds.specs.declared.place.Note.{Note}
 use Rattle.area_layout.specs.Layout.{area_of_buffer}
-use Rattle.board_face.specs.SlotSteps.{next_slot}
-use Rattle.board_face.specs.Holders.{sent_to}
-use Rattle.board_face.specs.Relay.{dealt_entries}
-use Rattle.board_face.specs.Returns.{IsOfLoan}
-use Rattle.board_face.specs.declared.views.parts.Setting.{Setting}
-use Rattle.board_face.specs.declared.views.parts.Slot.{Slot}
-use Rattle.board_face.specs.declared.views.nic.NicSide.{NicSide}
-use Rattle.board_face.specs.declared.views.nic.SentNote.{SentNote}
-use Rattle.board_face.specs.declared.views.app.WrittenEntry.{WrittenEntry}
-use Rattle.board_face.specs.declared.views.app.AppSide.{AppSide}
+use Rattle.board_face.specs.{SlotSteps.{next_slot}, Holders.{sent_to}, Relay.{dealt_entries}, Returns.{IsOfLoan}, declared.views.parts.{Setting.{Setting}, Slot.{Slot}}}
+use Rattle.board_face.specs.declared.views.{nic.{NicSide.{NicSide}, SentNote.{SentNote}}, app.{WrittenEntry.{WrittenEntry}, AppSide.{AppSide}}}
 use Rattle.word_rings.specs.Slots.{note_width, note_body, refill_width, entry_body}
 use Rattle.ref_words.specs.Words.{Words}
 

@@ -1,19 +1,9 @@
 -- The rule: what the words say of the roles' sides, between any two steps. It has three parts, each of which reads other words.
 use Rattle.std.specs.Prelude.{◌≡◌, ℕ, ◌<◌, List}
 use Rattle.area_layout.specs.Layout.{IsLayout, total}
-use Rattle.board_face.specs.NicCalls.{apps_of}
-use Rattle.board_face.specs.Counts.{pool_count, user_count}
-use Rattle.board_face.specs.FreeOnce.{AreFreeOnce}
-use Rattle.board_face.specs.Used.{AreKept}
-use Rattle.board_face.specs.Sides.{IsApp}
-use Rattle.board_face.specs.declared.views.parts.Setting.{Setting}
-use Rattle.board_face.specs.declared.views.nic.NicSide.{NicSide}
-use Rattle.board_face.specs.declared.views.app.AppSide.{AppSide}
-use Rattle.ref_words.specs.Words.{Words, HasSizes, listed_in, pool_of, user_of}
-use Rattle.ref_words.specs.Sides.{SidesRule}
-use Rattle.ref_words.specs.Rings.{AreRings}
-use Rattle.ref_words.specs.TextRule.{TextRule}
-use Rattle.ref_words.specs.PhaseRule.{PhaseRule}
+use Rattle.board_face.specs.{NicCalls.{apps_of}, Counts.{pool_count, user_count}, FreeOnce.{AreFreeOnce}, Used.{AreKept}, Sides.{IsApp}}
+use Rattle.board_face.specs.declared.views.{parts.Setting.{Setting}, nic.NicSide.{NicSide}, app.AppSide.{AppSide}}
+use Rattle.ref_words.specs.{Words.{Words, HasSizes, listed_in, pool_of, user_of}, Sides.{SidesRule}, Rings.{AreRings}, TextRule.{TextRule}, PhaseRule.{PhaseRule}}
 
 -- Counts, the free list and the slots of the rings.
 pub record RefRule (setting : Setting) (words : Words) (nic : NicSide) (apps : List AppSide) : Type 0 where

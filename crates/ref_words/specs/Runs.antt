@@ -1,53 +1,34 @@
 -- Runs of a board: what stands between two steps, the steps as plain data, and what holds after any list of them.
-use Rattle.std.specs.Prelude.{◌≡◌, ◌≢◌, ◌≤◌, ◌<◌, ◌+◌, ◌-◌, ◌*◌, ◌/◌, ◌%◌}
-use Rattle.std.specs.Prelude.{◌∷◌, ◌++◌, [], ℕ, true, false, List, ◌==◌, Contains}
+use Rattle.std.specs.Prelude.{◌≡◌, ◌≢◌, ◌≤◌, ◌<◌, ◌+◌, ◌-◌, ◌*◌, ◌/◌, ◌%◌, ◌∷◌, ◌++◌, [], ℕ, true, false, List, ◌==◌, Contains}
 use Rattle.std.specs.Prelude.{None, Some, All, length, slice_index, slice_index_or, slice_set}
 use mathlib.Core.Option.{some}
 use lib.ListN.{get_elem?}
-use Rattle.zr_kinds.specs.declared.place.Place.{Place}
-use Rattle.zr_kinds.specs.declared.place.Note.{Note}
-use Rattle.zr_kinds.specs.declared.ring.Rqe.{Rqe}
+use Rattle.zr_kinds.specs.declared.{place.{Place.{Place}, Note.{Note}}, ring.Rqe.{Rqe}}
 use Rattle.area_layout.specs.Layout.{area_of_buffer, IsLayout, total, judged}
 use Rattle.board_face.specs.NicEvents.{took, text_at, word_bits}
 use Rattle.board_face.specs.AppEvents.{cut, lent, lent_own, reserve_of, begin_place, loan_origin, reads_with, entry_of as loan_entry}
 use Rattle.board_face.specs.NicCalls.{HasOwn, HasPiece, HasNoToken, IsOpen, apps_of, free_words_of}
-use Rattle.board_face.specs.AppCalls.{IsHere, HasHeld, HasLoan, HasSpare, IsFilled, CanLend, CanLeave, MaySpare, NamesNoLoan}
-use Rattle.board_face.specs.Counts.{pool_count, user_count}
-use Rattle.board_face.specs.FreeOnce.{AreFreeOnce}
-use Rattle.board_face.specs.Holders.{sent_to}
-use Rattle.board_face.specs.Shown.{AreShown}
-use Rattle.board_face.specs.Relay.{IsAsSent}
-use Rattle.board_face.specs.Opened.{new_nic, new_app, new_apps}
-use Rattle.board_face.specs.Sides.{nic_at, app_at}
+use Rattle.board_face.specs.{AppCalls.{IsHere, HasHeld, HasLoan, HasSpare, IsFilled, CanLend, CanLeave, MaySpare, NamesNoLoan}, Counts.{pool_count, user_count}}
+use Rattle.board_face.specs.{FreeOnce.{AreFreeOnce}, Holders.{sent_to}, Shown.{AreShown}, Relay.{IsAsSent}, Opened.{new_nic, new_app, new_apps}, Sides.{nic_at, app_at}}
 use Rattle.board_face.specs.Steps.{side_begun, side_shut, side_judged, side_user_lowered, side_both_lowered}
 use Rattle.board_face.specs.Steps.{HasSearched, side_released, side_spare_begun, side_user_taken, side_owes_lowered}
 use Rattle.board_face.specs.SlotSteps.{next_slot, side_refill_looked, side_refill_stored, side_note_looked, side_note_stored}
 use Rattle.board_face.specs.SlotSteps.{side_entry_looked, side_entry_loaded, side_in_hand, side_slot_looked, side_slot_loaded}
 use Rattle.board_face.specs.SlotSteps.{side_gave, side_pushed, side_dealt, side_sent, side_sent_linear, side_took_note, side_took_linear}
-use Rattle.board_face.specs.Texts.{IsSplitNote, IsLinearNote, further}
-use Rattle.board_face.specs.Tokens.{filled_by, next_place}
-use Rattle.board_face.specs.Used.{PicksAreGiven}
-use Rattle.board_face.specs.declared.views.parts.Setting.{Setting}
-use Rattle.board_face.specs.declared.views.parts.Filling.{Filling}
-use Rattle.board_face.specs.declared.views.nic.Fate.TheVariants.{Honoured, Stray}
-use Rattle.board_face.specs.declared.views.nic.Judged.TheVariants.{Not, Stray as judged_stray, Owed, UserLowered, BothLowered}
-use Rattle.board_face.specs.declared.views.nic.NicSide.{NicSide}
-use Rattle.board_face.specs.declared.views.app.Reading.{Reading}
-use Rattle.board_face.specs.declared.views.app.AppSide.{AppSide}
+use Rattle.board_face.specs.{Texts.{IsSplitNote, IsLinearNote, further}, Tokens.{filled_by, next_place}, Used.{PicksAreGiven}, declared.views.parts.Setting.{Setting}}
+use Rattle.board_face.specs.declared.views.{parts.Filling.{Filling}, nic.Fate.TheVariants.{Honoured, Stray}}
+use Rattle.board_face.specs.declared.views.nic.{Judged.TheVariants.{Not, Stray as judged_stray, Owed, UserLowered, BothLowered}, NicSide.{NicSide}}
+use Rattle.board_face.specs.declared.views.app.{Reading.{Reading}, AppSide.{AppSide}}
 use Rattle.word_rings.specs.Slots.{note_width, refill_width, entry_of, entry_body, note_body}
-use Rattle.ref_words.specs.declared.view.View.{View}
-use Rattle.ref_words.specs.Words.{Words, opened_words, with_role, with_pool, pool_of, with_user, user_of, listed_in}
-use Rattle.ref_words.specs.Words.{free_of, with_free, with_listed, with_unlisted}
-use Rattle.ref_words.specs.Words.{slot_word, with_refill, with_note}
+use Rattle.ref_words.specs.{declared.view.View.{View}, Words.{Words, opened_words, with_role, with_pool, pool_of, with_user, user_of, listed_in}}
+use Rattle.ref_words.specs.Words.{free_of, with_free, with_listed, with_unlisted, slot_word, with_refill, with_note}
 use Rattle.ref_words.specs.Seated.{Seated, times_in, due_view, card_view, app_view, dealt_out, both_sides, no_role, side_at}
 use Rattle.ref_words.specs.Rings.{EntryFits, NoteFits, note_so_far, writes_entry_at, takes_entry_at, writes_note_at, takes_note_at}
-use Rattle.ref_words.specs.SlotLaws.{refill_words_at, note_words_at, loaded_note, loaded_bytes, note_loads}
-use Rattle.ref_words.specs.Area.{area_word, byte_in, with_area}
+use Rattle.ref_words.specs.{SlotLaws.{refill_words_at, note_words_at, loaded_note, loaded_bytes, note_loads}, Area.{area_word, byte_in, with_area}}
 use Rattle.ref_words.specs.AreaSteps.{made_words, side_piece_stored, side_piece_placed, side_spare_stored, side_spare_filled, side_loaded}
 use Rattle.ref_words.specs.AreaLaws.{IsMadeAt, IsMadeThere, IsLastWord, next_word, part_of}
 use Rattle.ref_words.specs.FreeSteps.{side_swept, side_nic_listed, side_app_listed, side_word_looked, side_bit_cleared}
-use Rattle.ref_words.specs.RestSteps.{side_raw_looked, side_any_looked, side_last_looked}
-use Rattle.ref_words.specs.PhaseRule.{with_phase}
+use Rattle.ref_words.specs.{RestSteps.{side_raw_looked, side_any_looked, side_last_looked}, PhaseRule.{with_phase}}
 use Rattle.ref_words.specs.PhaseSteps.{side_ended, side_leave_looked, side_left, side_end_looked, side_note_sought, side_reserve_looked, side_abandoned}
 use Rattle.ref_words.specs.Rule.{BoardRule}
 

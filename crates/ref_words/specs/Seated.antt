@@ -1,13 +1,8 @@
 -- Who has which role: a word of the roles is 1 exactly where one seat has that role, or the desk after it went back.
-use Rattle.std.specs.Prelude.{◌≡◌, ℕ, ◌+◌, ◌<◌, ◌≤◌, ◌≢◌, ◌==◌, if◌then◌else◌, List, [], ◌∷◌, ◌++◌, length}
-use Rattle.std.specs.Prelude.{slice_index, slice_index_or}
+use Rattle.std.specs.Prelude.{◌≡◌, ℕ, ◌+◌, ◌<◌, ◌≤◌, ◌≢◌, ◌==◌, if◌then◌else◌, List, [], ◌∷◌, ◌++◌, length, slice_index, slice_index_or}
 use mathlib.Core.Option.{some}
 use lib.ListN.{get_elem?}
-use Rattle.board_face.specs.NicCalls.{apps_of}
-use Rattle.board_face.specs.Opened.{new_nic, new_app}
-use Rattle.board_face.specs.declared.views.parts.Setting.{Setting}
-use Rattle.board_face.specs.declared.views.nic.NicSide.{NicSide}
-use Rattle.board_face.specs.declared.views.app.AppSide.{AppSide}
+use Rattle.board_face.specs.{NicCalls.{apps_of}, Opened.{new_nic, new_app}, declared.views.{parts.Setting.{Setting}, nic.NicSide.{NicSide}, app.AppSide.{AppSide}}}
 use Rattle.ref_words.specs.declared.view.View.{View}
 
 module _ {V S : Type 0} (sides : V → List S) (number : S → ℕ) where

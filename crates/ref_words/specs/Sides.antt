@@ -1,25 +1,12 @@
 -- What holds of the sides of all roles between any two steps, whatever the words are.
-use Rattle.std.specs.Prelude.{◌≡◌, ℕ, ◌<◌, ◌≤◌, true, false, List, [], ◌∷◌, length, map, take}
-use Rattle.std.specs.Prelude.{All, Option, Some, None, slice_index}
+use Rattle.std.specs.Prelude.{◌≡◌, ℕ, ◌<◌, ◌≤◌, true, false, List, [], ◌∷◌, length, map, take, All, Option, Some, None, slice_index}
 use Rattle.zr_kinds.specs.declared.ring.Rqe.{Rqe}
 use Rattle.area_layout.specs.Layout.{total, judged}
-use Rattle.board_face.specs.NicCalls.{apps_of}
-use Rattle.board_face.specs.AppEvents.{reserve_of}
-use Rattle.board_face.specs.Counts.{pool_count, EndedWereReturned}
-use Rattle.board_face.specs.Places.{ArePlaced, IsMadeLast}
-use Rattle.board_face.specs.Fillings.{IsFilledByOne, FillingsFit}
-use Rattle.board_face.specs.Used.{HasFewPicks}
-use Rattle.board_face.specs.Relay.{dealt_entries, as_taken, IsProper}
-use Rattle.board_face.specs.Returns.{AreReturns, entries_on_way}
-use Rattle.board_face.specs.Sides.{AreNumbered, IsApp}
-use Rattle.board_face.specs.Judged.{IsHonouredAsNamed}
-use Rattle.board_face.specs.Holders.{ended_in, returned_in, owed_in, sent_to}
-use Rattle.board_face.specs.declared.views.parts.Setting.{Setting}
-use Rattle.board_face.specs.declared.views.nic.EntryInHand.{EntryInHand}
-use Rattle.board_face.specs.declared.views.nic.Judged.{Judged}
-use Rattle.board_face.specs.declared.views.nic.Judged.TheVariants.{Not, Stray, Owed, UserLowered, BothLowered}
-use Rattle.board_face.specs.declared.views.nic.NicSide.{NicSide}
-use Rattle.board_face.specs.declared.views.app.WrittenEntry.{WrittenEntry}
+use Rattle.board_face.specs.{NicCalls.{apps_of}, AppEvents.{reserve_of}, Counts.{pool_count, EndedWereReturned}, Places.{ArePlaced, IsMadeLast}}
+use Rattle.board_face.specs.{Fillings.{IsFilledByOne, FillingsFit}, Used.{HasFewPicks}, Relay.{dealt_entries, as_taken, IsProper}, Returns.{AreReturns, entries_on_way}}
+use Rattle.board_face.specs.{Sides.{AreNumbered, IsApp}, Judged.{IsHonouredAsNamed}, Holders.{ended_in, returned_in, owed_in, sent_to}}
+use Rattle.board_face.specs.declared.views.{parts.Setting.{Setting}, nic.{EntryInHand.{EntryInHand}, Judged.{Judged}}}
+use Rattle.board_face.specs.declared.views.{nic.{Judged.TheVariants.{Not, Stray, Owed, UserLowered, BothLowered}, NicSide.{NicSide}}, app.WrittenEntry.{WrittenEntry}}
 use Rattle.board_face.specs.declared.views.app.AppSide.{AppSide}
 use Rattle.ref_words.specs.Rings.{EntryFits, NoteFits}
 

@@ -1,32 +1,19 @@
 -- The laws of steps at the slots of the rings. Each end goes through its slots in turn: the writer looks at the flag until it is 0,
 -- stores the words behind it and then the flag 1, and the reader looks until it is 1, loads the words and stores the flag 0.
-use Rattle.std.specs.Prelude.{◌≡◌, ℕ, ◌+◌, ◌<◌, ◌≤◌, ◌==◌, if◌then◌else◌, true, false, List, [], ◌∷◌, ◌++◌, length, min}
-use Rattle.std.specs.Prelude.{take, slice_set}
-use Rattle.std.specs.Prelude.{Some, None, Contains}
-use Rattle.zr_kinds.specs.declared.place.Note.{Note}
-use Rattle.zr_kinds.specs.declared.place.Place.{Place}
-use Rattle.zr_kinds.specs.declared.ring.Rqe.{Rqe}
+use Rattle.std.specs.Prelude.{◌≡◌, ℕ, ◌+◌, ◌<◌, ◌≤◌, ◌==◌, if◌then◌else◌, true, false, List, [], ◌∷◌, ◌++◌, length, min, take, slice_set, Some, None, Contains}
+use Rattle.zr_kinds.specs.declared.{place.{Note.{Note}, Place.{Place}}, ring.Rqe.{Rqe}}
 use Rattle.area_layout.specs.Layout.{judged, area_of_buffer}
-use Rattle.board_face.specs.AppCalls.{HasLoan, NamesNoLoan, TookNote}
-use Rattle.board_face.specs.AppEvents.{entry_of as loan_entry}
-use Rattle.board_face.specs.NicCalls.{HasPiece, IsOpen, apps_of}
-use Rattle.board_face.specs.NicEvents.{text_at}
-use Rattle.board_face.specs.Texts.{IsSplitNote, IsLinearNote}
-use Rattle.board_face.specs.Sides.{IsApp}
+use Rattle.board_face.specs.{AppCalls.{HasLoan, NamesNoLoan, TookNote}, AppEvents.{entry_of as loan_entry}, NicCalls.{HasPiece, IsOpen, apps_of}, NicEvents.{text_at}}
+use Rattle.board_face.specs.{Texts.{IsSplitNote, IsLinearNote}, Sides.{IsApp}}
 use Rattle.board_face.specs.SlotSteps.{next_slot, side_refill_looked, side_refill_stored, side_note_looked, side_note_stored}
 use Rattle.board_face.specs.SlotSteps.{side_entry_looked, side_entry_loaded, side_in_hand, side_slot_looked, side_slot_loaded}
 use Rattle.board_face.specs.SlotSteps.{side_gave, side_pushed, side_dealt, side_sent, side_sent_linear, side_took_note, side_took_linear}
-use Rattle.board_face.specs.declared.views.nic.Fate.TheVariants.{Honoured, Stray}
-use Rattle.board_face.specs.declared.views.nic.Judged.TheVariants.{Not, Stray as judged_stray, BothLowered}
-use Rattle.board_face.specs.declared.views.parts.Setting.{Setting}
-use Rattle.board_face.specs.declared.views.nic.NicSide.{NicSide}
-use Rattle.board_face.specs.declared.views.app.AppSide.{AppSide}
-use Rattle.word_rings.specs.Slots.{note_width, note_fields, refill_width, entry_of, entry_body, note_body, note_of, linear_of}
-use Rattle.word_rings.specs.Texts.{text_count}
+use Rattle.board_face.specs.declared.views.nic.{Fate.TheVariants.{Honoured, Stray}, Judged.TheVariants.{Not, Stray as judged_stray, BothLowered}}
+use Rattle.board_face.specs.declared.views.{parts.Setting.{Setting}, nic.NicSide.{NicSide}, app.AppSide.{AppSide}}
+use Rattle.word_rings.specs.{Slots.{note_width, note_fields, refill_width, entry_of, entry_body, note_body, note_of, linear_of}, Texts.{text_count}}
 use Rattle.ref_words.specs.Words.{Words, slot_word, with_refill, with_note}
 use Rattle.ref_words.specs.Rings.{EntryFits, NoteFits, note_so_far, writes_entry_at, takes_entry_at, writes_note_at, takes_note_at}
-use Rattle.ref_words.specs.RestSteps.{side_raw_looked, side_any_looked, side_last_looked}
-use Rattle.ref_words.specs.Rule.{BoardRule}
+use Rattle.ref_words.specs.{RestSteps.{side_raw_looked, side_any_looked, side_last_looked}, Rule.{BoardRule}}
 
 -- how many words of its next slot a card has loaded or stored, the flag among them
 abbrev pub refill_words_at : NicSide → ℕ → ℕ

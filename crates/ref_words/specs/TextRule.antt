@@ -1,18 +1,9 @@
 -- Texts: what the words of the area say of the roles' sides, between any two steps.
 use Rattle.std.specs.Prelude.{◌≡◌, ℕ, ◌+◌, ◌*◌, ◌%◌, ◌<◌, List, [], length, slice_index, All, IfSome}
 use Rattle.area_layout.specs.Layout.{Shape, LiesIn}
-use Rattle.board_face.specs.AppEvents.{begin_place}
-use Rattle.board_face.specs.AppCalls.{HasSpare}
-use Rattle.board_face.specs.Holders.{sent_to}
-use Rattle.board_face.specs.Shown.{AreShown}
-use Rattle.board_face.specs.Relay.{IsAsSent}
-use Rattle.board_face.specs.declared.views.parts.Setting.{Setting}
-use Rattle.board_face.specs.declared.views.parts.Filling.{Filling}
-use Rattle.board_face.specs.declared.views.parts.Making.{Making}
-use Rattle.board_face.specs.declared.views.nic.NicSide.{NicSide}
-use Rattle.board_face.specs.declared.views.app.AppSide.{AppSide}
-use Rattle.ref_words.specs.Words.{Words}
-use Rattle.ref_words.specs.Area.{area_word, byte_in}
+use Rattle.board_face.specs.{AppEvents.{begin_place}, AppCalls.{HasSpare}, Holders.{sent_to}, Shown.{AreShown}, Relay.{IsAsSent}}
+use Rattle.board_face.specs.declared.views.{parts.{Setting.{Setting}, Filling.{Filling}, Making.{Making}}, nic.NicSide.{NicSide}, app.AppSide.{AppSide}}
+use Rattle.ref_words.specs.{Words.{Words}, Area.{area_word, byte_in}}
 
 -- A text in the making begins with a word and lies in one buffer. The words of it that were stored so far stand in the area, and there
 -- are more to come.

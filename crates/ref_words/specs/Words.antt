@@ -1,17 +1,10 @@
 -- The words of a board that threads share, group by group, and how they lie in one table. Counts, bits and slots are those of
 -- docs/BOARDS.md; each group is a list, so that a store in one group leaves the others as they are.
-use Rattle.std.specs.Prelude.{◌≡◌, ℕ, zero, suc, ◌+◌, ◌-◌, ◌*◌, ◌/◌, ◌%◌, ◌^◌, ◌<◌}
-use Rattle.std.specs.Prelude.{◌≤◌, Bool, List, [], ◌∷◌}
-use Rattle.std.specs.Prelude.{◌++◌, length, min, replicate, slice_index}
-use Rattle.std.specs.Prelude.{slice_index_or, slice_set, ◌==◌, All}
-use Rattle.std.specs.List.{flat_map}
-use Rattle.std.specs.Prelude.{bit_and, bit_or}
-use Rattle.std.specs.Int.{bit_at, bit_not, w64}
+use Rattle.std.specs.Prelude.{◌≡◌, ℕ, zero, suc, ◌+◌, ◌-◌, ◌*◌, ◌/◌, ◌%◌, ◌^◌, ◌<◌, ◌≤◌, Bool, List, [], ◌∷◌, ◌++◌, length, min, replicate, slice_index}
+use Rattle.std.specs.{Prelude.{slice_index_or, slice_set, ◌==◌, All, bit_and, bit_or}, List.{flat_map}, Int.{bit_at, bit_not, w64}}
 use Rattle.area_layout.specs.Layout.{IsLayout, pool_buffers, total, area_words}
 use Rattle.word_rings.specs.Slots.{note_width, refill_width}
-use Rattle.board_face.specs.NicCalls.{apps_of, free_words_of}
-use Rattle.board_face.specs.NicEvents.{word_bits}
-use Rattle.board_face.specs.declared.views.parts.Setting.{Setting}
+use Rattle.board_face.specs.{NicCalls.{apps_of, free_words_of}, NicEvents.{word_bits}, declared.views.parts.Setting.{Setting}}
 
 pub record Words : Type 0 where
   -- 1 where a role was taken: the card's, then the applications'

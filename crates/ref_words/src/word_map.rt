@@ -1,9 +1,7 @@
 ghost use Rattle.std.specs.Prelude.{◌≡◌, ◌+◌, ◌<◌, ◌≤◌};
 ghost use Rattle.area_layout.specs.Layout.{IsLayout, total, area_words, size_of, first_word};
 ghost use Rattle.board_face.specs.NicCalls.{apps_of, free_words_of};
-ghost use Rattle.ref_words.specs.Words.{roles_of, table_words, role_at, phase_at, pool_at, user_at, free_at, area_at};
-ghost use Rattle.ref_words.specs.Words.{note_at, refill_at};
-ghost use Rattle.ref_words.specs.Area.{area_word};
+ghost use Rattle.ref_words.specs.{Words.{roles_of, table_words, role_at, phase_at, pool_at, user_at, free_at, area_at, note_at, refill_at}, Area.{area_word}};
 ghost use Rattle.word_rings.specs.Slots.{note_width, refill_width};
 
 use area_layout::Layout;

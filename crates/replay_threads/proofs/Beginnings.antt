@@ -1,16 +1,10 @@
 -- An application that has taken no turn: its part of the run begins.
 use Rattle.std.proofs.Common.{◌≡◌, ℕ, List, Option, ap, subst}
-use Rattle.board_face.specs.Opened.{new_app}
-use Rattle.board_face.specs.declared.views.app.AppSide.{AppSide}
-use Rattle.board_face.specs.declared.views.parts.Setting.{Setting}
-use Rattle.card_feed.specs.Plan.{TakesTurns, how_of}
-use Rattle.card_feed.specs.declared.plan.Plan.{Plan}
-use Rattle.run_account.specs.Running.{IsNew, WorkerRuns}
-use Rattle.run_account.proofs.Leaving.{behaves-so}
-use Rattle.run_account.proofs.NewWorkers.{new-fits, new-runs}
-use Rattle.replay_threads.specs.declared.seated.Turning.{Turning}
+use Rattle.board_face.specs.{Opened.{new_app}, declared.views.{app.AppSide.{AppSide}, parts.Setting.{Setting}}}
+use Rattle.card_feed.specs.{Plan.{TakesTurns, how_of}, declared.plan.Plan.{Plan}}
+use Rattle.run_account.{specs.Running.{IsNew, WorkerRuns}, proofs.{Leaving.{behaves-so}, NewWorkers.{new-fits, new-runs}}}
+use Rattle.replay_threads.specs.{declared.seated.Turning.{Turning}, Seated.{Begins}}
 use Rattle.replay_threads.specs.declared.seated.Seated.TheVariants as seated
-use Rattle.replay_threads.specs.Seated.{Begins}
 
 module _ {T : Type 0} (kept : T → ℕ → Option (List ℕ)) (losses : T → ℕ) where
   pub turning-begins : (plan : Plan) (setting : Setting) (a : ℕ) (own : Turning T) → own.seat.side ≡ new_app setting a

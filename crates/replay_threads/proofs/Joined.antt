@@ -1,35 +1,20 @@
 -- What the reading made and what the card was sent, together: the frames that the card stands by were read, and how that ended.
-use Rattle.std.proofs.Common.{◌≡◌, ◌≢◌, ◌⊎◌, ⊎_elim, inl, inr, ℕ, ◌<◌, ◌≤◌, List, [], ◌∷◌, ◌++◌, length, Bool, true, false, Option, Some}
-use Rattle.std.proofs.Common.{None, append-nil}
-use Rattle.std.proofs.Common.{refl, sym, ap, subst, ◌∙◌, length-append, arith, ◌||◌, if◌then◌else◌, ◌==◌}
-use Rattle.std.proofs.lemmas.Bool.{true≢false}
-use Rattle.zr_kinds.specs.declared.fault.Fault.{Fault}
-use Rattle.zr_kinds.specs.declared.fault.Fault.TheVariants.{Memory, Usage, NotPcap, Version, LinkType, Cut, LongRecord, Read, Write, TooManyFlows}
-use Rattle.zr_kinds.specs.declared.fault.Fault.TheVariants.{TooManyFrames, BadBlock, BadRun}
-use Rattle.flow_table.specs.Flows.{Flow, flows_of, number_of_flow}
-use Rattle.flow_table.specs.Steered.{SteeredTcp}
-use Rattle.frames_read.specs.Ending.{ending_at, flow_ending, steered_in, steered_next}
-use Rattle.frames_read.specs.Reading.{EndsAt, HasEnded}
-use Rattle.frames_read.proofs.Framing.{ending-flow}
+use Rattle.std.proofs.Common.{◌≡◌, ◌≢◌, ◌⊎◌, ⊎_elim, inl, inr, ℕ, ◌<◌, ◌≤◌, List, [], ◌∷◌, ◌++◌, length, Bool, true, false, Option, Some, None, append-nil}
+use Rattle.std.proofs.{Common.{refl, sym, ap, subst, ◌∙◌, length-append, arith, ◌||◌, if◌then◌else◌, ◌==◌}, lemmas.Bool.{true≢false}}
 use Rattle.std.specs.Prelude.{All, option_to_list}
-use Rattle.zr_kinds.specs.Limits.{most_records}
+use Rattle.zr_kinds.specs.declared.fault.Fault.{Fault, TheVariants.{Memory, Usage, NotPcap, Version, LinkType, Cut, LongRecord, Read, Write, TooManyFlows}}
+use Rattle.zr_kinds.specs.{declared.fault.Fault.TheVariants.{TooManyFrames, BadBlock, BadRun}, Limits.{most_records}}
+use Rattle.flow_table.specs.{Flows.{Flow, flows_of, number_of_flow}, Steered.{SteeredTcp}}
+use Rattle.frames_read.{specs.{Ending.{ending_at, flow_ending, steered_in, steered_next}, Reading.{EndsAt, HasEnded}}, proofs.Framing.{ending-flow}}
 use Rattle.board_face.specs.declared.views.nic.NicView.{NicView}
-use Rattle.card_feed.specs.Coming.{Arrives, ComesTo, TookBytes, is_over}
-use Rattle.card_feed.specs.Feed.{FeedState, FeedStands, end_of}
-use Rattle.card_feed.specs.Offered.{WantsRoom}
-use Rattle.card_feed.specs.declared.arrived.Arrived.TheVariants as arrived
-use Rattle.card_feed.specs.declared.intake.Stage.{Stage}
-use Rattle.card_feed.specs.declared.intake.Stage.TheVariants as stage
-use Rattle.run_account.specs.Ran.{HasReadOn}
-use Rattle.run_account.proofs.ReadOn.{HasReadOn-refl}
+use Rattle.card_feed.specs.{Coming.{Arrives, ComesTo, TookBytes, is_over}, Feed.{FeedState, FeedStands, end_of}, Offered.{WantsRoom}, declared.intake.Stage.{Stage}}
 use Rattle.card_feed.proofs.Further.{took-then}
-use Rattle.replay_threads.specs.declared.carried.Carried.{Carried}
+use Rattle.card_feed.specs.declared.arrived.Arrived.TheVariants as arrived
+use Rattle.card_feed.specs.declared.intake.Stage.TheVariants as stage
+use Rattle.run_account.{specs.Ran.{HasReadOn}, proofs.ReadOn.{HasReadOn-refl}}
+use Rattle.replay_threads.specs.{declared.carried.Carried.{Carried}, Carried.{MayFollow, arrived_of, has_end, is_end}, Made.{IsMade}}
+use Rattle.replay_threads.{specs.Cards.{IsFrame, Brought, nothing, frame, ends, over, dropped, CardStands}, proofs.{CardTurns.{drop-brought}, ReaderTurns.{made-last}}}
 use Rattle.replay_threads.specs.declared.carried.Carried.TheVariants as carried
-use Rattle.replay_threads.specs.Carried.{MayFollow, arrived_of, has_end, is_end}
-use Rattle.replay_threads.specs.Made.{IsMade}
-use Rattle.replay_threads.specs.Cards.{IsFrame, Brought, nothing, frame, ends, over, dropped, CardStands}
-use Rattle.replay_threads.proofs.CardTurns.{drop-brought}
-use Rattle.replay_threads.proofs.ReaderTurns.{made-last}
 
 -- ---- which endings are the card's
 

@@ -1,8 +1,6 @@
 -- What sits in lanes goes on: turns come behind turns.
-use Rattle.std.proofs.Common.{ℕ, List, Option, refl, ◌∙◌, arith}
-use Rattle.std.specs.Prelude.{All, slice_index_or}
-use Rattle.replay_threads.specs.declared.lane.Lane.{Lane}
-use Rattle.replay_threads.specs.Lanes.{AllGo, LanesFit, LanesGo}
+use Rattle.std.{proofs.Common.{ℕ, List, Option, refl, ◌∙◌, arith}, specs.Prelude.{All, slice_index_or}}
+use Rattle.replay_threads.specs.{declared.lane.Lane.{Lane}, Lanes.{AllGo, LanesFit, LanesGo}}
 
 pub all_same : {W : Type 0} {fits : W → Type 0} {goes : W → W → Type 0} → ((x : W) → fits x → goes x x) → (lanes : List W) → All fits lanes
     → AllGo goes lanes lanes

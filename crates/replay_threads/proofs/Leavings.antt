@@ -1,15 +1,12 @@
 -- What an application leaves, by whatever it took its turns.
-use Rattle.std.proofs.Common.{◌≡◌, ℕ, true, List, Option, Some, None}
-use Rattle.std.specs.Option.{is_some}
+use Rattle.std.{proofs.Common.{◌≡◌, ℕ, true, List, Option, Some, None}, specs.Option.{is_some}}
 use Rattle.zr_kinds.specs.declared.behaviour.Behaviour.{Behaviour}
 use Rattle.board_face.specs.declared.views.app.AppView.{AppView}
-use Rattle.flow_queues.specs.Ends.{AppEnd, HasLeft}
-use Rattle.flow_queues.specs.Returned.{HasReturned}
+use Rattle.flow_queues.specs.{Ends.{AppEnd, HasLeft}, Returned.{HasReturned}}
 use Rattle.zc_poll.specs.declared.to_shelf.Poured.{Poured}
 use Rattle.card_feed.specs.Plan.{plain_behaviour}
 use Rattle.run_account.proofs.Leaving.{has-left, has-returned}
-use Rattle.replay_threads.specs.declared.seated.Seated.{Seated}
-use Rattle.replay_threads.specs.declared.seated.Seated.TheVariants.{Turning, Pouring, Forwarding}
+use Rattle.replay_threads.specs.declared.seated.Seated.{Seated, TheVariants.{Turning, Pouring, Forwarding}}
 use Rattle.replay_threads.specs.Seated.{Fits, ForwardsSince, PoursSince, Runs, RunsOn, StandsOn, end_of, is_gone, poured_end, seat_of, shelf_of}
 
 poured-gone : (Since : (ℕ → Option (List ℕ)) → ℕ → Type 0) (v : AppView) (found : Option Poured) → StandsOn Since v found → is_some found ≡ true

@@ -2,15 +2,11 @@
 use Rattle.std.proofs.Common.{◌≡◌, ℕ, List, Option, Some, None, refl, sym, subst}
 use Rattle.zr_kinds.specs.declared.behaviour.Behaviour.{Behaviour}
 use Rattle.board_face.specs.declared.views.app.AppView.{AppView}
-use Rattle.flow_queues.specs.Ends.{HasLeft}
-use Rattle.flow_queues.specs.Returned.{HasReturned}
-use Rattle.zc_poll.specs.PourTurns.{pour_end}
-use Rattle.zc_poll.specs.declared.to_shelf.Poured.{Poured}
+use Rattle.flow_queues.specs.{Ends.{HasLeft}, Returned.{HasReturned}}
+use Rattle.zc_poll.specs.{PourTurns.{pour_end}, declared.to_shelf.Poured.{Poured}}
 use Rattle.card_feed.specs.Plan.{plain_behaviour}
-use Rattle.replay_threads.specs.declared.seated.Forwarding.{Forwarding}
-use Rattle.replay_threads.specs.declared.seated.Pouring.{Pouring}
+use Rattle.replay_threads.specs.{declared.seated.{Forwarding.{Forwarding}, Pouring.{Pouring}}, Seated.{ForwardsSince, SeatedGoes, PoursSince, RunsOn, StandsOn}}
 use Rattle.replay_threads.specs.declared.seated.Seated.TheVariants as seated
-use Rattle.replay_threads.specs.Seated.{ForwardsSince, SeatedGoes, PoursSince, RunsOn, StandsOn}
 
 -- what stood since a beginning
 pub stood : (Stands : (ℕ → Option (List ℕ)) → ℕ → Type 0) (v : AppView) (poured : Option Poured) → poured ≡ None → StandsOn Stands v poured

@@ -1,19 +1,12 @@
 -- The reading goes on: messages are made behind messages, and turns come behind turns.
 use Rattle.std.proofs.Common.{◌≡◌, ℕ, suc, ◌+◌, ◌≤◌, List, [], ◌∷◌, ◌++◌, length, Option, Some, Vec, Global}
 use Rattle.std.proofs.Common.{refl, sym, ap, subst, ◌∙◌, append_assoc, append-nil, length-append, arith}
-use Rattle.zr_kinds.specs.Limits.{most_records}
-use Rattle.zr_kinds.specs.declared.fault.Fault.TheVariants.{TooManyFrames}
+use Rattle.zr_kinds.specs.{Limits.{most_records}, declared.fault.Fault.TheVariants.{TooManyFrames}}
 use Rattle.pcap_reader.specs.declared.capture.Record.{Record}
 use Rattle.frames_read.proofs.Framing.{ending-limit}
-use Rattle.card_feed.specs.declared.intake.Stage.{Stage}
-use Rattle.card_feed.specs.declared.arrived.Arrived.TheVariants.{Frame}
-use Rattle.card_feed.specs.Coming.{ComesTo, Arrives, TookBytes}
-use Rattle.card_feed.specs.Offered.{WantsRoom}
+use Rattle.card_feed.specs.{declared.{intake.Stage.{Stage}, arrived.Arrived.TheVariants.{Frame}}, Coming.{ComesTo, Arrives, TookBytes}, Offered.{WantsRoom}}
 use Rattle.card_feed.proofs.Further.{took-same, took-then}
-use Rattle.replay_threads.specs.declared.carried.Carried.{Carried}
-use Rattle.replay_threads.specs.declared.carried.Carried.TheVariants.{Over}
-use Rattle.replay_threads.specs.declared.reader.Reader.{Reader}
-use Rattle.replay_threads.specs.Made.{MakesMessage, IsMade}
+use Rattle.replay_threads.specs.{declared.{carried.Carried.{Carried, TheVariants.{Over}}, reader.Reader.{Reader}}, Made.{MakesMessage, IsMade}}
 use Rattle.replay_threads.specs.Reader.{messages_of, ReaderGoes}
 
 module _ {S : Type 0} (left : S → Option (List ℕ)) (faults : S → ℕ) where

@@ -1,6 +1,5 @@
 -- Lists that are taken from the end: the last goes first.
-use Rattle.std.proofs.Common.{◌≡◌, List, [], ◌∷◌, ◌++◌, length, map, refl, sym, ap, ◌∙◌, append-nil, arith}
-use Rattle.std.specs.Prelude.{reverse}
+use Rattle.std.{proofs.Common.{◌≡◌, List, [], ◌∷◌, ◌++◌, length, map, refl, sym, ap, ◌∙◌, append-nil, arith}, specs.Prelude.{reverse}}
 use Rattle.std.proofs.lemmas.List.{reverse-append, reverse-reverse}
 
 pub reverse-last : {A : Type 0} (xs : List A) (x : A) → reverse (xs ++ x ∷ []) ≡ x ∷ reverse xs

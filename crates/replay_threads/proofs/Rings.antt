@@ -1,10 +1,6 @@
 -- The two ends of a ring stay its ends.
 use Rattle.std.proofs.Common.{refl, sym, ◌∙◌}
-use Rattle.rtrb.specs.Ends.{SameRing}
-use Rattle.rtrb.specs.Ring.{IsPair, SameProducer, SameConsumer}
-use Rattle.rtrb.specs.declared.end.End.{End}
-use Rattle.rtrb.specs.declared.producer.Producer.{Producer}
-use Rattle.rtrb.specs.declared.consumer.Consumer.{Consumer}
+use Rattle.rtrb.specs.{Ends.{SameRing}, Ring.{IsPair, SameProducer, SameConsumer}, declared.{end.End.{End}, producer.Producer.{Producer}, consumer.Consumer.{Consumer}}}
 
 module _ {T A P : Type 0} where
   ring-then : (a b c : End T A P) → SameRing a b → SameRing b c → SameRing a c

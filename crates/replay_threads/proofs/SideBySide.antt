@@ -1,18 +1,12 @@
 -- The lanes at the opening and at the end, side by side in the order of their applications.
 use Rattle.std.proofs.Common.{◌≡◌, ℕ, zero, suc, ◌+◌, ◌-◌, ◌<◌, true, List, [], ◌∷◌, ◌++◌, length, map, take, drop, Option, Some, refl, sym, ap, ◌∙◌, subst, arith}
-use Rattle.std.specs.Prelude.{All, Contains, reverse, slice_index_or, ⊤}
-use Rattle.std.specs.List.{slice_get}
-use Rattle.std.proofs.lemmas.List.{append-nil, drop_all, get_or-reverse, length-reverse, reverse-reverse, take_all}
-use Rattle.std.proofs.lemmas.List.Elements.{All-nil, All-cons}
+use Rattle.std.specs.{Prelude.{All, Contains, reverse, slice_index_or, ⊤}, List.{slice_get}}
+use Rattle.std.proofs.lemmas.List.{append-nil, drop_all, get_or-reverse, length-reverse, reverse-reverse, take_all, Elements.{All-nil, All-cons}}
 use Rattle.zr_kinds.specs.declared.behaviour.Behaviour.{Behaviour}
-use Rattle.board_face.specs.Opened.{new_app}
-use Rattle.board_face.specs.Sides.{AreNumbered, side_in}
-use Rattle.board_face.specs.declared.views.app.AppSide.{AppSide}
+use Rattle.board_face.specs.{Opened.{new_app}, Sides.{AreNumbered, side_in}, declared.views.app.AppSide.{AppSide}}
 use Rattle.flow_queues.specs.Ends.{AppEnd}
 use Rattle.word_board.specs.Board.{TheBoard}
-use Rattle.replay_threads.specs.declared.lane.Lane.{Lane}
-use Rattle.replay_threads.specs.Lanes.{LanesGo, LanesFit, AreAtOpening}
-use Rattle.replay_threads.specs.Seated.{Begins, SeatedGoes, end_of, is_gone, seat_of, shelf_of}
+use Rattle.replay_threads.specs.{declared.lane.Lane.{Lane}, Lanes.{LanesGo, LanesFit, AreAtOpening}, Seated.{Begins, SeatedGoes, end_of, is_gone, seat_of, shelf_of}}
 use Rattle.replay_threads.proofs.Leavings.{gone-left}
 
 -- ---- lists

@@ -1,10 +1,7 @@
 -- What the applications begin with, the last first.
-use Rattle.std.proofs.Common.{◌≡◌, ℕ, List, [], ◌∷◌, ◌++◌, length, Some, refl, sym, ap, ◌∙◌, subst}
-use Rattle.std.specs.List.{slice_get}
+use Rattle.std.{proofs.Common.{◌≡◌, ℕ, List, [], ◌∷◌, ◌++◌, length, Some, refl, sym, ap, ◌∙◌, subst}, specs.List.{slice_get}}
 use Rattle.card_feed.specs.declared.plan.Plan.{Plan}
-use Rattle.replay_threads.specs.declared.seated.Start.{Start}
-use Rattle.replay_threads.specs.Seated.{IsStart}
-use Rattle.replay_threads.proofs.SideBySide.{get-front}
+use Rattle.replay_threads.{specs.{declared.seated.Start.{Start}, Seated.{IsStart}}, proofs.SideBySide.{get-front}}
 
 -- those of the first applications
 abbrev pub AreStartsSoFar : Plan → List Start → Type 0

@@ -1,13 +1,8 @@
 -- What is told of a run that was played, with the shelves that were set aside behind those of its applications.
-use Rattle.std.proofs.Common.{◌≡◌, ℕ, List, ◌++◌, Option, inr, sym, subst}
-use Rattle.std.specs.Prelude.{Result, Ok, Err, OnErr}
+use Rattle.std.{proofs.Common.{◌≡◌, ℕ, List, ◌++◌, Option, inr, sym, subst}, specs.Prelude.{Result, Ok, Err, OnErr}}
 use Rattle.flow_queues.specs.Ends.{AppEnd}
-use Rattle.card_feed.specs.Feed.{FeedState}
-use Rattle.card_feed.specs.declared.outcome.Outcome.{Outcome}
-use Rattle.card_feed.specs.declared.plan.Plan.{Plan}
-use Rattle.run_account.specs.Laws.{RunsAreTold, RunsEndWell}
-use Rattle.run_account.specs.Ran.{HasReadOn, LacksMemoryBeside, Ran, TellsOfEnds, told_of}
-use Rattle.run_account.specs.Running.{HasRun}
+use Rattle.card_feed.specs.{Feed.{FeedState}, declared.{outcome.Outcome.{Outcome}, plan.Plan.{Plan}}}
+use Rattle.run_account.specs.{Laws.{RunsAreTold, RunsEndWell}, Ran.{HasReadOn, LacksMemoryBeside, Ran, TellsOfEnds, told_of}, Running.{HasRun}}
 use Rattle.word_board.specs.Board.{TheDesk, card_of}
 use Rattle.replay_threads.specs.Played.{HasPlayed}
 

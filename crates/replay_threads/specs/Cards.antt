@@ -2,21 +2,14 @@
 use Rattle.std.specs.Prelude.{◌≡◌, ◌≢◌, ◌⊎◌, ℕ, ◌<◌, true, List, [], ◌∷◌, ◌++◌, length, All, Option, Some, None}
 use Rattle.zr_kinds.specs.declared.fault.Fault.{Fault}
 use Rattle.board_face.specs.declared.views.nic.NicView.{NicView}
-use Rattle.frames_read.specs.Ending.{ending_at}
-use Rattle.frames_read.specs.Reading.{EndsAt}
-use Rattle.card_feed.specs.Coming.{is_over}
-use Rattle.card_feed.specs.Feed.{FeedState, IsReady, FeedKnows}
-use Rattle.card_feed.specs.Offered.{WantsRoom}
-use Rattle.card_feed.specs.declared.arrived.Arrived.{Arrived}
+use Rattle.frames_read.specs.{Ending.{ending_at}, Reading.{EndsAt}}
+use Rattle.card_feed.specs.{Coming.{is_over}, Feed.{FeedState, IsReady, FeedKnows}, Offered.{WantsRoom}, declared.{arrived.Arrived.{Arrived}, intake.Stage.{Stage}}}
 use Rattle.card_feed.specs.declared.arrived.Arrived.TheVariants as arrived
-use Rattle.card_feed.specs.declared.intake.Stage.{Stage}
 use Rattle.card_feed.specs.declared.intake.Stage.TheVariants as stage
 use Rattle.page_pool.specs.Pool.{pending_count}
 use Rattle.rtrb.specs.Ring.{received, SameConsumer}
-use Rattle.replay_threads.specs.Carried.{MayFollow, arrived_of}
-use Rattle.replay_threads.specs.declared.carried.Carried.{Carried}
+use Rattle.replay_threads.specs.{Carried.{MayFollow, arrived_of}, declared.{carried.Carried.{Carried}, card.CardLane.{CardLane}}}
 use Rattle.replay_threads.specs.declared.carried.Carried.TheVariants as carried
-use Rattle.replay_threads.specs.declared.card.CardLane.{CardLane}
 
 -- It looked whether applications have left, and nothing else changed.
 pub record CardLooks (was now : CardLane) : Type 0 where

@@ -1,11 +1,9 @@
 -- What goes from the reading to the card.
-use Rattle.std.specs.Prelude.{◌≡◌, ℕ, ◌+◌, ◌≤◌, Bool, true, false, List, length}
-use Rattle.std.specs.List.{list_any}
+use Rattle.std.specs.{Prelude.{◌≡◌, ℕ, ◌+◌, ◌≤◌, Bool, true, false, List, length}, List.{list_any}}
 use Rattle.zr_kinds.specs.Limits.{longest_record, most_records}
 use Rattle.card_feed.specs.declared.arrived.Arrived.{Arrived}
 use Rattle.card_feed.specs.declared.arrived.Arrived.TheVariants as arrived
-use Rattle.replay_threads.specs.declared.carried.Carried.{Carried}
-use Rattle.replay_threads.specs.declared.carried.Carried.TheVariants.{Frame, Over}
+use Rattle.replay_threads.specs.declared.carried.Carried.{Carried, TheVariants.{Frame, Over}}
 
 -- the reading ended
 abbrev pub is_end : Carried → Bool

@@ -2,8 +2,7 @@
 use Rattle.std.specs.Prelude.{◌≡◌, ℕ, suc, ◌<◌, List, [], ◌∷◌, length, slice_index_or, All, Option, ⊤}
 use Rattle.board_face.specs.Opened.{new_app}
 use Rattle.word_board.specs.Board.{TheBoard}
-use Rattle.replay_threads.specs.Seated.{Fits, SeatedGoes, seat_of}
-use Rattle.replay_threads.specs.declared.lane.Lane.{Lane}
+use Rattle.replay_threads.specs.{Seated.{Fits, SeatedGoes, seat_of}, declared.lane.Lane.{Lane}}
 
 -- ---- turns
 

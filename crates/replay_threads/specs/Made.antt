@@ -1,10 +1,7 @@
 -- How the reading of a source made its messages.
 use Rattle.std.specs.Prelude.{◌≡◌, ℕ, suc, ◌≤◌, List, [], ◌∷◌, length, Option}
-use Rattle.card_feed.specs.declared.intake.Stage.{Stage}
-use Rattle.card_feed.specs.Coming.{ComesTo, Arrives, TookBytes}
-use Rattle.card_feed.specs.Offered.{WantsRoom}
-use Rattle.replay_threads.specs.declared.carried.Carried.{Carried}
-use Rattle.replay_threads.specs.Carried.{arrived_of}
+use Rattle.card_feed.specs.{declared.intake.Stage.{Stage}, Coming.{ComesTo, Arrives, TookBytes}, Offered.{WantsRoom}}
+use Rattle.replay_threads.specs.{declared.carried.Carried.{Carried}, Carried.{arrived_of}}
 
 -- One step of the reading made this message: it brings what came behind any frames, so many, to which the reading had come.
 pub record MakesMessage {S : Type 0} (left : S → Option (List ℕ)) (faults : S → ℕ) (count : ℕ) (from : S) (from_stage : Stage) (message : Carried)

@@ -2,12 +2,9 @@
 use Rattle.std.specs.Prelude.{ℕ, List, ◌++◌, Option}
 use Rattle.board_face.specs.Ended.{HaveEnded}
 use Rattle.flow_queues.specs.Ends.{AppEnd}
-use Rattle.card_feed.specs.Feed.{FeedState, end_of}
-use Rattle.card_feed.specs.declared.plan.Plan.{Plan}
-use Rattle.run_account.specs.Ran.{HasReadOn}
-use Rattle.run_account.specs.Running.{HasRun}
-use Rattle.word_board.specs.Board.{TheDesk, card_of}
-use Rattle.word_board.specs.Desk.{AllAreBack}
+use Rattle.card_feed.specs.{Feed.{FeedState, end_of}, declared.plan.Plan.{Plan}}
+use Rattle.run_account.specs.{Ran.{HasReadOn}, Running.{HasRun}}
+use Rattle.word_board.specs.{Board.{TheDesk, card_of}, Desk.{AllAreBack}}
 
 -- All is over and back at the desk, and the plan was run to there: this is what the card keeps and the applications left with, whatever
 -- shelves stand behind those of the applications.

@@ -3,10 +3,7 @@ use Rattle.std.specs.Prelude.{◌≡◌, ℕ, true, List, [], ◌++◌, length, 
 use Rattle.rtrb.specs.Ring.{IsPair, received, sent, SameProducer}
 use Rattle.card_feed.specs.Coming.{is_over}
 use Rattle.card_feed.specs.declared.intake.Stage.TheVariants as stage
-use Rattle.replay_threads.specs.declared.carried.Carried.{Carried}
-use Rattle.replay_threads.specs.declared.reader.Reader.{Reader}
-use Rattle.replay_threads.specs.declared.reading.Opened.{Opened}
-use Rattle.replay_threads.specs.Made.{IsMade}
+use Rattle.replay_threads.specs.{declared.{carried.Carried.{Carried}, reader.Reader.{Reader}, reading.Opened.{Opened}}, Made.{IsMade}}
 
 -- all messages that it made: those that were sent, and the one that is held
 abbrev pub messages_of : Reader → List Carried

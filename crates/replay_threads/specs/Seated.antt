@@ -1,27 +1,16 @@
 -- What sits in the lanes of the applications, and how it goes on there.
-use Rattle.std.specs.Prelude.{◌≡◌, ℕ, ◌≤◌, Bool, true, List, [], length, Option, Some, None}
-use Rattle.std.specs.List.{slice_get}
-use Rattle.std.specs.Option.{is_some}
+use Rattle.std.specs.{Prelude.{◌≡◌, ℕ, ◌≤◌, Bool, true, List, [], length, Option, Some, None}, List.{slice_get}, Option.{is_some}}
 use Rattle.zr_kinds.specs.declared.behaviour.Behaviour.{Behaviour}
 use Rattle.zr_kinds.specs.declared.behaviour.Stopped.TheVariants as stop
 use Rattle.board_face.specs.declared.views.app.AppView.{AppView}
-use Rattle.flow_queues.specs.Ends.{AppEnd, HasLeft}
-use Rattle.flow_queues.specs.Returned.{HasReturned}
+use Rattle.flow_queues.specs.{Ends.{AppEnd, HasLeft}, Returned.{HasReturned}}
 use Rattle.app_worker.specs.StateOf.{end_of as worker_end}
-use Rattle.zc_forward.specs.Carriage.{Carriage}
-use Rattle.zc_forward.specs.Forwarding.{ForwardStands}
-use Rattle.zc_forward.specs.Turns.{ForwardView}
-use Rattle.zc_poll.specs.Pouring.{PourStands}
-use Rattle.zc_poll.specs.PourTurns.{PourView, pour_end}
-use Rattle.zc_poll.specs.declared.to_shelf.Poured.{Poured}
-use Rattle.card_feed.specs.Plan.{TakesTurns, how_of, plain_behaviour}
-use Rattle.card_feed.specs.declared.plan.Plan.{Plan}
+use Rattle.zc_forward.specs.{Carriage.{Carriage}, Forwarding.{ForwardStands}, Turns.{ForwardView}}
+use Rattle.zc_poll.specs.{Pouring.{PourStands}, PourTurns.{PourView, pour_end}, declared.to_shelf.Poured.{Poured}}
+use Rattle.card_feed.specs.{Plan.{TakesTurns, how_of, plain_behaviour}, declared.plan.Plan.{Plan}}
 use Rattle.run_account.specs.Running.{IsNew, WorkerFits, WorkerRuns}
 use Rattle.word_board.specs.Board.{TheApp}
-use Rattle.replay_threads.specs.declared.seated.Left.{Left}
-use Rattle.replay_threads.specs.declared.seated.Left.TheVariants.{Turned, Poured as poured_out}
-use Rattle.replay_threads.specs.declared.seated.Seated.{Seated}
-use Rattle.replay_threads.specs.declared.seated.Seated.TheVariants.{Turning, Pouring, Forwarding}
+use Rattle.replay_threads.specs.declared.seated.{Left.{Left, TheVariants.{Turned, Poured as poured_out}}, Seated.{Seated, TheVariants.{Turning, Pouring, Forwarding}}}
 use Rattle.replay_threads.specs.declared.seated.Start.{Start}
 use Rattle.replay_threads.specs.declared.seated.Start.TheVariants as start
 

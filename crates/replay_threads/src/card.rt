@@ -1,8 +1,6 @@
 //! The card at its seat: its turns, and the loop of its thread.
 ghost use Rattle.std.specs.Prelude.{◌≡◌, ◌≤◌, ◌⊎◌, [], true, None, IfSome, MatchBool};
-ghost use Rattle.card_feed.specs.Feed.{IsReady, WantsRecord};
-ghost use Rattle.card_feed.specs.declared.arrived.Arrived.TheVariants.{Nothing};
-ghost use Rattle.card_feed.specs.Turns.{MayArrive};
+ghost use Rattle.card_feed.specs.{Feed.{IsReady, WantsRecord}, declared.arrived.Arrived.TheVariants.{Nothing}, Turns.{MayArrive}};
 ghost use Rattle.rtrb.specs.Ring.{known_items};
 ghost use Rattle.replay_threads.specs.Cards.{CardGoes, CardLooks, CardTakes, Waits};
 

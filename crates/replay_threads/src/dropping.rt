@@ -1,10 +1,8 @@
 //! What was sent and not taken.
 ghost use Rattle.std.specs.Prelude.{◌≡◌, ◌+◌, ◌<◌, true, ◌++◌, length};
 ghost use Rattle.rtrb.specs.Ring.{IsPair, known_items, received, sent};
-ghost use Rattle.card_feed.specs.Coming.{is_over};
-ghost use Rattle.card_feed.specs.Feed.{IsReady};
-ghost use Rattle.replay_threads.specs.Cards.{CardDrops, CardGoes};
-ghost use Rattle.replay_threads.specs.Reader.{messages_of};
+ghost use Rattle.card_feed.specs.{Coming.{is_over}, Feed.{IsReady}};
+ghost use Rattle.replay_threads.specs.{Cards.{CardDrops, CardGoes}, Reader.{messages_of}};
 
 use crate::card::CardLane;
 use crate::reader::Reader;

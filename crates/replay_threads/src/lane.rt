@@ -1,8 +1,6 @@
 //! The lanes of the applications: their turns, and the loops of their threads.
-ghost use Rattle.std.specs.Prelude.{◌≡◌, List, refl, true, All, IsTrue};
-ghost use Rattle.std.proofs.Common.{◌∙◌};
-ghost use Rattle.replay_threads.specs.Lanes.{AllGo, LaneFits, LaneGoes};
-ghost use Rattle.replay_threads.specs.Seated.{is_gone};
+ghost use Rattle.std.{specs.Prelude.{◌≡◌, List, refl, true, All, IsTrue}, proofs.Common.{◌∙◌}};
+ghost use Rattle.replay_threads.specs.{Lanes.{AllGo, LaneFits, LaneGoes}, Seated.{is_gone}};
 
 use crate::beside::{IDLE, Loops, MOST_APPS};
 use crate::gate::Gate;

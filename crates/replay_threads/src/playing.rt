@@ -1,9 +1,7 @@
 //! All turns of a run: the reading and the roles side by side, and rounds for what is left.
 ghost use Rattle.std.specs.Prelude.{◌≡◌, true, All, IsTrue};
 ghost use Rattle.card_feed.specs.Feed.{IsReady};
-ghost use Rattle.replay_threads.specs.Cards.{CardGoes};
-ghost use Rattle.replay_threads.specs.Reader.{ReaderGoes};
-ghost use Rattle.replay_threads.specs.Lanes.{AllGo};
+ghost use Rattle.replay_threads.specs.{Cards.{CardGoes}, Reader.{ReaderGoes}, Lanes.{AllGo}};
 
 use crate::beside::{IDLE, Loops};
 use crate::card::{CardLane, Went, paced_turn, run_card};

@@ -1,10 +1,8 @@
 //! The reading between two of its turns.
-ghost use Rattle.std.specs.Prelude.{◌≡◌, ◌+◌, ◌≤◌, ◌++◌, length, option_to_list};
-ghost use Rattle.std.specs.Option.{ForSome};
+ghost use Rattle.std.specs.{Prelude.{◌≡◌, ◌+◌, ◌≤◌, ◌++◌, length, option_to_list}, Option.{ForSome}};
 ghost use Rattle.zr_kinds.specs.Limits.{most_records};
 ghost use Rattle.rtrb.specs.Ring.{sent};
-ghost use Rattle.card_feed.specs.Coming.{is_over};
-ghost use Rattle.card_feed.specs.Feed.{one_if};
+ghost use Rattle.card_feed.specs.{Coming.{is_over}, Feed.{one_if}};
 ghost use Rattle.replay_threads.specs.Carried.{MayFollow, has_end};
 
 use crate::carried::{Carried, InOrder};

@@ -2,12 +2,8 @@
 ghost use Rattle.std.specs.Prelude.{◌≡◌, ◌+◌, ◌≤◌, false, List, [], ◌∷◌, ◌++◌, length, None, option_to_list, IfOk, IfSome};
 ghost use Rattle.zr_kinds.specs.Limits.{most_records};
 ghost use Rattle.rtrb.specs.Ring.{sent, SameProducer};
-ghost use Rattle.card_feed.specs.Coming.{is_over};
-ghost use Rattle.card_feed.specs.Feed.{one_if};
-ghost use Rattle.replay_threads.specs.Carried.{MayFollow, is_end, has_end};
-ghost use Rattle.replay_threads.specs.Made.{MakesMessage};
-ghost use Rattle.replay_threads.specs.Reader.{IsOpened, ReaderGoes};
-ghost use Rattle.replay_threads.specs.declared.carried.Carried.{Carried};
+ghost use Rattle.card_feed.specs.{Coming.{is_over}, Feed.{one_if}};
+ghost use Rattle.replay_threads.specs.{Carried.{MayFollow, is_end, has_end}, Made.{MakesMessage}, Reader.{IsOpened, ReaderGoes}, declared.carried.Carried.{Carried}};
 
 use crate::beside::{IDLE, Loops};
 use crate::carried::{Carried, InOrder};

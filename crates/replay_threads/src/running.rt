@@ -1,15 +1,10 @@
 //! A whole run.
 ghost use Rattle.std.specs.Prelude.{◌≡◌, ◌+◌, ◌-◌, ◌<◌, ◌≤◌, [], length, map, vec_len, vec_capacity, IfOk, OnErr};
-ghost use Rattle.board_face.specs.NicCalls.{apps_of, IsOpen, HasNoToken};
-ghost use Rattle.board_face.specs.declared.views.nic.NicView.{NicView};
-ghost use Rattle.card_feed.specs.Feed.{IsReady, new_feed};
-ghost use Rattle.card_feed.specs.Plan.{IsPlan, layout_of};
+ghost use Rattle.board_face.specs.{NicCalls.{apps_of, IsOpen, HasNoToken}, declared.views.nic.NicView.{NicView}};
+ghost use Rattle.card_feed.specs.{Feed.{IsReady, new_feed}, Plan.{IsPlan, layout_of}};
 ghost use Rattle.run_account.specs.Ran.{HasReadOn, LacksMemoryBeside, Ran, told_of};
-ghost use Rattle.word_board.specs.Board.{card_of, new_desk};
-ghost use Rattle.word_board.specs.Desk.{AllAreBack};
-ghost use Rattle.replay_threads.specs.Played.{HasPlayed};
-ghost use Rattle.replay_threads.specs.Reader.{IsOpened};
-ghost use Rattle.replay_threads.specs.Seated.{AreStarts, left_end};
+ghost use Rattle.word_board.specs.{Board.{card_of, new_desk}, Desk.{AllAreBack}};
+ghost use Rattle.replay_threads.specs.{Played.{HasPlayed}, Reader.{IsOpened}, Seated.{AreStarts, left_end}};
 
 use crate::card::CardLane;
 use crate::dropping::drop_rest;

@@ -1,8 +1,7 @@
 //! What sits in the lane of an application and takes its turns there.
 ghost use Rattle.std.specs.Prelude.{◌≡◌, true, false, Option, None};
 ghost use Rattle.board_face.specs.Opened.{new_app};
-ghost use Rattle.card_feed.specs.Plan.{how_of};
-ghost use Rattle.card_feed.specs.declared.plan.Plan.{Plan};
+ghost use Rattle.card_feed.specs.{Plan.{how_of}, declared.plan.Plan.{Plan}};
 ghost use Rattle.replay_threads.specs.Seated.{Begins, Fits, SeatedGoes, IsStart, end_of, is_gone, left_end, seat_of, shelf_of};
 
 use app_worker::{Turn, Why, app_turn};

@@ -1,12 +1,9 @@
 //! How the roles come to their seats, and back from there.
 ghost use Rattle.std.specs.Prelude.{◌≡◌, ◌+◌, ◌<◌, ◌≤◌, ℕ, [], map, reverse, true, false, All, vec_len, vec_capacity};
 ghost use Rattle.board_face.specs.NicCalls.{apps_of};
-ghost use Rattle.card_feed.specs.Plan.{how_of};
-ghost use Rattle.card_feed.specs.declared.plan.Plan.{Plan};
-ghost use Rattle.word_board.specs.Board.{was_given};
-ghost use Rattle.word_board.specs.Desk.{AreOfBoard, AreServed};
-ghost use Rattle.replay_threads.specs.Lanes.{AreAtOpening, AreAtBoard};
-ghost use Rattle.replay_threads.specs.Seated.{AreStarts, Begins, end_of, is_gone, left_end, seat_of, shelf_of};
+ghost use Rattle.card_feed.specs.{Plan.{how_of}, declared.plan.Plan.{Plan}};
+ghost use Rattle.word_board.specs.{Board.{was_given}, Desk.{AreOfBoard, AreServed}};
+ghost use Rattle.replay_threads.specs.{Lanes.{AreAtOpening, AreAtBoard}, Seated.{AreStarts, Begins, end_of, is_gone, left_end, seat_of, shelf_of}};
 
 use crate::lane::Lane;
 use crate::seated::{Left, Seated, Start};

@@ -1,27 +1,13 @@
 -- Where nobody can do anything, all are gone.
-use Rattle.std.proofs.Common.{◌≡◌, ℕ, ◌<◌, ◌≤◌, ◌⊎◌, inl, inr, ⊎_elim, true, false, [], length, count_by, refl, sym, ap, subst}
-use Rattle.std.proofs.Common.{◌∙◌, arith, Some}
-use Rattle.std.specs.Prelude.{MatchBool}
-use Rattle.std.specs.List.{slice_get}
-use Rattle.std.proofs.lemmas.Option.{get_or_from_slice_get, slice_get_within}
-use Rattle.board_face.specs.NicCalls.{apps_of}
-use Rattle.board_face.specs.AppEvents.{app_gist}
+use Rattle.std.proofs.Common.{◌≡◌, ℕ, ◌<◌, ◌≤◌, ◌⊎◌, inl, inr, ⊎_elim, true, false, [], length, count_by, refl, sym, ap, subst, ◌∙◌, arith, Some}
+use Rattle.std.{specs.{Prelude.{MatchBool}, List.{slice_get}}, proofs.lemmas.Option.{get_or_from_slice_get, slice_get_within}}
+use Rattle.board_face.specs.{NicCalls.{apps_of}, AppEvents.{app_gist}, Blank.{blank_app}}
 use Rattle.board_face.specs.declared.views.app.AppLook.TheVariants as look
-use Rattle.board_face.specs.Blank.{blank_app}
-use Rattle.plain_board.specs.Board.{Board, side_of, others_of}
-use Rattle.plain_board.specs.Seen.{IsSeenBy}
-use Rattle.plain_board.specs.Returns.{entries_on_way, is_raw}
-use Rattle.app_worker.specs.State.{Bare, Working}
-use Rattle.app_worker.specs.Turns.{Because, look_of}
-use Rattle.app_worker.specs.declared.turn.Why.{Why}
+use Rattle.plain_board.specs.{Board.{Board, side_of, others_of}, Seen.{IsSeenBy}, Returns.{entries_on_way, is_raw}}
+use Rattle.app_worker.specs.{State.{Bare, Working}, Turns.{Because, look_of}, declared.turn.Why.{Why}}
 use Rattle.app_worker.specs.declared.turn.Why.TheVariants.{NoNote, RefillFull, Unsettled, ReserveHeld, NotQuiet}
-use Rattle.run_account.specs.Running.{AreOver}
-use Rattle.replay_turns.specs.Running.{RunFits}
-use Rattle.replay_turns.specs.Stuck.{IsCardStuck, IsKeptBack, StuckRunsAreOver}
-use Rattle.run_account.specs.declared.run.Run.{Run}
-use Rattle.run_account.specs.declared.run.Worker.{Worker}
-use Rattle.replay_turns.proofs.BoardOver.{side-is}
-use Rattle.replay_turns.proofs.Reserve.{not-held}
+use Rattle.run_account.specs.{Running.{AreOver}, declared.run.{Run.{Run}, Worker.{Worker}}}
+use Rattle.replay_turns.{specs.{Running.{RunFits}, Stuck.{IsCardStuck, IsKeptBack, StuckRunsAreOver}}, proofs.{BoardOver.{side-is}, Reserve.{not-held}}}
 use Rattle.card_feed.proofs.OfFlow.{there}
 
 -- It is kept back by nothing but that no note has come.

@@ -1,38 +1,17 @@
 -- What a turn answers: it brought the run further, or did nothing since its role can do nothing.
 use Rattle.std.proofs.Common.{◌≡◌, ◌≢◌, ℕ, ◌+◌, ◌<◌, Bool, true, false, set, List, [], Option, Some, inl, inr, ⊎_elim, refl, sym, ap, ◌∙◌, subst, arith}
-use Rattle.std.specs.Prelude.{MatchBool}
-use Rattle.std.specs.List.{slice_get}
-use Rattle.std.proofs.lemmas.Bool.{cases_Bool}
-use Rattle.std.proofs.lemmas.Bool.Decides.{eqb_tells}
-use Rattle.std.proofs.lemmas.List.{set-get_or}
+use Rattle.std.{specs.{Prelude.{MatchBool}, List.{slice_get}}, proofs.lemmas.{Bool.{cases_Bool, Decides.{eqb_tells}}, List.{set-get_or}}}
 use Rattle.std.proofs.lemmas.Option.{get_or_from_slice_get}
-use Rattle.board_face.specs.AppEvents.{app_gist, reserve_of}
-use Rattle.board_face.specs.NicCalls.{apps_of}
-use Rattle.board_face.specs.declared.views.app.AppSide.{AppSide}
-use Rattle.board_face.specs.declared.views.app.AppView.{AppView}
-use Rattle.board_face.specs.declared.views.nic.NicSide.{NicSide}
-use Rattle.board_face.specs.declared.views.nic.NicView.{NicView}
+use Rattle.board_face.specs.{AppEvents.{app_gist, reserve_of}, NicCalls.{apps_of}, declared.views.{app.{AppSide.{AppSide}, AppView.{AppView}}, nic.NicSide.{NicSide}}}
+use Rattle.board_face.specs.{declared.views.nic.NicView.{NicView}, Sides.{side_in}}
 use Rattle.page_pool.specs.Dealing.{CountsStrays}
-use Rattle.board_face.specs.Sides.{side_in}
-use Rattle.plain_board.specs.Board.{Board, side_of, others_of}
-use Rattle.plain_board.specs.Seen.{IsSeenBy, IsSeenByCard}
-use Rattle.app_worker.specs.Core.{Each}
-use Rattle.app_worker.specs.Stages.{NoneInReserve}
-use Rattle.app_worker.specs.State.{State, LiesOutside}
-use Rattle.app_worker.specs.Turns.{Answers, Because, IsCaughtUp, MayPoll, Turns, look_of}
-use Rattle.app_worker.specs.declared.turn.Turn.{Turn}
-use Rattle.app_worker.specs.declared.turn.Turn.TheVariants.{Idle, Finished}
-use Rattle.app_worker.specs.declared.turn.Why.{Why}
-use Rattle.app_worker.specs.declared.turn.Why.TheVariants.{NoNote, RefillFull, Unsettled, ReserveHeld, NotQuiet}
-use Rattle.card_feed.specs.Feed.{FeedState, feed_steps}
-use Rattle.card_feed.specs.Turns.{IsIdle}
-use Rattle.replay_turns.specs.Rounds.{DidNothing}
-use Rattle.replay_turns.specs.Steps.{worker_steps, steps_from, run_steps}
-use Rattle.replay_turns.specs.Stuck.{IsKeptBack}
-use Rattle.replay_turns.specs.declared.role.Role.TheVariants.{Card, App}
-use Rattle.run_account.specs.declared.run.Run.{Run}
-use Rattle.run_account.specs.declared.run.Worker.{Worker}
+use Rattle.plain_board.specs.{Board.{Board, side_of, others_of}, Seen.{IsSeenBy, IsSeenByCard}}
+use Rattle.app_worker.specs.{Core.{Each}, Stages.{NoneInReserve}, State.{State, LiesOutside}, Turns.{Answers, Because, IsCaughtUp, MayPoll, Turns, look_of}}
+use Rattle.app_worker.specs.declared.turn.{Turn.{Turn, TheVariants.{Idle, Finished}}, Why.{Why, TheVariants.{NoNote, RefillFull, Unsettled, ReserveHeld, NotQuiet}}}
+use Rattle.card_feed.specs.{Feed.{FeedState, feed_steps}, Turns.{IsIdle}}
+use Rattle.replay_turns.specs.{Rounds.{DidNothing}, Steps.{worker_steps, steps_from, run_steps}, Stuck.{IsKeptBack}, declared.role.Role.TheVariants.{Card, App}}
 use Rattle.replay_turns.proofs.Rising.{steps-alike, steps-set}
+use Rattle.run_account.specs.declared.run.{Run.{Run}, Worker.{Worker}}
 
 -- ---- the card
 

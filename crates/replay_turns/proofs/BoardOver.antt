@@ -1,15 +1,8 @@
 -- Once the card was closed and every application has left, all is over at the board of a run.
 use Rattle.std.proofs.Common.{◌≡◌, ℕ, ◌<◌, length, sym, ap, ◌∙◌, arith}
-use Rattle.board_face.specs.Blank.{blank_app}
-use Rattle.board_face.specs.Ended.{HaveEnded}
-use Rattle.board_face.specs.Sides.{IsApp}
-use Rattle.board_face.specs.declared.views.parts.Setting.{Setting}
-use Rattle.board_face.proofs.SideLemmas.{IsApp-at}
-use Rattle.plain_board.specs.Board.{Board, stand_of, side_of}
-use Rattle.plain_board.proofs.Ending.{boards-end_well}
-use Rattle.run_account.specs.Running.{AreOver}
-use Rattle.run_account.specs.declared.run.Run.{Run}
-use Rattle.run_account.proofs.Gone.{card-ended, all-left}
+use Rattle.board_face.{specs.{Blank.{blank_app}, Ended.{HaveEnded}, Sides.{IsApp}, declared.views.parts.Setting.{Setting}}, proofs.SideLemmas.{IsApp-at}}
+use Rattle.plain_board.{specs.Board.{Board, stand_of, side_of}, proofs.Ending.{boards-end_well}}
+use Rattle.run_account.{specs.{Running.{AreOver}, declared.run.Run.{Run}}, proofs.Gone.{card-ended, all-left}}
 use Rattle.replay_turns.specs.Running.{RunFits}
 
 module _ (board : Board) (run : Run) (shelves : ℕ) (fits : RunFits board run shelves) where

@@ -1,36 +1,18 @@
 -- No run goes further than its records, their bytes and the plan let it.
 use Rattle.std.proofs.Common.{◌≡◌, ℕ, suc, ◌+◌, ◌*◌, ◌<◌, ◌≤◌, ◌==◌, Bool, true, false, List, [], ◌∷◌}
-use Rattle.std.proofs.Common.{length, length-append, map, refl, sym, ap, subst, arith, Option, Some}
-use Rattle.std.specs.Prelude.{All, filter, MatchBool, if◌then◌else◌}
-use Rattle.std.specs.List.{slice_get}
-use Rattle.std.proofs.lemmas.Option.{slice_get_within}
-use Rattle.card_feed.specs.Coming.{is_over}
-use Rattle.card_feed.proofs.OfFlow.{there}
-use Rattle.std.proofs.Math.Nat.{mul-le-mul_left}
-use Rattle.std.proofs.lemmas.List.{length-map}
+use Rattle.std.{proofs.Common.{length, length-append, map, refl, sym, ap, subst, arith, Option, Some}, specs.Prelude.{All, filter, MatchBool, if◌then◌else◌}}
+use Rattle.std.{specs.List.{slice_get}, proofs.{lemmas.{Option.{slice_get_within}, List.{length-map}}, Math.Nat.{mul-le-mul_left}}}
+use Rattle.card_feed.{specs.Coming.{is_over}, proofs.OfFlow.{there}}
 use Rattle.zr_kinds.specs.Limits.{most_records}
-use Rattle.board_face.specs.Holders.{sent_to}
-use Rattle.board_face.specs.Relay.{as_taken, dealt_entries}
-use Rattle.board_face.specs.declared.views.nic.Dealt.{Dealt}
-use Rattle.board_face.specs.declared.views.app.AppView.{AppView}
-use Rattle.board_face.specs.declared.views.app.WrittenEntry.{WrittenEntry}
-use Rattle.board_face.proofs.Tallies.{tally, length-tally}
-use Rattle.plain_board.specs.Board.{Board, side_of}
-use Rattle.plain_board.specs.Sound.{taken_of, notes_of, refills_of}
-use Rattle.app_worker.specs.Core.{total}
-use Rattle.app_worker.specs.State.{State, AppStands, Bare, Working, app_steps, furthest}
-use Rattle.flow_queues.specs.Totals.{raw_entries, loan_entries, taken_len}
-use Rattle.app_worker.proofs.Measure.{working-within, bare-within, one-most}
-use Rattle.flow_queues.proofs.Tokens.{total-append}
-use Rattle.replay_turns.specs.Running.{RunFits}
-use Rattle.replay_turns.specs.Steps.{worker_steps, steps_from, run_steps, most_bytes, entries_most, worker_most, run_most}
-use Rattle.replay_turns.specs.Steps.{RunsStayWithin}
-use Rattle.run_account.specs.declared.run.Run.{Run}
-use Rattle.run_account.specs.declared.run.Worker.{Worker}
-use Rattle.run_account.proofs.Shares.{shares, over-most}
-use Rattle.run_account.proofs.NoteSums.{note_len, AreFew}
-use Rattle.run_account.proofs.SentFew.{notes-few, own-few, taken-sum}
+use Rattle.board_face.specs.{Holders.{sent_to}, Relay.{as_taken, dealt_entries}, declared.views.{nic.Dealt.{Dealt}, app.AppView.{AppView}}}
+use Rattle.board_face.{specs.declared.views.app.WrittenEntry.{WrittenEntry}, proofs.Tallies.{tally, length-tally}}
+use Rattle.plain_board.specs.{Board.{Board, side_of}, Sound.{taken_of, notes_of, refills_of}}
+use Rattle.app_worker.{specs.{Core.{total}, State.{State, AppStands, Bare, Working, app_steps, furthest}}, proofs.Measure.{working-within, bare-within, one-most}}
+use Rattle.flow_queues.{specs.Totals.{raw_entries, loan_entries, taken_len}, proofs.Tokens.{total-append}}
+use Rattle.replay_turns.specs.{Running.{RunFits}, Steps.{worker_steps, steps_from, run_steps, most_bytes, entries_most, worker_most, run_most, RunsStayWithin}}
 use Rattle.replay_turns.proofs.BoardOver.{side-is}
+use Rattle.run_account.{specs.declared.run.{Run.{Run}, Worker.{Worker}}, proofs.{Shares.{shares, over-most}, NoteSums.{note_len, AreFew}}}
+use Rattle.run_account.proofs.SentFew.{notes-few, own-few, taken-sum}
 
 -- ---- entries
 

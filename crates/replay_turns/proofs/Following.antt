@@ -1,10 +1,6 @@
 -- Turns behind turns.
-use Rattle.std.proofs.Common.{ℕ, suc, Bool, true, false, List, [], ◌∷◌, ◌++◌, map, Option, ◌⊎◌, ◌+◌, ◌≡◌, inl, inr, refl, subst, arith}
-use Rattle.std.specs.Prelude.{MatchBool}
-use Rattle.replay_turns.specs.Following.{Moment, Moves, Follows, round_of, rounds_of}
-use Rattle.replay_turns.specs.Schedule.{role_of}
-use Rattle.replay_turns.specs.declared.role.Role.{Role}
-use Rattle.replay_turns.specs.declared.role.Role.TheVariants.{App}
+use Rattle.std.{proofs.Common.{ℕ, suc, Bool, true, false, List, [], ◌∷◌, ◌++◌, map, Option, ◌⊎◌, ◌+◌, ◌≡◌, inl, inr, refl, subst, arith}, specs.Prelude.{MatchBool}}
+use Rattle.replay_turns.specs.{Following.{Moment, Moves, Follows, round_of, rounds_of}, Schedule.{role_of}, declared.role.Role.{Role, TheVariants.{App}}}
 
 module _ {S T : Type 0} (left : S → Option (List ℕ)) (faults : S → ℕ) (kept : T → ℕ → Option (List ℕ)) (losses : T → ℕ) where
   pub follows-through : (roles more : List Role) (first mid last : Moment S T) → Follows left faults kept losses roles first mid

@@ -1,10 +1,7 @@
 -- The sides of a board that was just opened.
 use Rattle.std.proofs.Common.{◌≡◌, ℕ, zero, suc, ◌+◌, ◌<◌, ap, ◌∙◌, arith}
 use Rattle.area_layout.specs.Layout.{Shape}
-use Rattle.board_face.specs.Opened.{new_app, new_app_view, new_apps}
-use Rattle.board_face.specs.declared.views.parts.Setting.{Setting}
-use Rattle.board_face.specs.declared.views.app.AppSide.{AppSide}
-use Rattle.board_face.specs.Sides.{side_in}
+use Rattle.board_face.specs.{Opened.{new_app, new_app_view, new_apps}, declared.views.{parts.Setting.{Setting}, app.AppSide.{AppSide}}, Sides.{side_in}}
 use Rattle.plain_board.specs.Board.{Board, new_board, side_of}
 
 side-new : (s : Setting) (first n a number : ℕ) → number ≡ first + a → a < n → side_in (new_apps s first n) a ≡ new_app s number

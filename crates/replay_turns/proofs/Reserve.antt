@@ -1,34 +1,15 @@
 -- Once its entries were dealt with, an application that has nothing of its reserve unread holds nothing there.
-use Rattle.std.proofs.Common.{◌≡◌, ◌≢◌, ℕ, ◌+◌, ◌==◌, Bool, true, false, List, [], ◌∷◌, refl, ap, ◌∙◌, arith}
-use Rattle.std.specs.Prelude.{count_by, Some}
-use Rattle.zr_kinds.specs.declared.ring.Completion.{Completion}
-use Rattle.zr_kinds.specs.declared.ring.Rqe.{Rqe}
-use Rattle.area_layout.specs.Layout.{Shape, IsLayout, judged}
-use Rattle.area_layout.proofs.Words.{place_judged}
-use Rattle.board_face.specs.AppEvents.{app_gist, entry_of, reserve_of}
-use Rattle.board_face.specs.Counts.{user_count}
-use Rattle.board_face.specs.Returns.{entries_on_way, returns, is_some_of, loans_out, abandoned_in}
-use Rattle.board_face.specs.Sides.{IsApp}
-use Rattle.board_face.specs.declared.views.app.LentPiece.{LentPiece}
-use Rattle.board_face.specs.declared.views.app.TakenNote.{TakenNote}
-use Rattle.board_face.specs.declared.views.app.WrittenEntry.{WrittenEntry}
-use Rattle.board_face.specs.declared.views.app.AppSide.{AppSide}
-use Rattle.board_face.proofs.Parts.{count-tally, returned_in-count}
-use Rattle.board_face.proofs.Tallies.{tally, tally-map}
-use Rattle.plain_board.specs.Board.{Board, stand_of, others_of}
-use Rattle.plain_board.specs.Seen.{HoldsReserve, all_of}
-use Rattle.plain_board.specs.Sound.{IsSound}
-use Rattle.plain_board.specs.Users.{IsMadeOfLoans}
-use Rattle.plain_board.proofs.AppFrames.{has-setting}
-use Rattle.plain_board.proofs.OwnSide.{seen-users}
-use Rattle.plain_board.proofs.Reserves.{users-are_loans}
-use Rattle.flow_queues.specs.declared.queues.Lending.{Lending}
-use Rattle.app_worker.specs.Core.{total, Each, is_odd, lent_piece, over_read, read_out}
-use Rattle.flow_queues.specs.Entries.{loans_of, lies_in}
-use Rattle.app_worker.specs.State.{State, Common, Working, LiesOutside, odd_loans}
-use Rattle.app_worker.specs.Turns.{IsCaughtUp}
+use Rattle.std.{proofs.Common.{◌≡◌, ◌≢◌, ℕ, ◌+◌, ◌==◌, Bool, true, false, List, [], ◌∷◌, refl, ap, ◌∙◌, arith}, specs.Prelude.{count_by, Some}}
+use Rattle.zr_kinds.specs.declared.ring.{Completion.{Completion}, Rqe.{Rqe}}
+use Rattle.area_layout.{specs.Layout.{Shape, IsLayout, judged}, proofs.Words.{place_judged}}
+use Rattle.board_face.specs.{AppEvents.{app_gist, entry_of, reserve_of}, Counts.{user_count}, Returns.{entries_on_way, returns, is_some_of, loans_out, abandoned_in}}
+use Rattle.board_face.specs.{Sides.{IsApp}, declared.views.app.{LentPiece.{LentPiece}, TakenNote.{TakenNote}, WrittenEntry.{WrittenEntry}, AppSide.{AppSide}}}
+use Rattle.board_face.proofs.{Parts.{count-tally, returned_in-count}, Tallies.{tally, tally-map}}
+use Rattle.plain_board.{specs.{Board.{Board, stand_of, others_of}, Seen.{HoldsReserve, all_of}, Sound.{IsSound}, Users.{IsMadeOfLoans}}, proofs.AppFrames.{has-setting}}
+use Rattle.plain_board.proofs.{OwnSide.{seen-users}, Reserves.{users-are_loans}}
+use Rattle.flow_queues.{specs.{declared.queues.Lending.{Lending}, Entries.{loans_of, lies_in}}, proofs.Tokens.{total-append, even-lies, even-bytes}}
+use Rattle.app_worker.specs.{Core.{total, Each, is_odd, lent_piece, over_read, read_out}, State.{State, Common, Working, LiesOutside, odd_loans}, Turns.{IsCaughtUp}}
 use Rattle.app_worker.proofs.Flushing.{lies-away}
-use Rattle.flow_queues.proofs.Tokens.{total-append, even-lies, even-bytes}
 
 -- ---- loans
 

@@ -1,19 +1,11 @@
 -- A turn of an application that did something brings it further, and none brings it back.
-use Rattle.std.proofs.Common.{◌≡◌, ◌≢◌, ℕ, zero, suc, ◌+◌, ◌<◌, ◌≤◌, Bool, true, false, Some, set, List, [], ◌∷◌, Option}
-use Rattle.std.proofs.Common.{refl, sym, ap, ◌∙◌, subst, arith, ⊎_elim}
-use Rattle.std.specs.Prelude.{MatchBool}
-use Rattle.std.proofs.lemmas.Bool.{cases_Bool}
+use Rattle.std.proofs.Common.{◌≡◌, ◌≢◌, ℕ, zero, suc, ◌+◌, ◌<◌, ◌≤◌, Bool, true, false, Some, set, List, [], ◌∷◌, Option, refl, sym, ap, ◌∙◌, subst, arith, ⊎_elim}
+use Rattle.std.{specs.{Prelude.{MatchBool}, List.{slice_get}}, proofs.lemmas.Bool.{cases_Bool}}
 use Rattle.zr_kinds.specs.declared.behaviour.Stopped.TheVariants as stop
 use Rattle.zr_kinds.specs.declared.fault.Fault.TheVariants.{Memory as memory_fault, Write as write_fault}
-use Rattle.board_face.specs.declared.views.app.AppView.{AppView}
-use Rattle.app_worker.specs.State.{State, Bare, Working, one_if, app_steps}
-use Rattle.app_worker.specs.Turns.{Turns, Answers}
-use Rattle.app_worker.specs.declared.turn.Turn.{Turn}
-use Rattle.app_worker.specs.declared.turn.Turn.TheVariants.{Did, Idle, Finished, Failed}
-use Rattle.app_worker.specs.declared.turn.Why.{Why}
-use Rattle.std.specs.List.{slice_get}
-use Rattle.board_face.specs.AppEvents.{app_gist}
-use Rattle.board_face.specs.declared.views.app.AppSide.{AppSide}
+use Rattle.board_face.specs.{declared.views.app.{AppView.{AppView}, AppSide.{AppSide}}, AppEvents.{app_gist}}
+use Rattle.app_worker.specs.{State.{State, Bare, Working, one_if, app_steps}, Turns.{Turns, Answers}, declared.turn.Turn.{Turn}}
+use Rattle.app_worker.specs.declared.turn.{Turn.TheVariants.{Did, Idle, Finished, Failed}, Why.{Why}}
 use Rattle.plain_board.specs.Board.{Board, side_of}
 use Rattle.replay_turns.specs.Steps.{worker_steps, steps_from, TurnsRise}
 use Rattle.run_account.specs.declared.run.Worker.{Worker}

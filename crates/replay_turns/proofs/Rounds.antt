@@ -1,29 +1,15 @@
 -- A round: what was done in it, or that nobody can do anything.
-use Rattle.std.proofs.Common.{◌≡◌, ℕ, ◌+◌, ◌<◌, ◌≤◌, ◌||◌, Bool, true, false, length, Some, inl, inr, ⊎_elim, sym, ap, ◌∙◌, subst, arith}
-use Rattle.std.specs.Prelude.{MatchBool}
-use Rattle.std.specs.List.{slice_get}
-use Rattle.std.proofs.lemmas.Bool.{cases_lt}
-use Rattle.std.proofs.lemmas.Option.{slice_get_within}
-use Rattle.board_face.specs.Holders.{on_way}
-use Rattle.board_face.specs.NicCalls.{apps_of}
-use Rattle.board_face.specs.NicEvents.{nic_gist}
-use Rattle.board_face.specs.Returns.{entries_on_way}
-use Rattle.board_face.specs.declared.views.app.AppView.{AppView}
+use Rattle.std.{proofs.Common.{◌≡◌, ℕ, ◌+◌, ◌<◌, ◌≤◌, ◌||◌, Bool, true, false, length, Some, inl, inr, ⊎_elim, sym, ap, ◌∙◌, subst, arith}, specs.Prelude.{MatchBool}}
+use Rattle.std.{specs.List.{slice_get}, proofs.lemmas.{Bool.{cases_lt}, Option.{slice_get_within}}}
+use Rattle.board_face.specs.{Holders.{on_way}, NicCalls.{apps_of}, NicEvents.{nic_gist}, Returns.{entries_on_way}, declared.views.app.AppView.{AppView}}
 use Rattle.board_face.specs.declared.views.nic.NicView.{NicView}
-use Rattle.plain_board.specs.Board.{Board, side_of}
-use Rattle.plain_board.specs.Seen.{card_of, self_of}
+use Rattle.plain_board.specs.{Board.{Board, side_of}, Seen.{card_of, self_of}}
 use Rattle.app_worker.specs.declared.turn.Why.TheVariants.{NoNote}
 use Rattle.card_feed.specs.Feed.{FeedState, feed_steps}
-use Rattle.replay_turns.specs.Rounds.{StandsStill, DidNothing}
-use Rattle.replay_turns.specs.Running.{RunFits}
-use Rattle.replay_turns.specs.Steps.{steps_from, run_steps}
-use Rattle.replay_turns.specs.Stuck.{IsCardStuck, IsKeptBack, IsAppStuck, AreStuck}
-use Rattle.replay_turns.specs.declared.role.Role.TheVariants.{Card, App}
-use Rattle.run_account.specs.declared.run.Run.{Run}
-use Rattle.run_account.specs.declared.run.Worker.{Worker}
-use Rattle.replay_turns.proofs.AllLeft.{WaitsForNote, kept-waits}
-use Rattle.replay_turns.proofs.Answering.{because-stays}
-use Rattle.replay_turns.proofs.Rising.{steps-alike}
+use Rattle.replay_turns.specs.{Rounds.{StandsStill, DidNothing}, Running.{RunFits}, Steps.{steps_from, run_steps}}
+use Rattle.replay_turns.specs.{Stuck.{IsCardStuck, IsKeptBack, IsAppStuck, AreStuck}, declared.role.Role.TheVariants.{Card, App}}
+use Rattle.replay_turns.proofs.{AllLeft.{WaitsForNote, kept-waits}, Answering.{because-stays}, Rising.{steps-alike}}
+use Rattle.run_account.specs.declared.run.{Run.{Run}, Worker.{Worker}}
 
 -- ---- a turn that did nothing
 

@@ -1,10 +1,7 @@
 -- Where what stands beside an application is as before, so are the sides of the other applications.
 use Rattle.std.proofs.Common.{◌≡◌, ◌≢◌, ℕ, sym, ◌∙◌, ap, subst, get_or-set_other}
-use Rattle.board_face.specs.Sides.{side_in}
-use Rattle.plain_board.specs.Board.{Board, side_of, others_of}
-use Rattle.board_face.specs.Blank.{blank_app}
-use Rattle.board_face.specs.declared.views.app.AppView.{AppView}
-use Rattle.plain_board.specs.declared.others.Others.{Others}
+use Rattle.board_face.specs.{Sides.{side_in}, Blank.{blank_app}, declared.views.app.AppView.{AppView}}
+use Rattle.plain_board.specs.{Board.{Board, side_of, others_of}, declared.others.Others.{Others}}
 
 pub others_stand : (old new : Board) (a now : ℕ) → others_of new now ≡ others_of old a → (b : ℕ) → b ≢ a → side_of new b ≡ side_of old b
 others_stand old new a now same b other =

@@ -1,14 +1,8 @@
 -- How far a run can still come, which each round that did something brings down.
-use Rattle.std.proofs.Common.{◌≡◌, ℕ, ◌-◌, ◌<◌, ◌≤◌, List, [], ◌∷◌, length, Some, Option, refl, ap, ◌∙◌, arith}
-use Rattle.std.specs.List.{slice_get}
+use Rattle.std.{proofs.Common.{◌≡◌, ℕ, ◌-◌, ◌<◌, ◌≤◌, List, [], ◌∷◌, length, Some, Option, refl, ap, ◌∙◌, arith}, specs.List.{slice_get}}
 use Rattle.plain_board.specs.Board.{Board}
-use Rattle.replay_turns.specs.Rounds.{IsOfPlan}
-use Rattle.run_account.specs.Running.{Running}
-use Rattle.replay_turns.specs.Running.{Plays}
-use Rattle.replay_turns.specs.Steps.{run_steps, run_most}
-use Rattle.run_account.specs.declared.run.Run.{Run}
-use Rattle.run_account.specs.declared.run.Worker.{Worker}
-use Rattle.replay_turns.proofs.Bounds.{runs-within}
+use Rattle.replay_turns.{specs.{Rounds.{IsOfPlan}, Running.{Plays}, Steps.{run_steps, run_most}}, proofs.Bounds.{runs-within}}
+use Rattle.run_account.specs.{Running.{Running}, declared.run.{Run.{Run}, Worker.{Worker}}}
 
 -- how many entries may follow each loan, which is the same for all applications
 abbrev pub stray_of : List Worker → ℕ

@@ -1,27 +1,13 @@
 -- A turn goes on with the run: one of the card, and one of an application.
-use Rattle.std.proofs.Common.{◌≡◌, ◌≢◌, ℕ, ◌<◌, ◌≤◌, List, [], ◌∷◌, All, length, set, Option, Some, sym, ap, ◌∙◌}
-use Rattle.std.proofs.Common.{subst, arith}
-use Rattle.std.proofs.lemmas.List.{length-set, drop-set-lt}
+use Rattle.std.proofs.{Common.{◌≡◌, ◌≢◌, ℕ, ◌<◌, ◌≤◌, List, [], ◌∷◌, All, length, set, Option, Some, sym, ap, ◌∙◌, subst, arith}, lemmas.List.{length-set, drop-set-lt}}
 use Rattle.std.specs.List.{slice_get}
 use Rattle.zr_kinds.specs.Limits.{most_records}
-use Rattle.board_face.specs.declared.views.app.AppSide.{AppSide}
-use Rattle.board_face.specs.declared.views.parts.Setting.{Setting}
-use Rattle.board_face.specs.Sides.{side_in}
-use Rattle.plain_board.specs.Board.{Board, stand_of, side_of}
-use Rattle.plain_board.specs.Stand.{setting_of}
-use Rattle.plain_board.specs.Sound.{IsSound}
-use Rattle.card_feed.specs.Account.{kept_in}
-use Rattle.board_face.specs.declared.views.nic.Dealt.{Dealt}
-use Rattle.board_face.specs.declared.views.nic.NicSide.{NicSide}
-use Rattle.card_feed.specs.Feed.{FeedState, IsReady, FeedStands}
-use Rattle.card_feed.specs.Turns.{FeedPlays as CardPlays}
-use Rattle.card_feed.specs.declared.plan.Plan.{Plan}
-use Rattle.run_account.specs.Running.{losses_in, Running, WorkerFits, WorkerRuns}
-use Rattle.replay_turns.specs.Running.{RunFits, Plays}
-use Rattle.run_account.specs.declared.run.Run.{Run}
-use Rattle.run_account.specs.declared.run.Worker.{Worker}
-use Rattle.run_account.proofs.DealtEntries.{dealt-of}
+use Rattle.board_face.specs.{declared.views.{app.AppSide.{AppSide}, parts.Setting.{Setting}, nic.{Dealt.{Dealt}, NicSide.{NicSide}}}, Sides.{side_in}}
+use Rattle.plain_board.specs.{Board.{Board, stand_of, side_of}, Stand.{setting_of}, Sound.{IsSound}}
+use Rattle.card_feed.specs.{Account.{kept_in}, Feed.{FeedState, IsReady, FeedStands}, Turns.{FeedPlays as CardPlays}, declared.plan.Plan.{Plan}}
+use Rattle.run_account.{specs.{Running.{losses_in, Running, WorkerFits, WorkerRuns}, declared.run.{Run.{Run}, Worker.{Worker}}}, proofs.DealtEntries.{dealt-of}}
 use Rattle.run_account.proofs.Places.{InSet, here, there, in-set, get-set_same, get-set_other, get-within, kept-here, kept-there, losses-here, losses-there}
+use Rattle.replay_turns.specs.Running.{RunFits, Plays}
 
 -- ---- the board
 

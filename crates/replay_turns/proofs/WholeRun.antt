@@ -1,22 +1,12 @@
 -- A run from its opening to its end: the turns of the text, and then rounds.
-use Rattle.std.proofs.Common.{◌≡◌, ℕ, ◌≤◌, List, ◌++◌, length, map, take, drop, Option}
-use Rattle.std.proofs.Common.{inr, refl, sym, ap, subst, ◌∙◌, arith}
-use Rattle.std.specs.Prelude.{Result, Ok, Err, OnErr}
+use Rattle.std.{proofs.Common.{◌≡◌, ℕ, ◌≤◌, List, ◌++◌, length, map, take, drop, Option, inr, refl, sym, ap, subst, ◌∙◌, arith}, specs.Prelude.{Result, Ok, Err, OnErr}}
 use Rattle.std.proofs.Math.Seq.{take-append_seam}
 use Rattle.plain_board.specs.Board.{Board}
-use Rattle.card_feed.specs.declared.outcome.Outcome.{Outcome}
-use Rattle.card_feed.specs.declared.plan.Plan.{Plan}
-use Rattle.run_account.specs.Ran.{TellsOf, Ran, LacksMemory, told_of}
-use Rattle.replay_turns.specs.Following.{Follows, IsNewRun, RunsBy, moment, rounds_of}
-use Rattle.replay_turns.specs.Rounds.{IsOfPlan}
-use Rattle.run_account.specs.Running.{HasRun, Running, AreOver, ends_of}
-use Rattle.replay_turns.specs.Running.{RunFits, Plays}
-use Rattle.run_account.specs.declared.run.Run.{Run}
-use Rattle.run_account.proofs.Ended.{end-well, end-told}
-use Rattle.run_account.proofs.Leaving.{has-run}
-use Rattle.replay_turns.specs.Schedule.{role_of}
-use Rattle.replay_turns.proofs.BoardOver.{have-ended}
-use Rattle.replay_turns.proofs.Following.{follows-through}
+use Rattle.card_feed.specs.declared.{outcome.Outcome.{Outcome}, plan.Plan.{Plan}}
+use Rattle.run_account.specs.{Ran.{TellsOf, Ran, LacksMemory, told_of}, Running.{HasRun, Running, AreOver, ends_of}, declared.run.Run.{Run}}
+use Rattle.run_account.proofs.{Ended.{end-well, end-told}, Leaving.{has-run}}
+use Rattle.replay_turns.specs.{Following.{Follows, IsNewRun, RunsBy, moment, rounds_of}, Rounds.{IsOfPlan}, Running.{RunFits, Plays}, Schedule.{role_of}}
+use Rattle.replay_turns.proofs.{BoardOver.{have-ended}, Following.{follows-through}}
 
 pub on-err : {A E : Type 0} (r : Result A E) (P : Type 0) → P → OnErr r P
 on-err (Ok x) P holds = tt

@@ -1,27 +1,12 @@
 -- The turns of a run by a text: from one state of a run to the next only the side of the letter's role moves.
-use Rattle.std.specs.Prelude.{◌≡◌, ◌≢◌, ℕ, zero, suc, ◌<◌, ◌⊎◌, true, false, List, [], ◌∷◌, ◌++◌, length, map, set, Option, Some}
-use Rattle.std.specs.List.{slice_get}
+use Rattle.std.specs.{Prelude.{◌≡◌, ◌≢◌, ℕ, zero, suc, ◌<◌, ◌⊎◌, true, false, List, [], ◌∷◌, ◌++◌, length, map, set, Option, Some}, List.{slice_get}}
 use Rattle.board_face.specs.AppEvents.{app_gist}
-use Rattle.plain_board.specs.Board.{Board, new_board, stand_of, side_of, others_of}
-use Rattle.plain_board.specs.Seen.{IsSeenBy, IsSeenByCard}
-use Rattle.plain_board.specs.Sound.{IsSound}
-use Rattle.app_worker.specs.Turns.{Turns, look_of}
-use Rattle.app_worker.specs.declared.turn.Turn.{Turn}
-use Rattle.app_worker.specs.declared.turn.Turn.TheVariants.{Idle, Finished}
-use Rattle.app_worker.specs.declared.turn.Why.{Why}
-use Rattle.card_feed.specs.Feed.{FeedStands, WantsRecord, feed_steps, new_feed}
-use Rattle.card_feed.specs.Plan.{layout_of}
-use Rattle.card_feed.specs.Turns.{FeedTurns, IsIdle}
-use Rattle.card_feed.specs.declared.outcome.Outcome.{Outcome}
+use Rattle.plain_board.specs.{Board.{Board, new_board, stand_of, side_of, others_of}, Seen.{IsSeenBy, IsSeenByCard}, Sound.{IsSound}}
+use Rattle.app_worker.specs.{Turns.{Turns, look_of}, declared.turn.{Turn.{Turn, TheVariants.{Idle, Finished}}, Why.{Why}}}
+use Rattle.card_feed.specs.{Feed.{FeedStands, WantsRecord, feed_steps, new_feed}, Plan.{layout_of}, Turns.{FeedTurns, IsIdle}, declared.outcome.Outcome.{Outcome}}
 use Rattle.card_feed.specs.declared.plan.Plan.{Plan}
-use Rattle.run_account.specs.Ran.{TellsOf, Told, told_of}
-use Rattle.run_account.specs.Running.{AreNew, AreOver}
-use Rattle.run_account.specs.declared.run.Run.{Run}
-use Rattle.run_account.specs.declared.run.Worker.{Worker}
-use Rattle.replay_turns.specs.Events.{room_of}
-use Rattle.replay_turns.specs.Schedule.{role_of}
-use Rattle.replay_turns.specs.declared.role.Role.{Role}
-use Rattle.replay_turns.specs.declared.role.Role.TheVariants.{Card, App}
+use Rattle.run_account.specs.{Ran.{TellsOf, Told, told_of}, Running.{AreNew, AreOver}, declared.run.{Run.{Run}, Worker.{Worker}}}
+use Rattle.replay_turns.specs.{Events.{room_of}, Schedule.{role_of}, declared.role.Role.{Role, TheVariants.{Card, App}}}
 
 -- A run between two turns.
 pub record Moment (S T : Type 0) : Type 0 where

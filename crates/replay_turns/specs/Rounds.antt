@@ -1,14 +1,11 @@
 -- A turn that did nothing, and what a run is that goes round.
 use Rattle.std.specs.Prelude.{◌≡◌, ℕ, List, [], Option}
-use Rattle.board_face.specs.AppEvents.{app_gist}
-use Rattle.board_face.specs.NicEvents.{nic_gist}
+use Rattle.board_face.specs.{AppEvents.{app_gist}, NicEvents.{nic_gist}}
 use Rattle.page_pool.specs.Dealing.{CountsStrays}
 use Rattle.plain_board.specs.Board.{Board, side_of}
 use Rattle.card_feed.specs.declared.plan.Plan.{Plan}
-use Rattle.run_account.specs.Running.{Running}
-use Rattle.replay_turns.specs.Stuck.{IsStuck}
-use Rattle.replay_turns.specs.declared.role.Role.{Role}
-use Rattle.run_account.specs.declared.run.Run.{Run}
+use Rattle.run_account.specs.{Running.{Running}, declared.run.Run.{Run}}
+use Rattle.replay_turns.specs.{Stuck.{IsStuck}, declared.role.Role.{Role}}
 
 -- All is as it was, but for looks and what the applications know of their refill slots.
 pub record StandsStill (board board_now : Board) (was now : Run) : Type 0 where

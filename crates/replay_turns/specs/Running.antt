@@ -1,10 +1,8 @@
 -- A run between two turns at the board for one thread.
 use Rattle.std.specs.Prelude.{◌≡◌, ℕ, ◌≤◌, List, length, Option}
-use Rattle.plain_board.specs.Board.{Board, stand_of}
-use Rattle.plain_board.specs.Sound.{IsSound}
+use Rattle.plain_board.specs.{Board.{Board, stand_of}, Sound.{IsSound}}
 use Rattle.card_feed.specs.declared.plan.Plan.{Plan}
-use Rattle.run_account.specs.Running.{RolesFit, Running}
-use Rattle.run_account.specs.declared.run.Run.{Run}
+use Rattle.run_account.specs.{Running.{RolesFit, Running}, declared.run.Run.{Run}}
 
 -- What is kept fits the board, and there is a shelf for each application.
 pub record RunFits (board : Board) (run : Run) (shelves : ℕ) : Type 0 where

@@ -1,7 +1,6 @@
 -- The text of turns, and whose turn each of its characters asks for.
 use Rattle.std.specs.Prelude.{◌≡◌, ℕ, ◌+◌, ◌-◌, ◌<◌, ◌≤◌, ◌⊎◌, ◌==◌, if◌then◌else◌, List, All}
-use Rattle.replay_turns.specs.declared.role.Role.{Role}
-use Rattle.replay_turns.specs.declared.role.Role.TheVariants.{Card, App}
+use Rattle.replay_turns.specs.declared.role.Role.{Role, TheVariants.{Card, App}}
 
 -- `n`
 abbrev pub card_letter : ℕ

@@ -3,17 +3,10 @@ use Rattle.std.specs.Prelude.{◌≡◌, ◌≢◌, ◌<◌, true, false, ℕ, s
 use Rattle.zr_kinds.specs.Limits.{most_records}
 use Rattle.board_face.specs.declared.views.app.AppView.{AppView}
 use Rattle.plain_board.specs.Board.{Board, side_of}
-use Rattle.app_worker.specs.State.{app_steps, one_if}
-use Rattle.app_worker.specs.Turns.{Turns}
-use Rattle.app_worker.specs.declared.turn.Turn.{Turn}
-use Rattle.app_worker.specs.declared.turn.Turn.TheVariants.{Idle, Finished}
-use Rattle.app_worker.specs.declared.turn.Why.{Why}
-use Rattle.card_feed.specs.Feed.{feed_steps}
-use Rattle.card_feed.specs.declared.plan.Plan.{Plan}
-use Rattle.run_account.specs.Running.{Running}
+use Rattle.app_worker.specs.{State.{app_steps, one_if}, Turns.{Turns}, declared.turn.{Turn.{Turn, TheVariants.{Idle, Finished}}, Why.{Why}}}
+use Rattle.card_feed.specs.{Feed.{feed_steps}, declared.plan.Plan.{Plan}}
+use Rattle.run_account.specs.{Running.{Running}, declared.run.{Run.{Run}, Worker.{Worker}}}
 use Rattle.replay_turns.specs.Running.{RunFits}
-use Rattle.run_account.specs.declared.run.Run.{Run}
-use Rattle.run_account.specs.declared.run.Worker.{Worker}
 
 -- ---- how far it has come
 

@@ -1,20 +1,10 @@
 -- A run in which no turn can do anything, and what keeps each role back.
-use Rattle.std.specs.Prelude.{◌≡◌, ℕ, ◌<◌, ◌⊎◌, true, Some}
-use Rattle.std.specs.List.{slice_get}
-use Rattle.board_face.specs.AppEvents.{app_gist}
-use Rattle.board_face.specs.NicCalls.{apps_of}
-use Rattle.board_face.specs.NicEvents.{nic_gist}
-use Rattle.board_face.specs.declared.views.nic.NicLook.TheVariants.{RingEmpty, NoteInUse}
-use Rattle.plain_board.specs.Board.{Board, side_of, others_of}
-use Rattle.plain_board.specs.Seen.{IsSeenBy, IsSeenByCard}
-use Rattle.app_worker.specs.Turns.{Because, look_of}
-use Rattle.app_worker.specs.declared.turn.Why.{Why}
-use Rattle.run_account.specs.Running.{AreOver}
-use Rattle.replay_turns.specs.Running.{RunFits}
-use Rattle.replay_turns.specs.declared.role.Role.{Role}
-use Rattle.replay_turns.specs.declared.role.Role.TheVariants.{Card, App}
-use Rattle.run_account.specs.declared.run.Run.{Run}
-use Rattle.run_account.specs.declared.run.Worker.{Worker}
+use Rattle.std.specs.{Prelude.{◌≡◌, ℕ, ◌<◌, ◌⊎◌, true, Some}, List.{slice_get}}
+use Rattle.board_face.specs.{AppEvents.{app_gist}, NicCalls.{apps_of}, NicEvents.{nic_gist}, declared.views.nic.NicLook.TheVariants.{RingEmpty, NoteInUse}}
+use Rattle.plain_board.specs.{Board.{Board, side_of, others_of}, Seen.{IsSeenBy, IsSeenByCard}}
+use Rattle.app_worker.specs.{Turns.{Because, look_of}, declared.turn.Why.{Why}}
+use Rattle.run_account.specs.{Running.{AreOver}, declared.run.{Run.{Run}, Worker.{Worker}}}
+use Rattle.replay_turns.specs.{Running.{RunFits}, declared.role.Role.{Role, TheVariants.{Card, App}}}
 
 -- Each refill ring is empty and, unless the card was closed, a note ring is full.
 pub record IsCardStuck (board : Board) (run : Run) : Type 0 where

@@ -1,23 +1,12 @@
 //! Turns at the board for one thread: it goes into a role's hands for a turn, and back.
 
 ghost use Rattle.std.specs.Prelude.{◌≡◌, ◌≢◌, ℕ, ◌<◌, ◌≤◌, List, length, Option, MatchBool, false, true};
-ghost use Rattle.zr_kinds.specs.declared.behaviour.Stopped.TheVariants.{No};
-ghost use Rattle.zr_kinds.specs.declared.fault.Fault.TheVariants.{Write};
-ghost use Rattle.board_face.specs.AppCalls.{IsHere};
-ghost use Rattle.board_face.specs.AppEvents.{app_gist};
-ghost use Rattle.plain_board.specs.Board.{stand_of, side_of, others_of};
-ghost use Rattle.plain_board.specs.Seen.{IsSeenBy, IsSeenByCard};
-ghost use Rattle.plain_board.specs.Sound.{IsSound};
-ghost use Rattle.app_worker.specs.Marks.{FramesStandTogether};
-ghost use Rattle.app_worker.specs.Moves.{reads_of, reserve_loans};
-ghost use Rattle.flow_queues.specs.Shelves.{AreShelved, AreFronts};
-ghost use Rattle.app_worker.specs.State.{AppStands, app_steps, furthest};
-ghost use Rattle.flow_queues.specs.Streams.{HasFronts, HasAll};
-ghost use Rattle.app_worker.specs.Turns.{Turns, look_of};
-ghost use Rattle.app_worker.specs.declared.turn.Turn.TheVariants.{Idle, Failed, Finished};
-ghost use Rattle.app_worker.specs.declared.turn.Why.{Why};
-ghost use Rattle.card_feed.specs.Feed.{IsReady, FeedStands, WantsRecord, feed_steps};
-ghost use Rattle.card_feed.specs.Turns.{FeedTurns, IsIdle};
+ghost use Rattle.zr_kinds.specs.declared.{behaviour.Stopped.TheVariants.{No}, fault.Fault.TheVariants.{Write}};
+ghost use Rattle.board_face.specs.{AppCalls.{IsHere}, AppEvents.{app_gist}};
+ghost use Rattle.plain_board.specs.{Board.{stand_of, side_of, others_of}, Seen.{IsSeenBy, IsSeenByCard}, Sound.{IsSound}};
+ghost use Rattle.app_worker.specs.{Marks.{FramesStandTogether}, Moves.{reads_of, reserve_loans}, State.{AppStands, app_steps, furthest}, Turns.{Turns, look_of}, declared.turn.{Turn.TheVariants.{Idle, Failed, Finished}, Why.{Why}}};
+ghost use Rattle.flow_queues.specs.{Shelves.{AreShelved, AreFronts}, Streams.{HasFronts, HasAll}};
+ghost use Rattle.card_feed.specs.{Feed.{IsReady, FeedStands, WantsRecord, feed_steps}, Turns.{FeedTurns, IsIdle}};
 
 use app_worker::{AppState, Turn, app_turn};
 use card_feed::{Feed, nic_turn};

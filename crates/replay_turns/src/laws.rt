@@ -1,5 +1,4 @@
-ghost use Rattle.replay_turns.specs.Steps.{RunsStayWithin, TurnsRise};
-ghost use Rattle.replay_turns.specs.Stuck.{StuckRunsAreOver};
+ghost use Rattle.replay_turns.specs.{Steps.{RunsStayWithin, TurnsRise}, Stuck.{StuckRunsAreOver}};
 
 use zr_io::{Shelf, Source};
 

@@ -4,9 +4,7 @@ ghost use Rattle.std.specs.Prelude.{◌≡◌, ℕ, ◌≤◌, List, length, IfO
 ghost use Rattle.run_records.specs.Setting.{most_events};
 ghost use Rattle.card_feed.specs.Plan.{IsPlan, TakesTurns};
 ghost use Rattle.run_account.specs.Running.{Running};
-ghost use Rattle.replay_turns.specs.Events.{room_of};
-ghost use Rattle.replay_turns.specs.Following.{IsNewRun};
-ghost use Rattle.replay_turns.specs.Running.{RunFits};
+ghost use Rattle.replay_turns.specs.{Events.{room_of}, Following.{IsNewRun}, Running.{RunFits}};
 
 use card_feed::{Feed, Plan, new_feeds_stand};
 use plain_board::PlainBoard;

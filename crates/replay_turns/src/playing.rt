@@ -1,13 +1,8 @@
 //! Many turns: those of a text, and then rounds.
 
 ghost use Rattle.std.specs.Prelude.{ℕ, ◌<◌, length, map, MatchBool};
-ghost use Rattle.replay_turns.specs.Rounds.{IsOfPlan};
+ghost use Rattle.replay_turns.specs.{Rounds.{IsOfPlan}, Following.{Follows, moment, round_of, rounds_of}, Running.{RunFits, Plays}, Schedule.{AreTurns, role_of}, Steps.{run_steps}, Stuck.{AreStuck}};
 ghost use Rattle.run_account.specs.Running.{AreOver};
-ghost use Rattle.replay_turns.specs.Following.{Follows, moment, round_of, rounds_of};
-ghost use Rattle.replay_turns.specs.Running.{RunFits, Plays};
-ghost use Rattle.replay_turns.specs.Schedule.{AreTurns, role_of};
-ghost use Rattle.replay_turns.specs.Steps.{run_steps};
-ghost use Rattle.replay_turns.specs.Stuck.{AreStuck};
 
 use crate::Role;
 use crate::role::role_of;

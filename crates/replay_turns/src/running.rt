@@ -1,14 +1,10 @@
 //! A whole run.
 
 ghost use Rattle.std.specs.Prelude.{◌≡◌, ◌≤◌, length, vec_len, IfOk, OnErr};
-ghost use Rattle.plain_board.specs.Board.{stand_of, sides_of};
-ghost use Rattle.plain_board.specs.Recorded.{IsRecorded};
-ghost use Rattle.plain_board.specs.Sound.{IsSound};
+ghost use Rattle.plain_board.specs.{Board.{stand_of, sides_of}, Recorded.{IsRecorded}, Sound.{IsSound}};
 ghost use Rattle.card_feed.specs.Plan.{IsPlan, TakesTurns};
 ghost use Rattle.run_account.specs.Ran.{Ran, LacksMemory, told_of};
-ghost use Rattle.replay_turns.specs.Events.{room_of};
-ghost use Rattle.replay_turns.specs.Following.{RunsBy};
-ghost use Rattle.replay_turns.specs.Schedule.{AreTurns};
+ghost use Rattle.replay_turns.specs.{Events.{room_of}, Following.{RunsBy}, Schedule.{AreTurns}};
 
 use crate::opening::open;
 use crate::playing::{play_rounds, play_text};

@@ -1,12 +1,7 @@
 //! One turn of a role.
 
 ghost use Rattle.std.specs.Prelude.{◌<◌, length, MatchBool};
-ghost use Rattle.replay_turns.specs.Following.{Moves, moment};
-ghost use Rattle.replay_turns.specs.Rounds.{DidNothing};
-ghost use Rattle.replay_turns.specs.Running.{RunFits, Plays};
-ghost use Rattle.replay_turns.specs.Schedule.{IsRole};
-ghost use Rattle.replay_turns.specs.Steps.{run_steps};
-ghost use Rattle.replay_turns.specs.declared.role.Role.TheVariants.{App};
+ghost use Rattle.replay_turns.specs.{Following.{Moves, moment}, Rounds.{DidNothing}, Running.{RunFits, Plays}, Schedule.{IsRole}, Steps.{run_steps}, declared.role.Role.TheVariants.{App}};
 
 use crate::Role;
 use crate::board_turns::{app_step, card_step};

@@ -1,39 +1,19 @@
 -- The sides of the roles of a run that is over account for it.
-use Rattle.std.proofs.Common.{◌≡◌, ℕ, ◌<◌, ◌==◌, List, length, map, Option, Some, sym, ap, subst, ◌∙◌, arith}
-use Rattle.std.specs.Prelude.{All}
-use Rattle.std.specs.List.{slice_get}
-use Rattle.std.proofs.lemmas.List.Elements.{All-filter}
-use Rattle.std.proofs.lemmas.Option.{slice_get_within}
+use Rattle.std.{proofs.Common.{◌≡◌, ℕ, ◌<◌, ◌==◌, List, length, map, Option, Some, sym, ap, subst, ◌∙◌, arith}, specs.{Prelude.{All}, List.{slice_get}}}
+use Rattle.std.proofs.lemmas.{List.Elements.{All-filter}, Option.{slice_get_within}}
 use Rattle.zr_kinds.specs.declared.outcome.AppLine.{AppLine}
 use Rattle.zr_io.specs.Moved.{Gained}
-use Rattle.flow_table.specs.Steered.{SteeredTcp}
-use Rattle.flow_table.specs.Flows.{flows_of}
+use Rattle.flow_table.specs.{Steered.{SteeredTcp}, Flows.{flows_of}}
 use Rattle.frames_read.specs.Ending.{steered_in}
-use Rattle.board_face.specs.Blank.{blank_app}
-use Rattle.board_face.specs.Ended.{HaveEnded, IsServed}
-use Rattle.board_face.specs.Sides.{IsApp, side_in}
-use Rattle.board_face.specs.Holders.{sent_to}
-use Rattle.board_face.specs.Relay.{as_taken, IsAsSent, IsProper, HasNoLoanStray}
-use Rattle.board_face.specs.declared.views.nic.NicSide.{NicSide}
-use Rattle.board_face.specs.declared.views.app.AppSide.{AppSide}
+use Rattle.board_face.specs.{Blank.{blank_app}, Ended.{HaveEnded, IsServed}, Sides.{IsApp, side_in}, Holders.{sent_to}}
+use Rattle.board_face.specs.{Relay.{as_taken, IsAsSent, IsProper, HasNoLoanStray}, declared.views.{nic.NicSide.{NicSide}, app.AppSide.{AppSide}}}
 use Rattle.board_face.proofs.SideLemmas.{IsApp-at}
 use Rattle.page_pool.specs.Frames.{ShowFrames}
 use Rattle.app_worker.specs.Marks.{FramesStandTogether, marks_of}
-use Rattle.flow_queues.specs.Ends.{AppEnd, HasLeft}
-use Rattle.flow_queues.specs.Returned.{HasReturned}
-use Rattle.card_feed.specs.Account.{offered_to, kept_in, AppAccounts, AccountsFor, IsFlowRead}
-use Rattle.card_feed.specs.Feed.{FeedState}
-use Rattle.card_feed.specs.Sent.{IsOfOwnFlow}
-use Rattle.card_feed.specs.Plan.{how_of}
-use Rattle.card_feed.specs.declared.plan.Plan.{Plan}
-use Rattle.card_feed.proofs.Sharing.{closed_show}
-use Rattle.card_feed.proofs.SentNotes.{notes-whole, notes-own}
-use Rattle.card_feed.proofs.OwnFlows.{own-marks}
-use Rattle.card_feed.proofs.OfFlow.{there}
-use Rattle.run_account.specs.Ran.{line_of, lines_of}
-use Rattle.run_account.specs.Running.{HasRun, losses_in}
-use Rattle.run_account.proofs.AppLines.{one-value, line-at, many-lines}
-use Rattle.run_account.proofs.Gone.{side-at, many-sides}
+use Rattle.flow_queues.specs.{Ends.{AppEnd, HasLeft}, Returned.{HasReturned}}
+use Rattle.card_feed.specs.{Account.{offered_to, kept_in, AppAccounts, AccountsFor, IsFlowRead}, Feed.{FeedState}, Sent.{IsOfOwnFlow}, Plan.{how_of}}
+use Rattle.card_feed.{specs.declared.plan.Plan.{Plan}, proofs.{Sharing.{closed_show}, SentNotes.{notes-whole, notes-own}, OwnFlows.{own-marks}, OfFlow.{there}}}
+use Rattle.run_account.{specs.{Ran.{line_of, lines_of}, Running.{HasRun, losses_in}}, proofs.{AppLines.{one-value, line-at, many-lines}, Gone.{side-at, many-sides}}}
 use Rattle.run_account.proofs.OwnReads.{flow-read, no-flow-read}
 
 -- What was sent to an application, and what it took and read.

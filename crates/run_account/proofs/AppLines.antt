@@ -1,6 +1,5 @@
 -- The lines of the applications, by their places.
-use Rattle.std.proofs.Common.{◌≡◌, ℕ, zero, suc, List, [], ◌∷◌, length, map, Option, None, Some, refl, sym, ap, subst, ◌∙◌, arith}
-use Rattle.std.specs.List.{slice_get}
+use Rattle.std.{proofs.Common.{◌≡◌, ℕ, zero, suc, List, [], ◌∷◌, length, map, Option, None, Some, refl, sym, ap, subst, ◌∙◌, arith}, specs.List.{slice_get}}
 use Rattle.zr_kinds.specs.declared.outcome.AppLine.{AppLine}
 use Rattle.flow_queues.specs.Ends.{AppEnd}
 use Rattle.run_account.specs.Ran.{There, line_of, lines_of}

@@ -1,22 +1,13 @@
 -- How many bytes of a flow are counted, and how many its shelf gained.
-use Rattle.std.proofs.Common.{◌≡◌, ◌≢◌, ℕ, List, [], ◌∷◌, length, true, false, ◌==◌, Option, Some, None}
-use Rattle.std.proofs.Common.{refl, sym, subst, ◌∙◌, arith, ⊎_elim, ◌⊎◌, inl, inr}
-use Rattle.std.specs.Io.KnownBytes.{Keeps}
-use Rattle.std.proofs.lemmas.Bool.{eq-eqb, ne_eqb, cases_eq}
-use Rattle.std.proofs.lemmas.List.{append_cancel_left}
-use Rattle.zr_kinds.specs.declared.behaviour.Stopped.{Stopped}
+use Rattle.std.proofs.Common.{◌≡◌, ◌≢◌, ℕ, List, [], ◌∷◌, length, true, false, ◌==◌, Option, Some, None, refl, sym, subst, ◌∙◌, arith, ⊎_elim, ◌⊎◌, inl, inr}
+use Rattle.std.{specs.Io.KnownBytes.{Keeps}, proofs.lemmas.{Bool.{eq-eqb, ne_eqb, cases_eq}, List.{append_cancel_left}}}
+use Rattle.zr_kinds.{specs.{declared.behaviour.Stopped.{Stopped}, CopyingReceiver.{values_from}}, proofs.ValuesFrom.{length-values_from}}
 use Rattle.zr_kinds.specs.declared.behaviour.Stopped.TheVariants as stop
-use Rattle.zr_kinds.specs.CopyingReceiver.{values_from}
-use Rattle.zr_kinds.proofs.ValuesFrom.{length-values_from}
-use Rattle.zr_io.specs.Moved.{Gained}
-use Rattle.zr_io.proofs.Moved.{Gained-weaker, Gained-nothing}
+use Rattle.zr_io.{specs.Moved.{Gained}, proofs.Moved.{Gained-weaker, Gained-nothing}}
 use Rattle.board_face.specs.declared.views.app.AppView.{AppView}
-use Rattle.flow_queues.specs.declared.queues.FlowQueue.{FlowQueue}
-use Rattle.app_worker.specs.Core.{Each, many, AreReadAt, placed_of}
-use Rattle.flow_queues.specs.Ends.{IsCounted}
-use Rattle.app_worker.specs.Kept.{flow_bytes}
-use Rattle.flow_queues.specs.Shelves.{FlowEnds, kept_loans, IsShelved, AreShelved, ReadsFront, IsFrontShelved, AreFronts}
-use Rattle.flow_queues.proofs.ReadLemmas.{are-many}
+use Rattle.flow_queues.specs.{declared.queues.FlowQueue.{FlowQueue}, Ends.{IsCounted}}
+use Rattle.flow_queues.{specs.Shelves.{FlowEnds, kept_loans, IsShelved, AreShelved, ReadsFront, IsFrontShelved, AreFronts}, proofs.ReadLemmas.{are-many}}
+use Rattle.app_worker.specs.{Core.{Each, many, AreReadAt, placed_of}, Kept.{flow_bytes}}
 
 pub is-write : (s : Stopped) → (s ≡ stop.Write) ⊎ (s ≢ stop.Write)
 is-write stop.Write = inl refl

@@ -1,22 +1,10 @@
 -- A turn of the card deals with entries of the board's applications alone.
-use Rattle.std.proofs.Common.{◌≡◌, ℕ, ◌<◌, List, ◌++◌, Option, Some, None, ⊎_elim, sym, ap, ◌∙◌, subst}
-use Rattle.std.specs.Prelude.{All}
-use Rattle.std.proofs.lemmas.List.Elements.{All-append}
+use Rattle.std.{proofs.{Common.{◌≡◌, ℕ, ◌<◌, List, ◌++◌, Option, Some, None, ⊎_elim, sym, ap, ◌∙◌, subst}, lemmas.List.Elements.{All-append}}, specs.Prelude.{All}}
 use Rattle.zr_kinds.specs.declared.outcome.PoolStats.{PoolStats}
-use Rattle.board_face.specs.NicCalls.{apps_of}
-use Rattle.board_face.specs.declared.views.parts.Filling.{Filling}
-use Rattle.board_face.specs.declared.views.nic.Dealt.{Dealt}
-use Rattle.board_face.specs.declared.views.nic.NicView.{NicView}
-use Rattle.page_pool.specs.declared.offer.Offer.{Offer}
-use Rattle.page_pool.specs.declared.offer.Verdict.{Verdict}
-use Rattle.page_pool.specs.declared.offer.Verdict.TheVariants.{Accepted, NoRoom, Busy}
-use Rattle.page_pool.specs.Dealing.{DrainsRings}
-use Rattle.page_pool.specs.Offer.{ClosesCurrent, LooksFor, not_needed, searched}
-use Rattle.page_pool.specs.Searching.{SearchEnd, LooksAhead}
-use Rattle.page_pool.specs.Pool.{PoolState}
-use Rattle.card_feed.specs.Feed.{FeedState}
-use Rattle.card_feed.specs.Turns.{FeedPlays, drains, offers, finishes, rests, Settles, KeepsUp}
-use Rattle.card_feed.proofs.PlayLemmas.{closed-dealt}
+use Rattle.board_face.specs.{NicCalls.{apps_of}, declared.views.{parts.Filling.{Filling}, nic.{Dealt.{Dealt}, NicView.{NicView}}}}
+use Rattle.page_pool.specs.{declared.offer.{Offer.{Offer}, Verdict.{Verdict, TheVariants.{Accepted, NoRoom, Busy}}}, Dealing.{DrainsRings}}
+use Rattle.page_pool.specs.{Offer.{ClosesCurrent, LooksFor, not_needed, searched}, Searching.{SearchEnd, LooksAhead}, Pool.{PoolState}}
+use Rattle.card_feed.{specs.{Feed.{FeedState}, Turns.{FeedPlays, drains, offers, finishes, rests, Settles, KeepsUp}}, proofs.PlayLemmas.{closed-dealt}}
 use Rattle.card_feed.proofs.Counting.{closes-dealt}
 
 closed-setting : (current : Option Filling) (old new : NicView) → ClosesCurrent current old new → new.setting ≡ old.setting

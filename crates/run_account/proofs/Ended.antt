@@ -1,54 +1,26 @@
 -- What is told of a run that is over is how it went.
-use Rattle.std.proofs.Common.{◌≡◌, ◌≢◌, ℕ, zero, suc, ◌+◌, ◌*◌, ◌-◌, ◌^◌, ◌<◌, ◌≤◌, List, [], ◌∷◌, length, drop, append-nil}
-use Rattle.std.proofs.Common.{true, Option, Some, None}
-use Rattle.std.proofs.Common.{refl, sym, ap, subst, ◌∙◌, arith, ⊎_elim}
-use Rattle.std.specs.Prelude.{option_map, option_and_then, count_by}
-use Rattle.std.specs.List.{slice_get}
-use Rattle.std.specs.Io.KnownBytes.{Keeps}
-use Rattle.std.proofs.KnownBytes.{Keeps-refl}
-use Rattle.std.proofs.lemmas.Bool.{cases_lt, true≢false}
-use Rattle.std.proofs.lemmas.List.Sums.{count_by-le-length}
+use Rattle.std.proofs.Common.{◌≡◌, ◌≢◌, ℕ, zero, suc, ◌+◌, ◌*◌, ◌-◌, ◌^◌, ◌<◌, ◌≤◌, List, [], ◌∷◌, length, drop, append-nil, true, Option, Some, None}
+use Rattle.std.{proofs.Common.{refl, sym, ap, subst, ◌∙◌, arith, ⊎_elim}, specs.{Prelude.{option_map, option_and_then, count_by}, List.{slice_get}}}
+use Rattle.std.{specs.Io.KnownBytes.{Keeps}, proofs.{KnownBytes.{Keeps-refl}, lemmas.{Bool.{cases_lt, true≢false}, List.Sums.{count_by-le-length}}}}
 use Rattle.std.proofs.lemmas.Option.{slice_get_within}
-use Rattle.zr_kinds.specs.Limits.{most_records}
+use Rattle.zr_kinds.specs.{Limits.{most_records}, declared.outcome.{AppLine.{AppLine}, FlowLine.{FlowLine}, PoolStats.{PoolStats}}}
 use Rattle.zr_kinds.specs.declared.behaviour.Stopped.TheVariants as stop
-use Rattle.zr_kinds.specs.declared.outcome.AppLine.{AppLine}
-use Rattle.zr_kinds.specs.declared.outcome.FlowLine.{FlowLine}
-use Rattle.zr_kinds.specs.declared.outcome.PoolStats.{PoolStats}
 use Rattle.zr_io.specs.Moved.{Gained}
-use Rattle.flow_table.specs.Flows.{Flow, flows_of}
-use Rattle.flow_table.specs.Stream.{stream_of}
-use Rattle.frames_read.specs.Ending.{steered_in}
-use Rattle.frames_read.specs.Reading.{HasEnded}
-use Rattle.board_face.specs.Ended.{HaveEnded}
-use Rattle.board_face.specs.Sides.{IsApp, side_in}
-use Rattle.board_face.specs.declared.views.nic.NicSide.{NicSide}
-use Rattle.board_face.specs.declared.views.app.AppSide.{AppSide}
+use Rattle.flow_table.specs.{Flows.{Flow, flows_of}, Stream.{stream_of}}
+use Rattle.frames_read.specs.{Ending.{steered_in}, Reading.{HasEnded}}
+use Rattle.board_face.specs.{Ended.{HaveEnded}, Sides.{IsApp, side_in}, declared.views.{nic.NicSide.{NicSide}, app.AppSide.{AppSide}}}
 use Rattle.page_pool.specs.Pool.{all_notes}
 use Rattle.flow_queues.specs.Ends.{AppEnd, IsCounted, IsTorn, bytes_in}
-use Rattle.card_feed.specs.Account.{AccountsFor, IsStreamedTo, kept_in}
-use Rattle.card_feed.specs.Coming.{ComesTo, is_over}
-use Rattle.card_feed.specs.Feed.{FeedState, end_of}
-use Rattle.card_feed.specs.Offered.{AreRefused, AreSettled, offers_of}
-use Rattle.card_feed.specs.Outcomes.{AreLinesOf, line_of as flow_line_of}
-use Rattle.card_feed.specs.declared.intake.Stage.{Stage}
+use Rattle.card_feed.specs.{Account.{AccountsFor, IsStreamedTo, kept_in}, Coming.{ComesTo, is_over}, Feed.{FeedState, end_of}}
+use Rattle.card_feed.specs.{Offered.{AreRefused, AreSettled, offers_of}, Outcomes.{AreLinesOf, line_of as flow_line_of}, declared.intake.Stage.{Stage}, Plan.{how_of}}
+use Rattle.card_feed.{specs.{declared.plan.Plan.{Plan}, Counts.{AreCounted, begins_fresh, found_in, is_long, long_in, searches_in}}, proofs.Bridge.{give_streams}}
+use Rattle.card_feed.{specs.Need.{AreNeeded, RefusesByNeed}, proofs.{Needing.{refuses-by-need}, OfFlow.{there}}}
 use Rattle.card_feed.specs.declared.intake.Stage.TheVariants as stage
-use Rattle.card_feed.specs.Plan.{how_of}
-use Rattle.card_feed.specs.declared.plan.Plan.{Plan}
-use Rattle.card_feed.proofs.Bridge.{give_streams}
 use Rattle.run_account.specs.Laws.{RunsAreTold, RunsEndWell}
-use Rattle.card_feed.specs.Counts.{AreCounted, begins_fresh, found_in, is_long, long_in, searches_in}
-use Rattle.card_feed.specs.Need.{AreNeeded, RefusesByNeed}
-use Rattle.card_feed.proofs.Needing.{refuses-by-need}
-use Rattle.card_feed.proofs.OfFlow.{there}
 use Rattle.run_account.specs.Ran.{There, IsLineOf, IsStreamed, HasFailed, IsAppLine, all_loans, line_of, lines_of, AreCounts, Ran, Told, told_of}
-use Rattle.run_account.specs.Running.{HasRun, losses_in}
-use Rattle.run_account.proofs.AppLines.{one-value, is-there, line-at, many-lines, ports-of-lines}
-use Rattle.run_account.proofs.Accounting.{IsTold, told, line-known, side-is, accounts}
-use Rattle.run_account.proofs.Counted.{gained-both}
-use Rattle.run_account.proofs.Ports.{flows-have-apps}
-use Rattle.run_account.proofs.SentFew.{frames-read, offers-few}
-use Rattle.run_account.proofs.Strays.{strays-within}
-use Rattle.run_account.proofs.Tellable.{OutcomeTells, all-told, all-tells}
+use Rattle.run_account.{specs.Running.{HasRun, losses_in}, proofs.AppLines.{one-value, is-there, line-at, many-lines, ports-of-lines}}
+use Rattle.run_account.proofs.{Accounting.{IsTold, told, line-known, side-is, accounts}, Counted.{gained-both}, Ports.{flows-have-apps}}
+use Rattle.run_account.proofs.{SentFew.{frames-read, offers-few}, Strays.{strays-within}, Tellable.{OutcomeTells, all-told, all-tells}}
 use Rattle.run_account.proofs.Written.{all-own, app-below, flow-line, written-is}
 
 -- ---- small steps

@@ -1,10 +1,6 @@
 -- The bytes of an application's flows, added up by the flows' numbers.
-use Rattle.std.proofs.Common.{◌≡◌, ◌≢◌, ℕ, zero, suc, ◌+◌, ◌<◌, ◌≤◌, List, [], ◌∷◌, length, true, false, ◌==◌}
-use Rattle.std.proofs.Common.{if◌then◌else◌, Some}
-use Rattle.std.proofs.Common.{refl, ap, subst, ◌∙◌, arith, ⊎_elim}
-use Rattle.std.specs.List.{slice_get, sum_by}
-use Rattle.std.proofs.lemmas.Bool.{eq-eqb, ne_eqb, cases_eq}
-use Rattle.std.proofs.lemmas.List.Sums.{sum_by-cons}
+use Rattle.std.proofs.Common.{◌≡◌, ◌≢◌, ℕ, zero, suc, ◌+◌, ◌<◌, ◌≤◌, List, [], ◌∷◌, length, true, false, ◌==◌, if◌then◌else◌, Some, refl, ap, subst, ◌∙◌, arith, ⊎_elim}
+use Rattle.std.{specs.List.{slice_get, sum_by}, proofs.lemmas.{Bool.{eq-eqb, ne_eqb, cases_eq}, List.Sums.{sum_by-cons}}}
 use Rattle.app_worker.specs.Core.{total, Each}
 use Rattle.flow_queues.specs.Ends.{bytes_in, times}
 use Rattle.zc_poll.proofs.Shown.{none-there}

@@ -1,21 +1,10 @@
 -- Once the card was closed and every application has left, nobody goes on.
-use Rattle.std.proofs.Common.{◌≡◌, ℕ, List, length, true, Some, ap, subst, ◌∙◌, arith}
-use Rattle.std.specs.Prelude.{All}
-use Rattle.std.specs.List.{slice_get}
-use Rattle.std.proofs.lemmas.List.{get_or_default}
+use Rattle.std.{proofs.{Common.{◌≡◌, ℕ, List, length, true, Some, ap, subst, ◌∙◌, arith}, lemmas.List.{get_or_default}}, specs.{Prelude.{All}, List.{slice_get}}}
 use Rattle.std.proofs.lemmas.Option.{slice_get_within, get_or_from_slice_get}
-use Rattle.board_face.specs.Blank.{blank_app}
-use Rattle.board_face.specs.NicCalls.{apps_of}
-use Rattle.board_face.specs.Sides.{HaveOneSetting, IsApp, side_in}
-use Rattle.board_face.specs.declared.views.parts.Setting.{Setting}
-use Rattle.board_face.specs.declared.views.nic.NicSide.{NicSide}
-use Rattle.board_face.specs.declared.views.app.AppSide.{AppSide}
-use Rattle.card_feed.specs.Plan.{layout_of}
-use Rattle.card_feed.specs.declared.plan.Plan.{Plan}
-use Rattle.card_feed.proofs.OfFlow.{there}
-use Rattle.run_account.specs.Running.{RolesFit, AreOver}
-use Rattle.run_account.specs.declared.run.Run.{Run}
-use Rattle.run_account.specs.declared.run.Worker.{Worker}
+use Rattle.board_face.specs.{Blank.{blank_app}, NicCalls.{apps_of}, Sides.{HaveOneSetting, IsApp, side_in}, declared.views.parts.Setting.{Setting}}
+use Rattle.board_face.specs.declared.views.{nic.NicSide.{NicSide}, app.AppSide.{AppSide}}
+use Rattle.card_feed.{specs.{Plan.{layout_of}, declared.plan.Plan.{Plan}}, proofs.OfFlow.{there}}
+use Rattle.run_account.specs.{Running.{RolesFit, AreOver}, declared.run.{Run.{Run}, Worker.{Worker}}}
 
 -- it holds of each, so of that at a place
 pub all-at : {A : Type 0} (P : A → Type 0) (xs : List A) (i : ℕ) (x : A) → All P xs → slice_get xs i ≡ Some x → P x

@@ -1,36 +1,15 @@
 -- An application of turns that has left leaves what its state says, and so does each of a run that is over.
-use Rattle.std.proofs.Common.{◌≡◌, ◌≢◌, ℕ, ◌+◌, ◌*◌, ◌≤◌, ◌==◌, true, if◌then◌else◌, List, [], ◌∷◌, length, map}
-use Rattle.std.proofs.Common.{Option, Some, None, refl, sym, ap, subst, ◌∙◌, arith}
-use Rattle.std.specs.Prelude.{MatchBool, option_map}
-use Rattle.std.specs.List.{slice_get}
-use Rattle.std.proofs.lemmas.List.{length-map}
-use Rattle.std.proofs.lemmas.Option.{slice_get-map}
+use Rattle.std.proofs.Common.{◌≡◌, ◌≢◌, ℕ, ◌+◌, ◌*◌, ◌≤◌, ◌==◌, true, if◌then◌else◌, List, [], ◌∷◌, length, map, Option, Some, None, refl, sym, ap, subst, ◌∙◌, arith}
+use Rattle.std.{specs.{Prelude.{MatchBool, option_map}, List.{slice_get}}, proofs.lemmas.{List.{length-map}, Option.{slice_get-map}}}
 use Rattle.zr_kinds.specs.declared.behaviour.Behaviour.{Behaviour}
 use Rattle.zr_io.specs.Moved.{Gained}
-use Rattle.board_face.specs.Sides.{side_in}
-use Rattle.board_face.specs.declared.views.nic.NicSide.{NicSide}
-use Rattle.board_face.specs.declared.views.app.AppSide.{AppSide}
-use Rattle.board_face.specs.declared.views.app.AppView.{AppView}
-use Rattle.board_face.specs.declared.views.app.TakenNote.{TakenNote}
-use Rattle.flow_queues.specs.declared.queues.FlowQueue.{FlowQueue}
-use Rattle.app_worker.specs.Core.{total, Each, many, own_notes, BeginAt}
-use Rattle.flow_queues.specs.Ends.{AppEnd, HasLeft, IsCounted, IsTorn, bytes_in, flow_end_of, times}
-use Rattle.app_worker.specs.StateOf.{end_of}
-use Rattle.app_worker.specs.Kept.{flow_bytes}
-use Rattle.app_worker.specs.State.{Bare, Common, Working}
-use Rattle.flow_queues.specs.Shelves.{FlowEnds}
-use Rattle.flow_queues.specs.Totals.{Quits, capped, lent_len, loan_entries, raw_entries}
-use Rattle.flow_queues.specs.Entries.{AreBlocks, WasLive}
-use Rattle.flow_queues.specs.Returned.{HasReturned}
-use Rattle.card_feed.specs.Account.{kept_in}
-use Rattle.card_feed.specs.Plan.{TakesTurns, how_of}
-use Rattle.card_feed.specs.declared.plan.Plan.{Plan}
-use Rattle.run_account.specs.Running.{AreOver, HasRun, RolesFit, Running, WorkerFits, WorkerRuns, ends_of, losses_in}
-use Rattle.run_account.specs.declared.run.Run.{Run}
-use Rattle.run_account.specs.declared.run.Worker.{Worker}
-use Rattle.run_account.proofs.Counted.{flow-counted}
-use Rattle.run_account.proofs.Gone.{worker-left}
-use Rattle.run_account.proofs.Torn.{flow-torn}
+use Rattle.board_face.specs.{Sides.{side_in}, declared.views.{nic.NicSide.{NicSide}, app.{AppSide.{AppSide}, AppView.{AppView}, TakenNote.{TakenNote}}}}
+use Rattle.flow_queues.specs.{declared.queues.FlowQueue.{FlowQueue}, Ends.{AppEnd, HasLeft, IsCounted, IsTorn, bytes_in, flow_end_of, times}, Shelves.{FlowEnds}}
+use Rattle.flow_queues.specs.{Totals.{Quits, capped, lent_len, loan_entries, raw_entries}, Entries.{AreBlocks, WasLive}, Returned.{HasReturned}}
+use Rattle.app_worker.specs.{Core.{total, Each, many, own_notes, BeginAt}, StateOf.{end_of}, Kept.{flow_bytes}, State.{Bare, Common, Working}}
+use Rattle.card_feed.specs.{Account.{kept_in}, Plan.{TakesTurns, how_of}, declared.plan.Plan.{Plan}}
+use Rattle.run_account.specs.{Running.{AreOver, HasRun, RolesFit, Running, WorkerFits, WorkerRuns, ends_of, losses_in}, declared.run.{Run.{Run}, Worker.{Worker}}}
+use Rattle.run_account.proofs.{Counted.{flow-counted}, Gone.{worker-left}, Torn.{flow-torn}}
 
 -- ---- flows, as their numbers with their bytes
 

@@ -2,13 +2,10 @@
 use Rattle.std.proofs.Common.{◌≡◌, ℕ, true, false, Bool, if◌then◌else◌, List, [], Option, Some, None, refl, sym, ap, ◌∙◌, append-nil, arith}
 use Rattle.zr_kinds.specs.declared.behaviour.Stopped.TheVariants as stop
 use Rattle.zr_io.specs.Moved.{Gained}
-use Rattle.board_face.specs.Opened.{new_app_view}
-use Rattle.board_face.specs.declared.views.parts.Setting.{Setting}
-use Rattle.board_face.specs.declared.views.app.AppView.{AppView}
+use Rattle.board_face.specs.{Opened.{new_app_view}, declared.views.{parts.Setting.{Setting}, app.AppView.{AppView}}}
 use Rattle.app_worker.specs.Kept.{IsFresh, is_nothing}
 use Rattle.card_feed.specs.declared.plan.Plan.{Plan}
-use Rattle.run_account.specs.Running.{IsNew, WorkerFits, WorkerRuns}
-use Rattle.run_account.specs.declared.run.Worker.{Worker}
+use Rattle.run_account.specs.{Running.{IsNew, WorkerFits, WorkerRuns}, declared.run.Worker.{Worker}}
 
 fresh : (s : Setting) (a : ℕ) → IsFresh a (new_app_view s a)
 fresh s a = record {

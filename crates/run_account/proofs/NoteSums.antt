@@ -1,15 +1,9 @@
 -- How many bytes the notes tell of that were sent: those of their frames at most.
-use Rattle.std.proofs.Common.{◌≡◌, ℕ, zero, suc, ◌+◌, ◌-◌, ◌*◌, ◌<◌, ◌≤◌, ⊎_elim, List, [], ◌∷◌, ◌++◌, length, take}
-use Rattle.std.proofs.Common.{refl, sym, ap, ◌∙◌, subst, arith}
-use Rattle.std.specs.Prelude.{All}
-use Rattle.std.proofs.Common.{length-append}
-use Rattle.std.proofs.Math.Seq.{take-length, take-append_seam, drop-append_seam, take-append-add}
-use Rattle.std.proofs.lemmas.Bool.{cases_lt}
-use Rattle.std.proofs.lemmas.List.{take-append-le}
-use Rattle.std.proofs.lemmas.List.Elements.{All-head, All-take, All-drop}
+use Rattle.std.proofs.Common.{◌≡◌, ℕ, zero, suc, ◌+◌, ◌-◌, ◌*◌, ◌<◌, ◌≤◌, ⊎_elim, List, [], ◌∷◌, ◌++◌, length, take, refl, sym, ap, ◌∙◌, subst, arith}
+use Rattle.std.{specs.Prelude.{All}, proofs.{Common.{length-append}, Math.Seq.{take-length, take-append_seam, drop-append_seam, take-append-add}}}
+use Rattle.std.proofs.lemmas.{Bool.{cases_lt}, List.{take-append-le, Elements.{All-head, All-take, All-drop}}}
 use Rattle.zr_kinds.specs.Limits.{longest_payload}
-use Rattle.board_face.specs.Relay.{IsProper}
-use Rattle.board_face.specs.declared.views.nic.SentNote.{SentNote}
+use Rattle.board_face.specs.{Relay.{IsProper}, declared.views.nic.SentNote.{SentNote}}
 use Rattle.page_pool.specs.Frames.{Offered, ShowRest, ShowsWhole, ShowsFrame, ShowFrames}
 use Rattle.app_worker.specs.Core.{total}
 use Rattle.flow_queues.proofs.Tokens.{total-append}

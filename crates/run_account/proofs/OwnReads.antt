@@ -1,19 +1,11 @@
 -- What the shelf of an application that is gone has of a flow.
-use Rattle.std.proofs.Common.{◌≡◌, ◌≢◌, ℕ, List, [], ◌∷◌, ◌++◌, Option, Some, None, refl, sym, ap, subst, ◌∙◌, ⊎_elim}
-use Rattle.std.proofs.Common.{append-nil}
-use Rattle.std.specs.Io.KnownBytes.{Keeps}
+use Rattle.std.{proofs.Common.{◌≡◌, ◌≢◌, ℕ, List, [], ◌∷◌, ◌++◌, Option, Some, None, refl, sym, ap, subst, ◌∙◌, ⊎_elim, append-nil}, specs.Io.KnownBytes.{Keeps}}
 use Rattle.zr_kinds.specs.declared.behaviour.Behaviour.{Behaviour}
 use Rattle.zr_kinds.specs.declared.behaviour.Stopped.TheVariants as stop
-use Rattle.zr_io.specs.Moved.{Gained}
-use Rattle.zr_io.proofs.Moved.{Gained-weaker}
-use Rattle.board_face.specs.declared.views.app.Reading.{Reading}
-use Rattle.board_face.specs.declared.views.app.TakenNote.{TakenNote}
-use Rattle.board_face.specs.declared.views.app.AppSide.{AppSide}
-use Rattle.app_worker.specs.Marks.{FramesStandTogether, Mark, marks_of}
-use Rattle.app_worker.specs.Core.{AreReadAt}
-use Rattle.flow_queues.specs.Ends.{AppEnd, HasLeft}
-use Rattle.flow_queues.specs.Streams.{IsFront}
-use Rattle.flow_queues.proofs.ReadLemmas.{are-many}
+use Rattle.zr_io.{specs.Moved.{Gained}, proofs.Moved.{Gained-weaker}}
+use Rattle.board_face.specs.declared.views.app.{Reading.{Reading}, TakenNote.{TakenNote}, AppSide.{AppSide}}
+use Rattle.app_worker.specs.{Marks.{FramesStandTogether, Mark, marks_of}, Core.{AreReadAt}}
+use Rattle.flow_queues.{specs.{Ends.{AppEnd, HasLeft}, Streams.{IsFront}}, proofs.ReadLemmas.{are-many}}
 use Rattle.card_feed.specs.Account.{IsFlowRead}
 use Rattle.zc_poll.proofs.Pours.{is-no}
 

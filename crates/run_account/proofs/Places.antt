@@ -1,8 +1,6 @@
 -- Places of a list of which one was written, and what shelves keep and have lost by them.
-use Rattle.std.proofs.Common.{◌≡◌, ◌≢◌, ℕ, zero, suc, ◌<◌, List, [], ◌∷◌, ◌++◌, length, set}
-use Rattle.std.proofs.Common.{Option, Some, refl, ap, arith}
-use Rattle.std.specs.Prelude.{option_and_then, option_map}
-use Rattle.std.specs.List.{slice_get}
+use Rattle.std.proofs.Common.{◌≡◌, ◌≢◌, ℕ, zero, suc, ◌<◌, List, [], ◌∷◌, ◌++◌, length, set, Option, Some, refl, ap, arith}
+use Rattle.std.specs.{Prelude.{option_and_then, option_map}, List.{slice_get}}
 use Rattle.card_feed.specs.Account.{kept_in}
 use Rattle.run_account.specs.Running.{losses_in, losses_or}
 

@@ -1,14 +1,8 @@
 -- Each port stands at one place, and a flow goes to the application of its port.
-use Rattle.std.proofs.Common.{◌≡◌, ◌≢◌, ℕ, zero, suc, List, [], ◌∷◌, false, ◌==◌, Some}
-use Rattle.std.proofs.Common.{refl, sym, ap, subst, ◌∙◌, ⊎_elim, get_or}
-use Rattle.std.specs.Prelude.{nat_eq}
-use Rattle.std.specs.List.{slice_get, IsDistinct, AllByRecursion}
-use Rattle.std.proofs.lemmas.Bool.{eq-eqb, eqb-true, ne_eqb, cases_eq, true≢false}
-use Rattle.std.proofs.lemmas.Option.{slice_get-get_or}
+use Rattle.std.{proofs.Common.{◌≡◌, ◌≢◌, ℕ, zero, suc, List, [], ◌∷◌, false, ◌==◌, Some, refl, sym, ap, subst, ◌∙◌, ⊎_elim, get_or}, specs.Prelude.{nat_eq}}
+use Rattle.std.{specs.List.{slice_get, IsDistinct, AllByRecursion}, proofs.lemmas.{Bool.{eq-eqb, eqb-true, ne_eqb, cases_eq, true≢false}, Option.{slice_get-get_or}}}
 use Rattle.std.proofs.lemmas.List.Quantifiers.{position-Some}
-use Rattle.flow_table.specs.Steered.{SteeredTcp, app_of}
-use Rattle.flow_table.specs.Flows.{Flow, flows_of, flows_with, flows_after}
-use Rattle.flow_table.proofs.FlowLaws.{HaveApps, flows_with-apps}
+use Rattle.flow_table.{specs.{Steered.{SteeredTcp, app_of}, Flows.{Flow, flows_of, flows_with, flows_after}}, proofs.FlowLaws.{HaveApps, flows_with-apps}}
 use Rattle.frames_read.specs.Ending.{steered_in}
 use Rattle.card_feed.proofs.OfFlow.{AreSteered, are-steered}
 

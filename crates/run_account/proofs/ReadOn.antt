@@ -1,6 +1,5 @@
 -- A source that nothing read on behind the ending of the reading.
-use Rattle.std.proofs.Common.{ℕ, List, Option, refl, arith}
-use Rattle.std.proofs.KnownBytes.{Keeps-refl}
+use Rattle.std.proofs.{Common.{ℕ, List, Option, refl, arith}, KnownBytes.{Keeps-refl}}
 use Rattle.zr_kinds.specs.declared.fault.Fault.{Fault}
 use Rattle.zr_io.proofs.Moved.{Took-nothing}
 use Rattle.run_account.specs.Ran.{HasReadOn}

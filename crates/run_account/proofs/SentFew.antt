@@ -1,23 +1,16 @@
 -- No more notes and bytes are sent than the records that were read have bytes.
 use Rattle.std.proofs.Common.{◌≡◌, ℕ, suc, ◌+◌, ◌*◌, ◌≤◌, ◌==◌, Bool, true, false, List, [], ◌∷◌, ◌++◌}
 use Rattle.std.proofs.Common.{length, length-append, take, map, refl, sym, ap, subst, arith, Option, Some, None}
-use Rattle.std.specs.Prelude.{All, filter, if◌then◌else◌, option_to_list}
-use Rattle.std.proofs.Math.Seq.{take-append_seam}
-use Rattle.std.proofs.lemmas.List.{length-map}
+use Rattle.std.{specs.Prelude.{All, filter, if◌then◌else◌, option_to_list}, proofs.{Math.Seq.{take-append_seam}, lemmas.List.{length-map}}}
 use Rattle.zr_kinds.specs.Limits.{most_records, longest_payload}
-use Rattle.frame_headers.specs.FrameClass.{TcpSegment, class_of}
-use Rattle.frame_headers.specs.Seen.{segment_of}
-use Rattle.flow_table.specs.Flows.{Flow, flows_with}
-use Rattle.flow_table.specs.Steered.{SteeredTcp, steer, steered_from, steered_of, segments_of}
+use Rattle.frame_headers.specs.{FrameClass.{TcpSegment, class_of}, Seen.{segment_of}}
+use Rattle.flow_table.specs.{Flows.{Flow, flows_with}, Steered.{SteeredTcp, steer, steered_from, steered_of, segments_of}}
 use Rattle.frames_read.specs.Ending.{steered_in}
-use Rattle.board_face.specs.Relay.{IsProper, as_taken}
-use Rattle.board_face.specs.declared.views.nic.NicView.{NicView}
-use Rattle.board_face.specs.declared.views.nic.SentNote.{SentNote}
+use Rattle.board_face.specs.{Relay.{IsProper, as_taken}, declared.views.nic.{NicView.{NicView}, SentNote.{SentNote}}}
 use Rattle.page_pool.specs.Frames.{Offered}
 use Rattle.app_worker.specs.Core.{total}
 use Rattle.flow_queues.specs.Totals.{taken_len}
-use Rattle.card_feed.specs.Feed.{FeedState, FeedStands}
-use Rattle.card_feed.specs.Offered.{AreSettled, Awaits, has_payload, offered_after, offers_of, without}
+use Rattle.card_feed.specs.{Feed.{FeedState, FeedStands}, Offered.{AreSettled, Awaits, has_payload, offered_after, offers_of, without}}
 use Rattle.run_account.proofs.NoteSums.{note_len, AreFew, frames-few}
 
 -- ---- frames

@@ -1,9 +1,7 @@
 -- The entries of each application, added up over the applications.
-use Rattle.std.proofs.Common.{◌≡◌, ℕ, zero, suc, ◌+◌, ◌*◌, ◌<◌, ◌≤◌, ◌==◌, List, [], ◌∷◌, length, arith}
-use Rattle.std.specs.Prelude.{All}
+use Rattle.std.{proofs.Common.{◌≡◌, ℕ, zero, suc, ◌+◌, ◌*◌, ◌<◌, ◌≤◌, ◌==◌, List, [], ◌∷◌, length, arith}, specs.Prelude.{All}}
 use Rattle.std.proofs.lemmas.List.Elements.{All-head, All-tail}
-use Rattle.board_face.specs.declared.views.nic.Dealt.{Dealt}
-use Rattle.board_face.proofs.Tallies.{tally}
+use Rattle.board_face.{specs.declared.views.nic.Dealt.{Dealt}, proofs.Tallies.{tally}}
 use Rattle.run_account.proofs.FlowSums.{over, over-add, over-zero, only, over-one}
 
 -- the entries of each application are together all of them

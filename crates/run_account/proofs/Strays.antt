@@ -1,42 +1,18 @@
 -- No more strays were counted than may follow the loans that were given back.
 use Rattle.std.proofs.Common.{◌≡◌, ℕ, suc, ◌+◌, ◌*◌, ◌<◌, ◌≤◌, ◌==◌, Bool, true, false, if◌then◌else◌, List, [], ◌∷◌}
-use Rattle.std.proofs.Common.{Option, Some, length, refl, sym, ap, subst, ◌∙◌, arith}
-use Rattle.std.specs.Prelude.{All, filter}
-use Rattle.std.specs.List.{slice_get, zip}
-use Rattle.std.proofs.Math.Nat.{mul-add, mul-le-mul_left}
-use Rattle.std.proofs.lemmas.Bool.{false≢true}
-use Rattle.std.proofs.lemmas.List.{length-map}
-use Rattle.std.proofs.lemmas.List.Elements.{All-head, All-tail, All-filter}
-use Rattle.std.proofs.lemmas.List.Sums.{sum_by-cons, length-filter}
-use Rattle.std.proofs.lemmas.Option.{slice_get_within}
-use Rattle.zr_kinds.specs.declared.outcome.AppLine.{AppLine}
-use Rattle.board_face.specs.Ended.{HaveEnded, IsServed}
-use Rattle.board_face.specs.Holders.{sent_to}
-use Rattle.board_face.specs.Relay.{IsNoLoanStray}
-use Rattle.board_face.specs.Sides.{IsApp, side_in}
-use Rattle.board_face.specs.declared.views.nic.NicSide.{NicSide}
-use Rattle.board_face.specs.declared.views.nic.Dealt.{Dealt}
-use Rattle.zr_kinds.specs.declared.ring.Rqe.{Rqe}
-use Rattle.board_face.specs.declared.views.nic.Fate.{Fate}
-use Rattle.board_face.specs.declared.views.nic.Fate.TheVariants.{Honoured, Stray}
-use Rattle.board_face.specs.declared.views.app.WrittenEntry.{WrittenEntry}
-use Rattle.board_face.specs.declared.views.app.AppSide.{AppSide}
+use Rattle.std.{proofs.Common.{Option, Some, length, refl, sym, ap, subst, ◌∙◌, arith}, specs.{Prelude.{All, filter}, List.{slice_get, zip}}}
+use Rattle.std.proofs.{Math.Nat.{mul-add, mul-le-mul_left}, lemmas.{Bool.{false≢true}, List.{length-map, Elements.{All-head, All-tail, All-filter}}}}
+use Rattle.std.proofs.lemmas.{List.Sums.{sum_by-cons, length-filter}, Option.{slice_get_within}}
+use Rattle.zr_kinds.specs.declared.{outcome.AppLine.{AppLine}, ring.Rqe.{Rqe}}
+use Rattle.board_face.specs.{Ended.{HaveEnded, IsServed}, Holders.{sent_to}, Relay.{IsNoLoanStray}, Sides.{IsApp, side_in}, declared.views.nic.NicSide.{NicSide}}
+use Rattle.board_face.specs.declared.views.{nic.{Dealt.{Dealt}, Fate.{Fate, TheVariants.{Honoured, Stray}}}, app.{WrittenEntry.{WrittenEntry}, AppSide.{AppSide}}}
 use Rattle.board_face.proofs.Tallies.{weight, weight-le, tally}
 use Rattle.page_pool.specs.Dealing.{is_stray, strays_in}
 use Rattle.app_worker.specs.Core.{total}
-use Rattle.flow_queues.specs.Ends.{AppEnd}
-use Rattle.flow_queues.specs.Totals.{raw_entries, loan_entries, taken_len}
-use Rattle.card_feed.specs.Feed.{FeedState}
-use Rattle.card_feed.specs.Plan.{how_of}
-use Rattle.card_feed.specs.declared.plan.Plan.{Plan}
-use Rattle.run_account.specs.Ran.{all_loans, lines_of}
-use Rattle.run_account.specs.Running.{HasRun}
-use Rattle.run_account.proofs.Accounting.{line-known, side-is}
-use Rattle.run_account.proofs.AppLines.{many-lines}
-use Rattle.run_account.proofs.FlowSums.{over}
-use Rattle.run_account.proofs.NoteSums.{note_len}
-use Rattle.run_account.proofs.SentFew.{most_sent, notes-few, own-few, taken-sum}
-use Rattle.run_account.proofs.Shares.{shares}
+use Rattle.flow_queues.specs.{Ends.{AppEnd}, Totals.{raw_entries, loan_entries, taken_len}}
+use Rattle.card_feed.specs.{Feed.{FeedState}, Plan.{how_of}, declared.plan.Plan.{Plan}}
+use Rattle.run_account.{specs.{Ran.{all_loans, lines_of}, Running.{HasRun}}, proofs.{Accounting.{line-known, side-is}, AppLines.{many-lines}, FlowSums.{over}}}
+use Rattle.run_account.proofs.{NoteSums.{note_len}, SentFew.{most_sent, notes-few, own-few, taken-sum}, Shares.{shares}}
 
 abbrev one_raw : WrittenEntry → ℕ
 one_raw w = if w.of_loan then 0 else 1

@@ -1,13 +1,10 @@
 -- What is told of a run, as plain lists; each run has it.
-use Rattle.std.proofs.Common.{◌≡◌, ℕ, zero, suc, ◌+◌, List, [], ◌∷◌, length, Option, Some, None, refl, ap, ◌∙◌, arith}
-use Rattle.std.specs.List.{slice_get}
+use Rattle.std.{proofs.Common.{◌≡◌, ℕ, zero, suc, ◌+◌, List, [], ◌∷◌, length, Option, Some, None, refl, ap, ◌∙◌, arith}, specs.List.{slice_get}}
 use Rattle.flow_table.specs.Flows.{Flow}
 use Rattle.zr_kinds.specs.declared.outcome.FlowLine.{FlowLine}
 use Rattle.flow_queues.specs.Ends.{AppEnd, bytes_in}
-use Rattle.card_feed.specs.Feed.{FeedState, end_of}
-use Rattle.card_feed.specs.Outcomes.{AreLinesOf, HavePorts, line_of as flow_line_of}
-use Rattle.run_account.specs.Ran.{lines_of, AreCounts, Told}
-use Rattle.run_account.proofs.AppLines.{one-value}
+use Rattle.card_feed.specs.{Feed.{FeedState, end_of}, Outcomes.{AreLinesOf, HavePorts, line_of as flow_line_of}}
+use Rattle.run_account.{specs.Ran.{lines_of, AreCounts, Told}, proofs.AppLines.{one-value}}
 
 -- this is told of what the card keeps and the applications left with
 pub record OutcomeTells (feed : FeedState) (ends : List AppEnd) (ports : List ℕ) (told : Told) : Type 0 where

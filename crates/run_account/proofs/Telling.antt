@@ -1,14 +1,10 @@
 -- Lines and counts, one after another.
-use Rattle.std.proofs.Common.{◌≡◌, ℕ, zero, suc, ◌+◌, ◌<◌, ◌≤◌, List, [], ◌∷◌, ◌++◌, length, map, take}
-use Rattle.std.proofs.Common.{Option, Some, None, option_map}
-use Rattle.std.proofs.Common.{sym, ap, ◌∙◌, length-append, arith, ⊎_elim}
-use Rattle.std.specs.List.{slice_get}
-use Rattle.std.proofs.lemmas.Bool.{cases_lt}
+use Rattle.std.proofs.Common.{◌≡◌, ℕ, zero, suc, ◌+◌, ◌<◌, ◌≤◌, List, [], ◌∷◌, ◌++◌, length, map, take, Option, Some, None, option_map}
+use Rattle.std.{proofs.{Common.{sym, ap, ◌∙◌, length-append, arith, ⊎_elim}, lemmas.Bool.{cases_lt}}, specs.List.{slice_get}}
 use Rattle.std.proofs.lemmas.Option.{slice_get-map, slice_get_within}
 use Rattle.flow_table.specs.Flows.{Flow}
 use Rattle.flow_queues.specs.Ends.{AppEnd, bytes_in}
-use Rattle.run_account.specs.Ran.{line_of, lines_of, AreCounts}
-use Rattle.run_account.proofs.AppLines.{one-value}
+use Rattle.run_account.{specs.Ran.{line_of, lines_of, AreCounts}, proofs.AppLines.{one-value}}
 use Rattle.card_feed.proofs.Lines.{get-before, get-last}
 
 -- ---- lines

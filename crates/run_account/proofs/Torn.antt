@@ -1,26 +1,14 @@
 -- What the shelf of an application gained that failed: what is counted, and at one flow some bytes of one loan more.
 use Rattle.std.proofs.Common.{◌≡◌, ◌≢◌, ℕ, zero, suc, ◌+◌, ◌-◌, ◌<◌, ◌≤◌, List, [], ◌∷◌, ◌++◌, length, take, drop, Option, None, IsSome}
-use Rattle.std.proofs.Common.{sym, ap, subst, ◌∙◌, arith, ⊎_elim, length-append}
-use Rattle.std.proofs.Math.Seq.{take-append_seam, drop-append_seam}
-use Rattle.std.proofs.lemmas.Bool.{cases_eq}
-use Rattle.zr_kinds.specs.CopyingReceiver.{Placed, next_missing, values_from, front_of}
-use Rattle.zr_kinds.proofs.InOrder.{cases_Option}
+use Rattle.std.proofs.{Common.{sym, ap, subst, ◌∙◌, arith, ⊎_elim, length-append}, Math.Seq.{take-append_seam, drop-append_seam}, lemmas.Bool.{cases_eq}}
+use Rattle.zr_kinds.{specs.CopyingReceiver.{Placed, next_missing, values_from, front_of}, proofs.InOrder.{cases_Option}}
 use Rattle.zr_kinds.proofs.ValuesFrom.{AreThere, values_from-split, values_from-same, length-values_from}
-use Rattle.zr_io.specs.Moved.{Gained}
-use Rattle.zr_io.proofs.Moved.{Gained-weaker, Gained-nothing}
-use Rattle.board_face.specs.declared.views.app.TakenNote.{TakenNote}
-use Rattle.board_face.specs.declared.views.app.AppView.{AppView}
-use Rattle.flow_queues.specs.declared.queues.FlowQueue.{FlowQueue}
-use Rattle.app_worker.specs.Marks.{Mark, FramesStandTogether, numbered, placed_marks, marks_of}
-use Rattle.app_worker.specs.Core.{Each, many, own_notes, BeginAt, placed_of}
-use Rattle.flow_queues.specs.Ends.{IsTorn}
-use Rattle.app_worker.specs.Kept.{flow_bytes}
-use Rattle.flow_queues.specs.Shelves.{kept_loans, IsShelved, AreOfOneLoan, ReadsFront, IsFrontShelved, AreFronts, FlowEnds}
-use Rattle.flow_queues.specs.Totals.{loan_entries}
-use Rattle.flow_queues.specs.Streams.{IsFront, HasFronts}
-use Rattle.flow_queues.proofs.InParts.{AreSame}
-use Rattle.flow_queues.proofs.WholeFrames.{StandWhole, whole-own, placed-same}
-use Rattle.flow_queues.proofs.ReadLemmas.{are-many}
+use Rattle.zr_io.{specs.Moved.{Gained}, proofs.Moved.{Gained-weaker, Gained-nothing}}
+use Rattle.board_face.specs.declared.views.app.{TakenNote.{TakenNote}, AppView.{AppView}}
+use Rattle.flow_queues.specs.{declared.queues.FlowQueue.{FlowQueue}, Ends.{IsTorn}}
+use Rattle.flow_queues.specs.{Shelves.{kept_loans, IsShelved, AreOfOneLoan, ReadsFront, IsFrontShelved, AreFronts, FlowEnds}, Totals.{loan_entries}}
+use Rattle.flow_queues.{specs.Streams.{IsFront, HasFronts}, proofs.{InParts.{AreSame}, WholeFrames.{StandWhole, whole-own, placed-same}, ReadLemmas.{are-many}}}
+use Rattle.app_worker.specs.{Marks.{Mark, FramesStandTogether, numbered, placed_marks, marks_of}, Core.{Each, many, own_notes, BeginAt, placed_of}, Kept.{flow_bytes}}
 use Rattle.run_account.proofs.Counted.{IsThere, find, both, gained-both, shelved-long}
 
 -- ---- marks

@@ -1,20 +1,12 @@
 -- Where no application was stopped but to quit, streams are whole.
-use Rattle.std.proofs.Common.{◌≡◌, ◌≢◌, ℕ, List, Option, Some, None, sym, ap, ◌∙◌, ◌⊎◌, ⊎_elim, arith}
-use Rattle.std.specs.List.{slice_get}
-use Rattle.zr_kinds.specs.declared.behaviour.Stopped.{Stopped}
+use Rattle.std.{proofs.Common.{◌≡◌, ◌≢◌, ℕ, List, Option, Some, None, sym, ap, ◌∙◌, ◌⊎◌, ⊎_elim, arith}, specs.List.{slice_get}}
+use Rattle.zr_kinds.specs.declared.{behaviour.Stopped.{Stopped}, outcome.AppLine.{AppLine}}
 use Rattle.zr_kinds.specs.declared.behaviour.Stopped.TheVariants as stop
-use Rattle.zr_kinds.specs.declared.outcome.AppLine.{AppLine}
 use Rattle.zr_io.proofs.Moved.{Gained-weaker}
-use Rattle.board_face.specs.declared.views.nic.NicSide.{NicSide}
-use Rattle.board_face.specs.declared.views.app.AppSide.{AppSide}
+use Rattle.board_face.specs.declared.views.{nic.NicSide.{NicSide}, app.AppSide.{AppSide}}
 use Rattle.flow_queues.specs.Totals.{Quits}
-use Rattle.card_feed.specs.Account.{kept_in}
-use Rattle.card_feed.specs.Plan.{how_of}
-use Rattle.card_feed.specs.declared.plan.Plan.{Plan}
-use Rattle.card_feed.proofs.OfFlow.{there}
-use Rattle.run_account.specs.Ran.{HaveWholeStreams, Ran, Told}
-use Rattle.run_account.proofs.AppLines.{one-value, is-there, found-there}
-use Rattle.run_account.proofs.Places.{get-within}
+use Rattle.card_feed.{specs.{Account.{kept_in}, Plan.{how_of}, declared.plan.Plan.{Plan}}, proofs.OfFlow.{there}}
+use Rattle.run_account.{specs.Ran.{HaveWholeStreams, Ran, Told}, proofs.{AppLines.{one-value, is-there, found-there}, Places.{get-within}}}
 
 -- one that hasn't written as many bytes as it was to didn't quit
 not-quit : (quit : Option ℕ) (written : ℕ) (stopped : Stopped) → Quits quit written stopped → quit ≢ Some written → stopped ≢ stop.Quit

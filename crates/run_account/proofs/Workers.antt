@@ -1,21 +1,13 @@
 -- A turn of an application goes on with its part of the run.
-use Rattle.std.proofs.Common.{◌≡◌, ◌≢◌, ℕ, ◌≤◌, ◌⊎◌, inl, inr, true, List, Option, refl, sym}
-use Rattle.std.proofs.Common.{◌∙◌, subst, arith}
-use Rattle.zr_kinds.specs.declared.behaviour.Behaviour.{Behaviour}
-use Rattle.zr_kinds.specs.declared.behaviour.Stopped.{Stopped}
+use Rattle.std.proofs.Common.{◌≡◌, ◌≢◌, ℕ, ◌≤◌, ◌⊎◌, inl, inr, true, List, Option, refl, sym, ◌∙◌, subst, arith}
+use Rattle.zr_kinds.specs.declared.behaviour.{Behaviour.{Behaviour}, Stopped.{Stopped}}
 use Rattle.zr_kinds.specs.declared.behaviour.Stopped.TheVariants as stop
 use Rattle.zr_kinds.specs.declared.fault.Fault.TheVariants as fault
 use Rattle.zr_io.specs.Moved.{Rose}
 use Rattle.board_face.specs.declared.views.app.AppView.{AppView}
-use Rattle.app_worker.specs.Marks.{FramesStandTogether}
-use Rattle.flow_queues.specs.Shelves.{AreShelved, AreFronts}
-use Rattle.app_worker.specs.State.{State}
-use Rattle.flow_queues.specs.Streams.{HasFronts, HasAll}
-use Rattle.app_worker.specs.Turns.{Answers, Turns}
-use Rattle.app_worker.specs.declared.turn.Turn.{Turn}
-use Rattle.app_worker.specs.declared.turn.Turn.TheVariants.{Failed, Finished}
-use Rattle.run_account.specs.Running.{WorkerRuns}
-use Rattle.run_account.specs.declared.run.Worker.{Worker}
+use Rattle.app_worker.specs.{Marks.{FramesStandTogether}, State.{State}, Turns.{Answers, Turns}, declared.turn.Turn.{Turn, TheVariants.{Failed, Finished}}}
+use Rattle.flow_queues.specs.{Shelves.{AreShelved, AreFronts}, Streams.{HasFronts, HasAll}}
+use Rattle.run_account.specs.{Running.{WorkerRuns}, declared.run.Worker.{Worker}}
 
 -- its shelf failed, or it didn't
 pub is-write : (s : Stopped) → (s ≡ stop.Write) ⊎ (s ≢ stop.Write)

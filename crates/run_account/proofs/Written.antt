@@ -1,30 +1,15 @@
 -- What an application wrote is what the lines of its flows say.
-use Rattle.std.proofs.Common.{◌≡◌, ◌≢◌, ℕ, suc, ◌+◌, ◌<◌, ◌≤◌, ◌==◌, if◌then◌else◌, List, [], ◌∷◌, length, map}
-use Rattle.std.proofs.Common.{true, false, Some}
-use Rattle.std.proofs.Common.{refl, sym, ap, subst, ◌∙◌, arith, ⊎_elim, All}
-use Rattle.std.specs.Prelude.{nat_eq}
-use Rattle.std.specs.List.{slice_get, sum_by, IsDistinct}
-use Rattle.std.proofs.lemmas.Bool.{cases_Bool, cases_eq, eq-eqb, eqb-true, ne_eqb}
-use Rattle.std.proofs.lemmas.List.Elements.{All-head, All-tail}
-use Rattle.std.proofs.lemmas.List.Quantifiers.{position-Some}
+use Rattle.std.proofs.Common.{◌≡◌, ◌≢◌, ℕ, suc, ◌+◌, ◌<◌, ◌≤◌, ◌==◌, if◌then◌else◌, List, [], ◌∷◌, length, map, true, false, Some}
+use Rattle.std.{proofs.Common.{refl, sym, ap, subst, ◌∙◌, arith, ⊎_elim, All}, specs.{Prelude.{nat_eq}, List.{slice_get, sum_by, IsDistinct}}}
+use Rattle.std.proofs.lemmas.{Bool.{cases_Bool, cases_eq, eq-eqb, eqb-true, ne_eqb}, List.{Elements.{All-head, All-tail}, Quantifiers.{position-Some}}}
 use Rattle.std.proofs.lemmas.Option.{slice_get_within}
 use Rattle.zr_kinds.specs.declared.outcome.FlowLine.{FlowLine}
-use Rattle.flow_table.specs.Flows.{Flow}
-use Rattle.flow_table.proofs.FlowLaws.{HaveApps}
-use Rattle.board_face.specs.Relay.{as_taken}
-use Rattle.board_face.specs.declared.views.nic.SentNote.{SentNote}
-use Rattle.board_face.specs.declared.views.app.TakenNote.{TakenNote}
-use Rattle.app_worker.specs.Marks.{numbered, of_flow}
-use Rattle.app_worker.specs.Core.{total, Each, own_notes}
-use Rattle.flow_queues.specs.Ends.{AppEnd, bytes_in, times}
-use Rattle.flow_queues.specs.Totals.{capped}
-use Rattle.card_feed.specs.Outcomes.{AreLinesOf, line_of as flow_line_of}
-use Rattle.card_feed.specs.Sent.{IsOfOwnFlow}
-use Rattle.card_feed.proofs.OfFlow.{there}
-use Rattle.run_account.specs.Ran.{AreCounts, written_to}
-use Rattle.run_account.proofs.AppLines.{one-value}
-use Rattle.run_account.proofs.FlowSums.{sum-by-place, bytes-by-number}
-use Rattle.run_account.proofs.Ports.{is-to-port}
+use Rattle.flow_table.{specs.Flows.{Flow}, proofs.FlowLaws.{HaveApps}}
+use Rattle.board_face.specs.{Relay.{as_taken}, declared.views.{nic.SentNote.{SentNote}, app.TakenNote.{TakenNote}}}
+use Rattle.app_worker.specs.{Marks.{numbered, of_flow}, Core.{total, Each, own_notes}}
+use Rattle.flow_queues.specs.{Ends.{AppEnd, bytes_in, times}, Totals.{capped}}
+use Rattle.card_feed.{specs.{Outcomes.{AreLinesOf, line_of as flow_line_of}, Sent.{IsOfOwnFlow}}, proofs.OfFlow.{there}}
+use Rattle.run_account.{specs.Ran.{AreCounts, written_to}, proofs.{AppLines.{one-value}, FlowSums.{sum-by-place, bytes-by-number}, Ports.{is-to-port}}}
 
 -- the number is that of a flow of this application
 pub record IsOwn (flows : List Flow) (a number : ℕ) : Type 0 where

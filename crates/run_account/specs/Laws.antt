@@ -1,14 +1,9 @@
 -- What the turns of a run come to, once all is over at its board.
 use Rattle.std.specs.Prelude.{◌≡◌, ℕ, List, Option}
-use Rattle.board_face.specs.Ended.{HaveEnded}
-use Rattle.board_face.specs.declared.views.nic.NicSide.{NicSide}
-use Rattle.board_face.specs.declared.views.app.AppSide.{AppSide}
+use Rattle.board_face.specs.{Ended.{HaveEnded}, declared.views.{nic.NicSide.{NicSide}, app.AppSide.{AppSide}}}
 use Rattle.flow_queues.specs.Ends.{AppEnd}
-use Rattle.card_feed.specs.Feed.{FeedState, end_of}
-use Rattle.card_feed.specs.declared.outcome.Outcome.{Outcome}
-use Rattle.card_feed.specs.declared.plan.Plan.{Plan}
-use Rattle.run_account.specs.Ran.{Ran, TellsOfEnds, Told, told_of}
-use Rattle.run_account.specs.Running.{HasRun}
+use Rattle.card_feed.specs.{Feed.{FeedState, end_of}, declared.{outcome.Outcome.{Outcome}, plan.Plan.{Plan}}}
+use Rattle.run_account.specs.{Ran.{Ran, TellsOfEnds, Told, told_of}, Running.{HasRun}}
 
 -- The outcome that is told is that of the run.
 abbrev pub RunsEndWell : {S T : Type 0} → (S → Option (List ℕ)) → (S → ℕ) → (T → ℕ → Option (List ℕ)) → (T → ℕ) → Type 0

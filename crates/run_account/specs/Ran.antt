@@ -1,44 +1,19 @@
 -- What a run leaves: the streams on their shelves, what its outcome says, and roles that account for it. It is over the sides of the
 -- roles alone, so it is the same for every board.
-use Rattle.std.specs.Prelude.{◌≡◌, ◌≢◌, ℕ, ◌-◌, ◌*◌, ◌^◌, ◌≤◌, ◌==◌, min, ◌⊎◌}
-use Rattle.std.specs.Prelude.{if◌then◌else◌, List, [], ◌∷◌, ◌++◌, length, drop, sum_by, count_by}
-use Rattle.std.specs.Prelude.{Option, Some, None, option_map}
-use Rattle.std.specs.List.{slice_get}
-use Rattle.std.specs.Option.{is_some}
-use Rattle.std.specs.Io.KnownBytes.{Keeps}
-use Rattle.zr_kinds.specs.declared.behaviour.Behaviour.{Behaviour}
-use Rattle.zr_kinds.specs.declared.behaviour.Stopped.{Stopped}
+use Rattle.std.specs.Prelude.{◌≡◌, ◌≢◌, ℕ, ◌-◌, ◌*◌, ◌^◌, ◌≤◌, ◌==◌, min, ◌⊎◌, if◌then◌else◌, List, [], ◌∷◌, ◌++◌, length, drop, sum_by, count_by}
+use Rattle.std.specs.{Prelude.{Option, Some, None, option_map}, List.{slice_get}, Option.{is_some}, Io.KnownBytes.{Keeps}}
+use Rattle.zr_kinds.specs.declared.{behaviour.{Behaviour.{Behaviour}, Stopped.{Stopped}}, fault.Fault.{Fault, TheVariants.{Memory, TooManyFlows}}}
+use Rattle.zr_kinds.specs.declared.outcome.{AppLine.{AppLine}, FlowLine.{FlowLine}, PoolStats.{PoolStats}, Tally.{Tally}}
 use Rattle.zr_kinds.specs.declared.behaviour.Stopped.TheVariants as stop
-use Rattle.zr_kinds.specs.declared.fault.Fault.{Fault}
-use Rattle.zr_kinds.specs.declared.fault.Fault.TheVariants.{Memory, TooManyFlows}
-use Rattle.zr_kinds.specs.declared.outcome.AppLine.{AppLine}
-use Rattle.zr_kinds.specs.declared.outcome.FlowLine.{FlowLine}
-use Rattle.zr_kinds.specs.declared.outcome.PoolStats.{PoolStats}
-use Rattle.zr_kinds.specs.declared.outcome.Tally.{Tally}
 use Rattle.zr_io.specs.Moved.{Rose, Gained, Took}
-use Rattle.flow_table.specs.Flows.{Flow, flows_of}
-use Rattle.flow_table.specs.Stream.{stream_of}
-use Rattle.frames_read.specs.Ending.{steered_in}
-use Rattle.frames_read.specs.Reading.{HasEnded}
-use Rattle.frames_read.specs.Tally.{tally_of}
-use Rattle.board_face.specs.Ended.{HaveEnded}
-use Rattle.board_face.specs.Sides.{side_in}
-use Rattle.board_face.specs.declared.views.nic.NicSide.{NicSide}
-use Rattle.board_face.specs.declared.views.app.AppSide.{AppSide}
-use Rattle.board_face.specs.declared.views.app.AppView.{AppView}
-use Rattle.flow_queues.specs.Ends.{AppEnd, IsTorn, bytes_in}
-use Rattle.flow_queues.specs.Totals.{Quits}
-use Rattle.card_feed.specs.Account.{AccountsFor, kept_in}
-use Rattle.card_feed.specs.Counts.{begins_fresh, found_in, long_in, searches_in}
-use Rattle.card_feed.specs.Feed.{FeedState}
-use Rattle.card_feed.specs.Need.{RefusesByNeed}
-use Rattle.card_feed.specs.Offered.{AreRefused, WantsRoom, offers_of}
-use Rattle.card_feed.specs.Outcomes.{IsOutcomeOf, flow_end}
-use Rattle.card_feed.specs.declared.outcome.Outcome.{Outcome}
-use Rattle.card_feed.specs.declared.plan.Plan.{Plan}
+use Rattle.flow_table.specs.{Flows.{Flow, flows_of}, Stream.{stream_of}}
+use Rattle.frames_read.specs.{Ending.{steered_in}, Reading.{HasEnded}, Tally.{tally_of}}
+use Rattle.board_face.specs.{Ended.{HaveEnded}, Sides.{side_in}, declared.views.{nic.NicSide.{NicSide}, app.{AppSide.{AppSide}, AppView.{AppView}}}}
+use Rattle.flow_queues.specs.{Ends.{AppEnd, IsTorn, bytes_in}, Totals.{Quits}}
+use Rattle.card_feed.specs.{Account.{AccountsFor, kept_in}, Counts.{begins_fresh, found_in, long_in, searches_in}, Feed.{FeedState}, Need.{RefusesByNeed}}
+use Rattle.card_feed.specs.{Offered.{AreRefused, WantsRoom, offers_of}, Outcomes.{IsOutcomeOf, flow_end}, declared.{outcome.Outcome.{Outcome}, plan.Plan.{Plan}}}
 use Rattle.card_feed.specs.Plan.{how_of}
-use Rattle.run_account.specs.Running.{ends_of, losses_in}
-use Rattle.run_account.specs.declared.run.Run.{Run}
+use Rattle.run_account.specs.{Running.{ends_of, losses_in}, declared.run.Run.{Run}}
 
 -- what holds of something that is there
 abbrev pub There : {A : Type 0} → Option A → (A → Type 0) → Type 0

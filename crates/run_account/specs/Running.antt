@@ -1,30 +1,14 @@
 -- What the roles of a run keep, and how that stands to their sides and to what was read, sent and written since the first turn. It is
 -- over the sides of the roles alone, so it is the same for every board.
-use Rattle.std.specs.Prelude.{◌≡◌, ◌≢◌, ℕ, ◌<◌, ◌≤◌, true, false, List, All, length, map, drop, Option, Some, None, option_map}
-use Rattle.std.specs.List.{slice_get}
-use Rattle.zr_kinds.specs.Limits.{most_records}
-use Rattle.zr_kinds.specs.declared.behaviour.Behaviour.{Behaviour}
+use Rattle.std.specs.{Prelude.{◌≡◌, ◌≢◌, ℕ, ◌<◌, ◌≤◌, true, false, List, All, length, map, drop, Option, Some, None, option_map}, List.{slice_get}}
+use Rattle.zr_kinds.specs.{Limits.{most_records}, declared.behaviour.Behaviour.{Behaviour}}
 use Rattle.zr_kinds.specs.declared.behaviour.Stopped.TheVariants as stop
 use Rattle.zr_io.specs.Moved.{Rose}
-use Rattle.board_face.specs.AppCalls.{IsHere}
-use Rattle.board_face.specs.Sides.{side_in}
-use Rattle.board_face.specs.declared.views.nic.NicSide.{NicSide}
-use Rattle.board_face.specs.declared.views.app.AppSide.{AppSide}
-use Rattle.board_face.specs.declared.views.app.AppView.{AppView}
-use Rattle.flow_queues.specs.Ends.{AppEnd, HasLeft}
-use Rattle.app_worker.specs.StateOf.{end_of}
-use Rattle.app_worker.specs.Kept.{new_state, IsFresh}
-use Rattle.app_worker.specs.Marks.{FramesStandTogether}
-use Rattle.flow_queues.specs.Shelves.{AreShelved, AreFronts}
-use Rattle.flow_queues.specs.Returned.{HasReturned}
-use Rattle.app_worker.specs.State.{AppStands}
-use Rattle.flow_queues.specs.Streams.{HasFronts, HasAll}
-use Rattle.card_feed.specs.Account.{kept_in}
-use Rattle.card_feed.specs.Feed.{FeedState, IsReady, FeedStands}
-use Rattle.card_feed.specs.Plan.{IsPlan, TakesTurns, layout_of, how_of}
-use Rattle.card_feed.specs.declared.plan.Plan.{Plan}
-use Rattle.run_account.specs.declared.run.Run.{Run}
-use Rattle.run_account.specs.declared.run.Worker.{Worker}
+use Rattle.board_face.specs.{AppCalls.{IsHere}, Sides.{side_in}, declared.views.{nic.NicSide.{NicSide}, app.{AppSide.{AppSide}, AppView.{AppView}}}}
+use Rattle.flow_queues.specs.{Ends.{AppEnd, HasLeft}, Shelves.{AreShelved, AreFronts}, Returned.{HasReturned}, Streams.{HasFronts, HasAll}}
+use Rattle.app_worker.specs.{StateOf.{end_of}, Kept.{new_state, IsFresh}, Marks.{FramesStandTogether}, State.{AppStands}}
+use Rattle.card_feed.specs.{Account.{kept_in}, Feed.{FeedState, IsReady, FeedStands}, Plan.{IsPlan, TakesTurns, layout_of, how_of}, declared.plan.Plan.{Plan}}
+use Rattle.run_account.specs.declared.run.{Run.{Run}, Worker.{Worker}}
 
 -- how often the shelf of an application has failed
 abbrev pub losses_or : Option ℕ → ℕ

@@ -1,10 +1,6 @@
 -- What a list's items are read as, one after another.
 use Rattle.std.proofs.Common.{◌≡◌, ◌∙◌, ℕ, ◌+◌, ◌++◌, ◌<◌, ◌≤◌, List, [], ◌∷◌, length, drop, map, get_or, Option, Some, None, option_map, refl, sym, ap}
-use Rattle.std.proofs.Common.{add-one, append_assoc, append-nil}
-use Rattle.std.proofs.Math.Seq.{drop-cons}
-use Rattle.std.proofs.lemmas.List.{drop_all}
-use Rattle.std.specs.Borrow.{Bor}
-use Rattle.std.specs.Prelude.{option_and_then}
+use Rattle.std.{proofs.{Common.{add-one, append_assoc, append-nil}, Math.Seq.{drop-cons}, lemmas.List.{drop_all}}, specs.{Borrow.{Bor}, Prelude.{option_and_then}}}
 use Rattle.run_check.specs.Reading.{all_of}
 
 abbrev pub first_then : {B : Type 0} → Option B → Option (List B) → Option (List B)

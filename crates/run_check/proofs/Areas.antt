@@ -1,6 +1,5 @@
 -- What is tested of areas.
-use Rattle.std.proofs.Common.{ℕ, ◌<◌, ◌≤◌, List, length, All, Bool, true, false, IsTrue, arith, refl, suc, [], ◌∷◌, if◌then◌else◌, ltb, ◌-◌}
-use Rattle.std.specs.Bool.{MatchBool}
+use Rattle.std.{proofs.Common.{ℕ, ◌<◌, ◌≤◌, List, length, All, Bool, true, false, IsTrue, arith, refl, suc, [], ◌∷◌, if◌then◌else◌, ltb, ◌-◌}, specs.Bool.{MatchBool}}
 use Rattle.std.specs.List.{AllWithin, HoldsAt}
 use Rattle.run_records.specs.Setting.{IsArea, first_size, size_among, size_of_buffer}
 

@@ -1,29 +1,19 @@
 -- What the calls of a buffer make of its holders.
 use Rattle.std.proofs.Common.{◌≡◌, ◌∙◌, ℕ, ◌+◌, ◌-◌, ◌*◌, ◌++◌, ◌<◌, ◌≤◌, List, [], ◌∷◌, length, if◌then◌else◌, eqb, ltb, get_or, set, replicate, zero, suc, Bool, true, false, not}
-use Rattle.std.proofs.Common.{◌&&◌, Option, Some, refl, sym, ap, subst, arith, ⊎_elim, length-append, get_or-set_same}
-use Rattle.std.proofs.lemmas.List.{nil_from_length, length-set}
-use Rattle.std.specs.Ordering.{nat_cmp}
-use Rattle.std.specs.Map.{lookup, remove_entry}
-use Rattle.std.specs.BTreeMap.{BTreeMap, insert_entry, is_at}
-use Rattle.std.specs.List.{list_any, list_all}
-use Rattle.std.specs.Prelude.{filter, ◌==◌, ◌%◌}
+use Rattle.std.proofs.{Common.{◌&&◌, Option, Some, refl, sym, ap, subst, arith, ⊎_elim, length-append, get_or-set_same}, lemmas.List.{nil_from_length, length-set}}
+use Rattle.std.specs.{Ordering.{nat_cmp}, Map.{lookup, remove_entry}, BTreeMap.{BTreeMap, insert_entry, is_at}, List.{list_any, list_all}, Prelude.{filter, ◌==◌, ◌%◌}}
 use Rattle.std.proofs.lemmas.Bool.{and_parts, cases_Bool, eq-eqb, le-ltb, lt-ltb, ltb-true}
-use Rattle.run_records.specs.declared.holding.Holding.{Holding}
+use Rattle.run_records.specs.{declared.holding.Holding.{Holding}, Holders.{becomes, is_apart, is_same, is_user, only_if}}
+use Rattle.run_records.proofs.Weighing.{Moves, one_if, weight-append, weight-count, weight-length}
 use Rattle.run_records.specs.declared.holding.Holding.TheVariants as holding
-use Rattle.run_records.specs.Holders.{becomes, is_apart, is_same, is_user, only_if}
-use Rattle.run_check.specs.declared.buffer.Buffer.TheInside.{Inside}
-use Rattle.run_check.specs.declared.buffer.Keeper.{Keeper}
-use Rattle.run_check.specs.declared.buffer.Keeper.TheVariants as keeper
-use Rattle.run_check.specs.declared.places.Hand.{Hand}
-use Rattle.run_check.specs.declared.places.Hand.TheVariants as hand
-use Rattle.run_check.specs.declared.places.OwnedPlace.{OwnedPlace}
-use Rattle.run_check.specs.Holding.{Changes, can_place, weight}
-use Rattle.run_check.specs.Places.{AreApart, IsNoLoan, all_placed, held_by}
+use Rattle.run_check.specs.declared.{buffer.{Buffer.TheInside.{Inside}, Keeper.{Keeper}}, places.{Hand.{Hand}, OwnedPlace.{OwnedPlace}}}
+use Rattle.run_check.specs.{Holding.{Changes, can_place, weight}, Places.{AreApart, IsNoLoan, all_placed, held_by}}
 use Rattle.run_check.specs.Buffer.{IsSoundBuffer, LeavesNoPlace, holders_in, kept_by, owed_from}
 use Rattle.run_check.proofs.Placing.{apart-put, apart-set, apart-take, found_some, free_there, rest_free, weight-put, weight-set, weight-take}
 use Rattle.run_check.proofs.Viewing.{alone_there, any-own, any-owed, any-place, any-spare, card_is, counted, owed_few, owed_fewer, owed_more, spare_is, there_found, users_fewer, users_more, view, weight-view}
-use Rattle.run_records.proofs.Weighing.{Moves, one_if, weight-append, weight-count, weight-length}
 use Rattle.run_check.proofs.Weighing.{becomes_now, none_becomes, weight-absent, weight-one_if, weight-kept, weight-replicate, without}
+use Rattle.run_check.specs.declared.buffer.Keeper.TheVariants as keeper
+use Rattle.run_check.specs.declared.places.Hand.TheVariants as hand
 
 -- what a call owes: its counts and places are right, and the holders are what they become
 pub record IsDone (b : Inside) (becoming : Option (List Holding)) : Type 0 where

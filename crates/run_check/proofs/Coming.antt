@@ -1,9 +1,6 @@
 -- What is read of a line, byte by byte.
 use Rattle.std.proofs.Common.{◌≡◌, ℕ, ◌<◌, ◌∙◌, List, [], ◌∷◌, ◌++◌, length, get_or, Option, Some, None, IfSome, sym, ap, append-nil, length-append, arith, ⊎_elim}
-use Rattle.std.proofs.lemmas.Bool.{cases_lt}
-use Rattle.std.proofs.lemmas.List.{get_or_append_left}
-use Rattle.std.proofs.Math.Seq.{get_or-append_seam}
-use Rattle.std.specs.Io.KnownBytes.{Consumes, IsAtEnd}
+use Rattle.std.{proofs.{lemmas.{Bool.{cases_lt}, List.{get_or_append_left}}, Math.Seq.{get_or-append_seam}}, specs.Io.KnownBytes.{Consumes, IsAtEnd}}
 use Rattle.run_records.specs.RunText.{Text}
 use Rattle.run_check.specs.Coming.{IsOneLine, HasNoLine}
 

@@ -1,20 +1,11 @@
 -- How the reading of a record's lines goes on and ends.
 use Rattle.std.proofs.Common.{◌≡◌, ◌∙◌, ℕ, ◌+◌, ◌++◌, ◌≤◌, List, [], ◌∷◌, length, map, All, Bool, true, false, refl, sym, ap, subst, arith, ◌⊎◌, ⊎_elim}
 use Rattle.std.proofs.Common.{Some, None, IsTrue, append_assoc, append-nil, length-append, zero, suc}
-use Rattle.run_records.specs.declared.event.Event.{Event}
-use Rattle.run_records.specs.Setting.{most_events, IsArea, IsSetting, Setting}
-use Rattle.run_records.specs.Holders.{Holdings, after, no_holdings}
-use Rattle.run_records.specs.LegalRun.{IsLegalRun}
-use Rattle.run_records.specs.RunText.{Text, last_line, line_of, run_line, text_of_lines}
-use Rattle.run_records.proofs.Following.{all_after-more, small-more}
-use Rattle.run_check.specs.declared.checking.Checked.TheVariants.{Yes, No}
-use Rattle.run_check.specs.Coming.{HasNoLine, IsOneLine}
-use Rattle.run_check.specs.Judged.{BeginARun, Judges}
-use Rattle.run_check.specs.Reading.{event_of}
-use Rattle.run_check.proofs.Going.{IsLegalSoFar, MayFollow, not_last}
-use Rattle.run_check.proofs.Judging.{bad_line, more_behind, no_run, same_line, whole_run}
-use Rattle.run_check.proofs.LineText.{event_of-line_of, line_of-event_of}
-use Rattle.run_check.proofs.Short.{last_line-short, line_of-short}
+use Rattle.run_records.specs.{declared.event.Event.{Event}, Setting.{most_events, IsArea, IsSetting, Setting}, Holders.{Holdings, after, no_holdings}}
+use Rattle.run_records.{specs.{LegalRun.{IsLegalRun}, RunText.{Text, last_line, line_of, run_line, text_of_lines}}, proofs.Following.{all_after-more, small-more}}
+use Rattle.run_check.specs.{declared.checking.Checked.TheVariants.{Yes, No}, Coming.{HasNoLine, IsOneLine}, Judged.{BeginARun, Judges}, Reading.{event_of}}
+use Rattle.run_check.proofs.{Going.{IsLegalSoFar, MayFollow, not_last}, Judging.{bad_line, more_behind, no_run, same_line, whole_run}}
+use Rattle.run_check.proofs.{LineText.{event_of-line_of, line_of-event_of}, Short.{last_line-short, line_of-short}}
 
 -- so many events were read of the bytes behind the first line, and these are the holders after them
 pub record HasCome (s : Setting) (start rest : List ℕ) (h : Holdings) (count : ℕ) : Type 0 where

@@ -1,20 +1,11 @@
 -- What an event makes of the holders of all buffers.
 use Rattle.std.proofs.Common.{◌≡◌, ◌∙◌, ℕ, zero, suc, ◌+◌, ◌++◌, ◌<◌, ◌≤◌, List, [], ◌∷◌, length, set, get_or, Bool, true, false}
-use Rattle.std.proofs.Common.{Some, None, refl, sym, ap, arith, IsTrue, ⊎_elim}
-use Rattle.std.proofs.lemmas.List.{get_or_default, get_or-set_same, get_or-set_other, nil_from_length}
-use Rattle.std.specs.Bool.{MatchBool}
-use Rattle.std.specs.List.{AllWithin, HoldsAt}
-use Rattle.std.proofs.lemmas.Bool.{cases_eq, eq-eqb, ne_eqb}
-use Rattle.std.proofs.lemmas.Bool.Decides.{nat_tests}
-use Rattle.run_records.specs.declared.holding.Holding.{Holding}
-use Rattle.run_records.specs.declared.event.Event.{Event}
+use Rattle.std.proofs.{Common.{Some, None, refl, sym, ap, arith, IsTrue, ⊎_elim}, lemmas.List.{get_or_default, get_or-set_same, get_or-set_other, nil_from_length}}
+use Rattle.std.{specs.{Bool.{MatchBool}, List.{AllWithin, HoldsAt}}, proofs.lemmas.Bool.{cases_eq, eq-eqb, ne_eqb, Decides.{nat_tests}}}
+use Rattle.run_records.specs.{declared.{holding.Holding.{Holding}, event.Event.{Event}}, Setting.{IsSetting, Setting, total_buffers}}
+use Rattle.run_records.specs.{Holders.{Holdings, after, buffer_of, changed, has_counts, is_in_range, only_if, with_holders}, EventFields.{bytes_of}}
 use Rattle.run_records.specs.declared.event.Event.TheVariants as event
-use Rattle.run_records.specs.Setting.{IsSetting, Setting, total_buffers}
-use Rattle.run_records.specs.Holders.{Holdings, after, buffer_of, changed, has_counts, is_in_range, only_if, with_holders}
-use Rattle.run_records.specs.EventFields.{bytes_of}
-use Rattle.run_check.specs.Holding.{Changes, HasChanged, HasSmallApp, SameHolders, SameHoldings, holdings_of, weight}
-use Rattle.run_check.proofs.Areas.{size_most}
-use Rattle.run_check.proofs.Alike.{counts-same}
+use Rattle.run_check.{specs.Holding.{Changes, HasChanged, HasSmallApp, SameHolders, SameHoldings, holdings_of, weight}, proofs.{Areas.{size_most}, Alike.{counts-same}}}
 
 -- ---- the holders of all buffers
 

@@ -1,16 +1,9 @@
 -- What may follow the lines of a run that is legal so far.
 use Rattle.std.proofs.Common.{◌≡◌, ◌∙◌, ◌+◌, ◌++◌, ◌≤◌, List, [], ◌∷◌, length, map, Bool, false, refl, sym, ap, subst, arith, ◌⊎◌, inl, inr, ⊎_elim}
-use Rattle.std.proofs.Common.{Some, None, append_assoc, length-append}
-use Rattle.std.specs.List.{AllByRecursion}
-use Rattle.run_records.specs.declared.event.Event.{Event}
-use Rattle.run_records.specs.Setting.{most_events, IsSetting, Setting}
-use Rattle.run_records.specs.Holders.{Holdings, after, all_after, no_holdings}
-use Rattle.run_records.specs.LegalRun.{HasSmallNumbers, IsLegalRun}
-use Rattle.run_records.specs.RunText.{Text, last_line, line_of, lines_of, run_line}
-use Rattle.run_records.proofs.Following.{some_from}
-use Rattle.run_check.specs.Judged.{BeginARun}
-use Rattle.run_check.specs.Reading.{event_of, setting_of}
-use Rattle.run_check.proofs.LineText.{event_of-line_of, last_line-no_event}
+use Rattle.std.{proofs.Common.{Some, None, append_assoc, length-append}, specs.List.{AllByRecursion}}
+use Rattle.run_records.specs.{declared.event.Event.{Event}, Setting.{most_events, IsSetting, Setting}, Holders.{Holdings, after, all_after, no_holdings}}
+use Rattle.run_records.{specs.{LegalRun.{HasSmallNumbers, IsLegalRun}, RunText.{Text, last_line, line_of, lines_of, run_line}}, proofs.Following.{some_from}}
+use Rattle.run_check.{specs.{Judged.{BeginARun}, Reading.{event_of, setting_of}}, proofs.LineText.{event_of-line_of, last_line-no_event}}
 use Rattle.run_check.proofs.SettingText.{setting_of-run_line}
 
 -- the events of a run so far

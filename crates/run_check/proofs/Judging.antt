@@ -1,19 +1,10 @@
 -- What is said of bytes, by the lines that a legal run may have.
 use Rattle.std.proofs.Common.{◌≡◌, ◌∙◌, ℕ, ◌+◌, ◌++◌, List, [], ◌∷◌, length, map, get_or, Bool, refl, sym, ap, subst, arith}
-use Rattle.std.proofs.Common.{append_assoc, append-nil, length-append, suc}
-use Rattle.std.specs.List.{AllByRecursion}
-use Rattle.std.proofs.lemmas.Bool.{eqb-false}
-use Rattle.run_records.specs.declared.event.Event.{Event}
-use Rattle.run_records.specs.Setting.{Setting}
-use Rattle.run_records.specs.Holders.{Holdings}
-use Rattle.run_records.specs.LegalRun.{HasSmallNumbers, IsLegalRun}
+use Rattle.std.{proofs.{Common.{append_assoc, append-nil, length-append, suc}, lemmas.Bool.{eqb-false}}, specs.List.{AllByRecursion}}
+use Rattle.run_records.specs.{declared.event.Event.{Event}, Setting.{Setting}, Holders.{Holdings}, LegalRun.{HasSmallNumbers, IsLegalRun}}
 use Rattle.run_records.specs.RunText.{Text, last_line, line_of, lines_of, run_line, text_of_lines}
-use Rattle.run_check.specs.declared.checking.Checked.TheVariants.{Yes, No}
-use Rattle.run_check.specs.Judged.{AreOfRun, BeginARun, IsRunText, Judges}
-use Rattle.run_check.specs.Coming.{IsOneLine}
-use Rattle.run_check.proofs.Going.{IsLegalSoFar, MayFollow, followed, goes_on, not_last, nothing_follows}
-use Rattle.run_check.proofs.LineText.{last_line-one, line_of-one}
-use Rattle.run_check.proofs.Parting.{Lacks}
+use Rattle.run_check.specs.{declared.checking.Checked.TheVariants.{Yes, No}, Judged.{AreOfRun, BeginARun, IsRunText, Judges}, Coming.{IsOneLine}}
+use Rattle.run_check.proofs.{Going.{IsLegalSoFar, MayFollow, followed, goes_on, not_last, nothing_follows}, LineText.{last_line-one, line_of-one}, Parting.{Lacks}}
 use Rattle.run_check.proofs.SettingText.{run_line-one}
 
 -- ---- one line after another

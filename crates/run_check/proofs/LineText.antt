@@ -1,18 +1,10 @@
 -- The lines of a record and what is read of them.
-use Rattle.std.proofs.Common.{◌≡◌, ◌∙◌, ℕ, ◌<◌, ◌^◌, List, [], ◌∷◌, map, Bool, true, false, refl, sym, ap, subst, rules, inl}
-use Rattle.std.proofs.Common.{Option, Some, None, lit<}
-use Rattle.std.specs.Prelude.{if◌then◌else◌, option_and_then, codes}
-use Rattle.std.specs.Fmt.{decimal}
-use Rattle.std.specs.List.{AllByRecursion, join_with_byte}
-use Rattle.std.specs.Str.{bytes_eq}
-use Rattle.std.proofs.lemmas.Slice.Eq.{bytes_eq-Decides}
-use Rattle.std.proofs.lemmas.List.Splits.{join_with_byte-slice_split}
-use Rattle.run_records.specs.declared.event.Event.{Event}
+use Rattle.std.proofs.Common.{◌≡◌, ◌∙◌, ℕ, ◌<◌, ◌^◌, List, [], ◌∷◌, map, Bool, true, false, refl, sym, ap, subst, rules, inl, Option, Some, None, lit<}
+use Rattle.std.specs.{Prelude.{if◌then◌else◌, option_and_then, codes}, Fmt.{decimal}, List.{AllByRecursion, join_with_byte}, Str.{bytes_eq}}
+use Rattle.std.proofs.lemmas.{Slice.Eq.{bytes_eq-Decides}, List.Splits.{join_with_byte-slice_split}}
+use Rattle.run_records.specs.{declared.event.Event.{Event}, LegalRun.{HasSmallNumbers}, RunText.{Text, last_line, line_of, name_of, numbers_of}}
 use Rattle.run_records.specs.declared.event.Event.TheVariants as event
-use Rattle.run_records.specs.LegalRun.{HasSmallNumbers}
-use Rattle.run_records.specs.RunText.{Text, last_line, line_of, name_of, numbers_of}
-use Rattle.run_check.specs.Reading.{all_numbers, event_by, event_from, event_of, parts_of}
-use Rattle.run_check.proofs.Numerals.{all_numbers-decimal, decimal-all_numbers}
+use Rattle.run_check.{specs.Reading.{all_numbers, event_by, event_from, event_of, parts_of}, proofs.Numerals.{all_numbers-decimal, decimal-all_numbers}}
 use Rattle.run_check.proofs.Parting.{Lacks, lack_decimals, lacks_from_test, lacks_joined, parts_of-joined}
 
 -- ---- an event's line is read as the event

@@ -1,18 +1,11 @@
 -- Numbers as words: what is read of a word is what is written of a number.
 use Rattle.std.proofs.Common.{◌≡◌, ℕ, ◌+◌, ◌-◌, ◌*◌, ◌<◌, ◌≤◌, ◌^◌, ◌∙◌, List, [], ◌∷◌, length, take, get_or, Bool, true, false, refl, sym, ap}
-use Rattle.std.proofs.Common.{Some, None, if◌then◌else◌, arith, rules, zero, suc, lit<, lit≤}
-use Rattle.std.specs.Prelude.{map, ◌&&◌, ◌||◌, nat_lt, nat_le, ◌==◌}
-use Rattle.std.specs.Char.{is_ascii_digit, digit_value}
-use Rattle.std.specs.Fmt.{decimal}
-use Rattle.std.specs.List.{list_all, AllByRecursion}
-use Rattle.std.specs.Str.Parse.{digits_value}
-use Rattle.std.proofs.lemmas.Bool.{false≢true}
-use Rattle.std.proofs.lemmas.Bool.Decides.{nat_tests}
-use Rattle.std.proofs.lemmas.Int.Digits.{digits_value_more}
+use Rattle.std.{proofs.Common.{Some, None, if◌then◌else◌, arith, rules, zero, suc, lit<, lit≤}, specs.Prelude.{map, ◌&&◌, ◌||◌, nat_lt, nat_le, ◌==◌}}
+use Rattle.std.{specs.{Char.{is_ascii_digit, digit_value}, Fmt.{decimal}, List.{list_all, AllByRecursion}, Str.Parse.{digits_value}}, proofs.lemmas.Bool.{false≢true}}
+use Rattle.std.proofs.lemmas.{Bool.Decides.{nat_tests}, Int.Digits.{digits_value_more}}
 use Rattle.std.proofs.lemmas.Fmt.{decimal-digits_value, digits_decimal, digits_value-decimal, decimal_nonempty, first_decimal, length-decimal-le, decimal_digit}
 use Rattle.std.proofs.lemmas.Str.Parse.{IsNumeralModel, numerals_by_value, digits_value_short, digits_value-take-le, digit_at}
-use Rattle.run_check.specs.Reading.{is_numeral, number_of, all_numbers}
-use Rattle.run_check.proofs.AllOf.{first_and_rest}
+use Rattle.run_check.{specs.Reading.{is_numeral, number_of, all_numbers}, proofs.AllOf.{first_and_rest}}
 
 pub own : IsNumeralModel (λ word. list_all is_ascii_digit word ≡ true) (digits_value 10)
 own = numerals_by_value _ (search rules)

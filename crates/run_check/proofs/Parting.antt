@@ -1,16 +1,9 @@
 -- Words that a byte parts, and lists of such words.
 use Rattle.std.proofs.Common.{◌≡◌, ◌∙◌, ℕ, ◌<◌, ◌^◌, List, [], ◌∷◌, map, get_or, All, Bool, true, false, refl, ap, arith, not, ◌⊎◌, ⊎_elim}
-use Rattle.std.proofs.lemmas.Grind.{get_or_default_zero}
-use Rattle.std.specs.Prelude.{◌==◌, ◌&&◌}
-use Rattle.std.specs.Fmt.{decimal}
-use Rattle.std.specs.List.{AllByRecursion, join_with_byte, list_all}
-use Rattle.std.proofs.lemmas.Bool.Decides.{nat_tests}
-use Rattle.std.proofs.lemmas.List.Splits.{slice_split_none, slice_split_at}
-use Rattle.std.proofs.lemmas.List.Elements.{All-append, All-cons}
-use Rattle.std.proofs.lemmas.Fmt.{digits_decimal}
+use Rattle.std.{proofs.lemmas.Grind.{get_or_default_zero}, specs.{Prelude.{◌==◌, ◌&&◌}, Fmt.{decimal}, List.{AllByRecursion, join_with_byte, list_all}}}
+use Rattle.std.proofs.lemmas.{Bool.Decides.{nat_tests}, List.{Splits.{slice_split_none, slice_split_at}, Elements.{All-append, All-cons}}, Fmt.{digits_decimal}}
 use Rattle.std.proofs.lemmas.Str.Parse.{digit_at}
-use Rattle.run_check.specs.Reading.{parts_of}
-use Rattle.run_check.proofs.Numerals.{AreSmall, own}
+use Rattle.run_check.{specs.Reading.{parts_of}, proofs.Numerals.{AreSmall, own}}
 
 -- the text has no such byte
 abbrev pub Lacks : ℕ → List ℕ → Type 0

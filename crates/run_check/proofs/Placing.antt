@@ -1,22 +1,12 @@
 -- The places of a buffer: which are there, what overlaps, and what the map has once one is put in or taken out.
 use Rattle.std.proofs.Common.{◌≡◌, ◌∙◌, ℕ, ◌+◌, ◌++◌, ◌<◌, ◌≤◌, List, [], ◌∷◌, leb, ltb, eqb, filter, Bool, true, false, ◌||◌, ◌&&◌, ◌⊎◌, refl, sym, ap, subst}
-use Rattle.std.proofs.Common.{⊎_elim, inl, inr, arith, Some, None}
-use Rattle.std.specs.Ordering.{nat_cmp}
-use Rattle.std.specs.declared.cmp.Ordering.TheVariants.{Less, Equal, Greater}
-use Rattle.std.specs.Map.{lookup, remove_entry}
-use Rattle.std.specs.BTreeMap.{insert_entry, is_at}
-use Rattle.std.specs.BTreeMap.Range.{range_contains}
-use Rattle.std.specs.declared.ops.Bound.TheVariants.{Excluded, Unbounded}
-use Rattle.std.specs.List.{list_any, list_all}
-use Rattle.std.proofs.lemmas.Bool.Decides.{nat_tests}
+use Rattle.std.{proofs.Common.{⊎_elim, inl, inr, arith, Some, None}, specs.{Ordering.{nat_cmp}, declared.cmp.Ordering.TheVariants.{Less, Equal, Greater}}}
+use Rattle.std.specs.{Map.{lookup, remove_entry}, BTreeMap.{insert_entry, is_at, Range.{range_contains}}, declared.ops.Bound.TheVariants.{Excluded, Unbounded}}
+use Rattle.std.{specs.List.{list_any, list_all}, proofs.lemmas.Bool.Decides.{nat_tests}}
 use Rattle.std.proofs.lemmas.Bool.{cases_Bool, cases_lt, cases_eq, eq-eqb, ne_eqb, le-leb, lt-leb, leb-true, lt-ltb, le-ltb, and_parts}
-use Rattle.run_records.specs.declared.holding.Holding.{Holding}
-use Rattle.run_records.specs.Holders.{is_apart, is_same}
-use Rattle.run_check.specs.declared.places.Hand.{Hand}
+use Rattle.run_records.specs.{declared.holding.Holding.{Holding}, Holders.{is_apart, is_same}}
+use Rattle.run_check.specs.{declared.places.{Hand.{Hand}, OwnedPlace.{OwnedPlace}}, Holding.{weight}, Places.{AreApart, all_placed, held_by, is_same_hand, placed}}
 use Rattle.run_check.specs.declared.places.Hand.TheVariants as hand
-use Rattle.run_check.specs.declared.places.OwnedPlace.{OwnedPlace}
-use Rattle.run_check.specs.Holding.{weight}
-use Rattle.run_check.specs.Places.{AreApart, all_placed, held_by, is_same_hand, placed}
 
 -- ---- two places
 

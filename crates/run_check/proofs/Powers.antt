@@ -1,9 +1,7 @@
 -- Powers of two have one bit.
-use Rattle.std.proofs.Common.{◌≡◌, ℕ, zero, suc, ◌+◌, ◌*◌, ◌/◌, ◌%◌, ◌^◌, ◌≤◌, count_ones, refl, arith}
-use Rattle.std.proofs.Math.Nat.{pow-suc}
-use Rattle.std.proofs.lemmas.Nat.{pow_pos, zero_from_ones, ones_le_self}
+use Rattle.std.proofs.{Common.{◌≡◌, ℕ, zero, suc, ◌+◌, ◌*◌, ◌/◌, ◌%◌, ◌^◌, ◌≤◌, count_ones, refl, arith}, Math.Nat.{pow-suc}}
+use Rattle.std.{proofs.lemmas.Nat.{pow_pos, zero_from_ones, ones_le_self}, specs.Int.{IsPowerOfTwo}}
 use lib.Count.{ones_step, ones_cat}
-use Rattle.std.specs.Int.{IsPowerOfTwo}
 
 -- a number whose lowest digit is r, by what its half is
 power_step : (n r : ℕ) → n % 2 ≡ r → (count_ones (n / 2) ≡ 1 → IsPowerOfTwo (n / 2)) → count_ones n ≡ 1 → IsPowerOfTwo n

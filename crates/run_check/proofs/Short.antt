@@ -1,14 +1,9 @@
 -- The lines of a run are short.
 use Rattle.std.proofs.Common.{◌≡◌, ℕ, ◌+◌, ◌*◌, ◌++◌, ◌<◌, ◌≤◌, ◌^◌, List, [], ◌∷◌, length, map, All, Bool, true, false, refl, ap, arith, lit<, length-append, suc}
-use Rattle.std.specs.Prelude.{codes}
-use Rattle.std.specs.Fmt.{decimal}
-use Rattle.std.specs.List.{AllByRecursion, join_with_byte}
-use Rattle.std.proofs.lemmas.Fmt.{length-decimal-le}
-use Rattle.run_records.specs.declared.event.Event.{Event}
-use Rattle.run_records.specs.declared.event.Event.TheVariants as event
-use Rattle.run_records.specs.Setting.{IsArea, IsSetting, Setting}
-use Rattle.run_records.specs.LegalRun.{HasSmallNumbers}
+use Rattle.std.{specs.{Prelude.{codes}, Fmt.{decimal}, List.{AllByRecursion, join_with_byte}}, proofs.lemmas.Fmt.{length-decimal-le}}
+use Rattle.run_records.specs.{declared.event.Event.{Event}, Setting.{IsArea, IsSetting, Setting}, LegalRun.{HasSmallNumbers}}
 use Rattle.run_records.specs.RunText.{Text, area_text, last_line, line_of, name_of, numbers_of, run_line}
+use Rattle.run_records.specs.declared.event.Event.TheVariants as event
 use Rattle.run_check.proofs.Numerals.{AreSmall}
 
 joined_short : (byte most : ℕ) (word : Text) (words : List Text) → AllByRecursion (λ w. length w ≤ most) words

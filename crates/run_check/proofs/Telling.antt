@@ -1,26 +1,13 @@
 -- The same where the source may tell its bytes or not.
 use Rattle.std.proofs.Common.{◌≡◌, ◌∙◌, ℕ, ◌+◌, ◌++◌, ◌≤◌, List, [], ◌∷◌, length, Bool, true, false, sym, ap, subst, arith, ◌⊎◌, ⊎_elim, inl, inr, Option, Some, None, Result, Ok, Err, IsTrue, IfSome, IfOk, rules}
-use Rattle.std.specs.Str.{bytes_eq}
-use Rattle.std.proofs.lemmas.Slice.Eq.{bytes_eq-Decides}
-use Rattle.std.proofs.Common.{append_assoc, append-nil}
-use Rattle.std.specs.Prelude.{codes}
-use Rattle.std.specs.Io.KnownBytes.{Consumes}
-use Rattle.run_records.specs.declared.event.Event.{Event}
-use Rattle.run_records.specs.Setting.{most_events, IsSetting, Setting}
-use Rattle.run_records.specs.Holders.{Holdings, after, no_holdings}
-use Rattle.run_records.specs.RunText.{Text, last_line, run_line}
-use Rattle.run_check.specs.declared.checking.Checked.{Checked}
-use Rattle.run_check.specs.declared.checking.Checked.TheVariants.{Yes, No}
-use Rattle.run_check.specs.Coming.{HasNoLine, IsOneLine, ahead}
+use Rattle.std.{specs.{Str.{bytes_eq}, Prelude.{codes}, Io.KnownBytes.{Consumes}}, proofs.{lemmas.Slice.Eq.{bytes_eq-Decides}, Common.{append_assoc, append-nil}}}
 use Rattle.std.proofs.lemmas.List.{nil_from_length}
-use Rattle.run_check.specs.Holding.{EndsRecord, LineChanges, SameHoldings, weight}
-use Rattle.run_check.proofs.Alike.{after_none, after_some}
-use Rattle.run_check.proofs.Weighing.{length-same, same-sym, same-trans}
-use Rattle.run_check.specs.Judged.{Judges}
-use Rattle.run_check.specs.Reading.{IsSettingOf, event_of, setting_of}
-use Rattle.run_check.proofs.Judging.{same_line}
-use Rattle.run_check.proofs.SettingText.{run_line-setting_of, setting_of-run_line}
-use Rattle.run_check.proofs.Short.{run_line-short}
+use Rattle.run_records.specs.{declared.event.Event.{Event}, Setting.{most_events, IsSetting, Setting}, Holders.{Holdings, after, no_holdings}}
+use Rattle.run_records.specs.RunText.{Text, last_line, run_line}
+use Rattle.run_check.specs.{declared.checking.Checked.{Checked, TheVariants.{Yes, No}}, Coming.{HasNoLine, IsOneLine, ahead}}
+use Rattle.run_check.{specs.Holding.{EndsRecord, LineChanges, SameHoldings, weight}, proofs.Alike.{after_none, after_some}}
+use Rattle.run_check.{proofs.{Weighing.{length-same, same-sym, same-trans}, Judging.{same_line}}, specs.{Judged.{Judges}, Reading.{IsSettingOf, event_of, setting_of}}}
+use Rattle.run_check.proofs.{SettingText.{run_line-setting_of, setting_of-run_line}, Short.{run_line-short}}
 use Rattle.run_check.proofs.Ending.{HasCome, behind_first, bad_event, bad_first, come_first, come_more, early_end, no_line, told_more, told_whole}
 
 -- so many events were read of what came behind the first line

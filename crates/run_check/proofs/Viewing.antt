@@ -1,25 +1,15 @@
 -- The holders of a buffer, as the code keeps them: who has it, its places and the owed loans.
 use Rattle.std.proofs.Common.{◌≡◌, ◌∙◌, ℕ, zero, suc, ◌+◌, ◌-◌, ◌*◌, ◌++◌, ◌<◌, ◌≤◌, List, [], ◌∷◌, length, if◌then◌else◌, eqb, ltb, get_or, set, replicate, Bool, true, false}
-use Rattle.std.proofs.Common.{◌||◌, ◌&&◌, Option, Some, None, refl, sym, ap, subst, arith, ⊎_elim, get_or-set_same, get_or-set_other}
-use Rattle.std.specs.Ordering.{nat_cmp}
-use Rattle.std.specs.Map.{lookup}
-use Rattle.std.specs.BTreeMap.{is_at}
-use Rattle.std.specs.List.{list_any}
-use Rattle.std.proofs.lemmas.Bool.{and_parts, cases_eq, eq-eqb, eqb-true, ne_eqb}
-use Rattle.run_records.specs.declared.holding.Holding.{Holding}
-use Rattle.run_records.specs.declared.holding.Holding.TheVariants as holding
-use Rattle.run_records.specs.Holders.{is_same, is_user}
-use Rattle.run_check.specs.declared.buffer.Keeper.{Keeper}
-use Rattle.run_check.specs.declared.buffer.Keeper.TheVariants as keeper
-use Rattle.run_check.specs.declared.places.Hand.{Hand}
-use Rattle.run_check.specs.declared.places.Hand.TheVariants as hand
-use Rattle.run_check.specs.declared.places.OwnedPlace.{OwnedPlace}
-use Rattle.run_check.specs.Holding.{weight}
-use Rattle.run_check.specs.Places.{AreApart, all_placed, held_by, is_same_hand}
-use Rattle.run_check.specs.Buffer.{AreCounted, LeavesNoPlace, kept_by, owed_from}
-use Rattle.run_check.proofs.Placing.{none_there, one_there, place_is}
+use Rattle.std.{proofs.Common.{◌||◌, ◌&&◌, Option, Some, None, refl, sym, ap, subst, arith, ⊎_elim, get_or-set_same, get_or-set_other}, specs.Ordering.{nat_cmp}}
+use Rattle.std.{specs.{Map.{lookup}, BTreeMap.{is_at}, List.{list_any}}, proofs.lemmas.Bool.{and_parts, cases_eq, eq-eqb, eqb-true, ne_eqb}}
+use Rattle.run_records.specs.{declared.holding.Holding.{Holding}, Holders.{is_same, is_user}}
 use Rattle.run_records.proofs.Weighing.{Moves, one_if, weight-append, weight-count, weight-length}
-use Rattle.run_check.proofs.Weighing.{any-append, any-replicate, weight-replicate}
+use Rattle.run_records.specs.declared.holding.Holding.TheVariants as holding
+use Rattle.run_check.specs.{declared.{buffer.Keeper.{Keeper}, places.{Hand.{Hand}, OwnedPlace.{OwnedPlace}}}, Holding.{weight}}
+use Rattle.run_check.specs.{Places.{AreApart, all_placed, held_by, is_same_hand}, Buffer.{AreCounted, LeavesNoPlace, kept_by, owed_from}}
+use Rattle.run_check.proofs.{Placing.{none_there, one_there, place_is}, Weighing.{any-append, any-replicate, weight-replicate}}
+use Rattle.run_check.specs.declared.buffer.Keeper.TheVariants as keeper
+use Rattle.run_check.specs.declared.places.Hand.TheVariants as hand
 
 abbrev pub view : Keeper → List (ℕ × OwnedPlace) → List ℕ → List Holding
 view keeper entries owed = kept_by keeper ++ (all_placed entries ++ owed_from 0 owed)

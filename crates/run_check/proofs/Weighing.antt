@@ -1,11 +1,8 @@
 -- What lists of the same holders have alike, and what becomes of a list at a change.
 use Rattle.std.proofs.Common.{◌≡◌, ◌∙◌, ℕ, zero, suc, ◌+◌, ◌*◌, ◌++◌, ◌≤◌, List, [], ◌∷◌, length, if◌then◌else◌, ltb, Bool, true, false, not, ◌||◌, ◌&&◌}
-use Rattle.std.proofs.Common.{None, refl, sym, ap, arith, ⊎_elim, replicate}
-use Rattle.std.specs.Prelude.{filter, count_by}
-use Rattle.std.specs.List.{list_any, list_all}
+use Rattle.std.{proofs.Common.{None, refl, sym, ap, arith, ⊎_elim, replicate}, specs.{Prelude.{filter, count_by}, List.{list_any, list_all}}}
 use Rattle.std.proofs.lemmas.Bool.{cases_Bool, lt-ltb}
-use Rattle.run_records.specs.declared.holding.Holding.{Holding}
-use Rattle.run_records.specs.Holders.{becomes, is_same, weight}
+use Rattle.run_records.specs.{declared.holding.Holding.{Holding}, Holders.{becomes, is_same, weight}}
 use Rattle.run_records.proofs.Weighing.{Moves, one_if, some_becomes, weight-append, weight-count, weight-filter, weight-length}
 use Rattle.run_check.specs.Holding.{Changes, SameHolders}
 

@@ -1,13 +1,9 @@
 -- The holders of a buffer, as the code keeps them.
 use Rattle.std.specs.Prelude.{◌≡◌, ℕ, ◌+◌, ◌<◌, List, [], ◌∷◌, ◌++◌, length, count_by, slice_index, replicate}
-use Rattle.run_records.specs.declared.holding.Holding.{Holding}
+use Rattle.run_records.specs.{declared.holding.Holding.{Holding}, Holders.{is_user}}
 use Rattle.run_records.specs.declared.holding.Holding.TheVariants as holding
-use Rattle.run_records.specs.Holders.{is_user}
-use Rattle.run_check.specs.declared.buffer.Keeper.{Keeper}
+use Rattle.run_check.specs.{declared.{buffer.{Keeper.{Keeper}, Buffer.TheInside.{Inside}}, places.OwnedPlace.{OwnedPlace}}, Places.{AreApart, all_placed}}
 use Rattle.run_check.specs.declared.buffer.Keeper.TheVariants as keeper
-use Rattle.run_check.specs.declared.buffer.Buffer.TheInside.{Inside}
-use Rattle.run_check.specs.declared.places.OwnedPlace.{OwnedPlace}
-use Rattle.run_check.specs.Places.{AreApart, all_placed}
 
 abbrev pub kept_by : Keeper → List Holding
 kept_by keeper.Nobody = []

@@ -1,18 +1,11 @@
 -- What the code keeps of the holders, and how it changes them.
-use Rattle.std.specs.Prelude.{◌≡◌, ℕ, Bool, true, false, List, [], Option, Some, None, slice_index_or, nat_lt, ◌&&◌, ◌==◌, ◌%◌}
-use Rattle.std.specs.List.{list_any, list_all}
-use Rattle.run_records.specs.declared.event.Event.{Event}
-use Rattle.run_records.specs.declared.event.Event.TheVariants as event
-use Rattle.run_records.specs.declared.holding.Holding.{Holding}
-use Rattle.run_records.specs.declared.holding.Holding.TheVariants as holding
-use Rattle.std.specs.Io.KnownBytes.{IsAtEnd}
-use Rattle.std.specs.Prelude.{◌+◌, ◌<◌, IfSome}
-use Rattle.run_records.specs.RunText.{Text}
-use Rattle.run_records.specs.Setting.{Setting}
-use Rattle.run_check.specs.Reading.{event_of}
-use Rattle.run_check.specs.declared.checking.Checked.{Checked}
-use Rattle.run_check.specs.declared.checking.Checked.TheVariants.{Yes, No}
+use Rattle.std.specs.{Prelude.{◌≡◌, ℕ, Bool, true, false, List, [], Option, Some, None, slice_index_or, nat_lt, ◌&&◌, ◌==◌, ◌%◌}, List.{list_any, list_all}}
+use Rattle.std.specs.{Io.KnownBytes.{IsAtEnd}, Prelude.{◌+◌, ◌<◌, IfSome}}
+use Rattle.run_records.specs.{declared.{event.Event.{Event}, holding.Holding.{Holding}}, RunText.{Text}, Setting.{Setting}}
 use Rattle.run_records.specs.Holders.{Holdings, after, is_apart, is_same}
+use Rattle.run_records.specs.declared.event.Event.TheVariants as event
+use Rattle.run_records.specs.declared.holding.Holding.TheVariants as holding
+use Rattle.run_check.specs.{Reading.{event_of}, declared.checking.Checked.{Checked, TheVariants.{Yes, No}}}
 pub use Rattle.run_records.specs.Holders.{weight}
 
 -- the holders of each buffer, of which a number past the last has none

@@ -1,15 +1,10 @@
 -- What a check says of the bytes of a record.
-use Rattle.std.specs.Prelude.{◌≡◌, ℕ, ◌+◌, ◌≢◌, Bool, List, [], ◌∷◌, ◌++◌, length, All, Option, Result, Ok, Err}
-use Rattle.std.specs.Io.KnownBytes.{IsAtEnd}
+use Rattle.std.specs.{Prelude.{◌≡◌, ℕ, ◌+◌, ◌≢◌, Bool, List, [], ◌∷◌, ◌++◌, length, All, Option, Result, Ok, Err}, Io.KnownBytes.{IsAtEnd}}
 use Rattle.zr_kinds.specs.declared.fault.Fault.{Fault}
 use Rattle.zr_kinds.specs.declared.fault.Fault.TheVariants as fault
 use Rattle.zr_io.specs.Moved.{Rose}
-use Rattle.run_records.specs.declared.event.Event.{Event}
-use Rattle.run_records.specs.Setting.{Setting}
-use Rattle.run_records.specs.LegalRun.{IsLegalRun}
-use Rattle.run_records.specs.RunText.{Text, lines_of, text_of_lines}
-use Rattle.run_check.specs.declared.checking.Checked.{Checked}
-use Rattle.run_check.specs.declared.checking.Checked.TheVariants.{Yes, No}
+use Rattle.run_records.specs.{declared.event.Event.{Event}, Setting.{Setting}, LegalRun.{IsLegalRun}, RunText.{Text, lines_of, text_of_lines}}
+use Rattle.run_check.specs.declared.checking.Checked.{Checked, TheVariants.{Yes, No}}
 
 -- the lines are those of a legal run
 pub record AreOfRun (lines : List Text) : Type 0 where

@@ -2,9 +2,8 @@
 use Rattle.std.specs.Prelude.{ℕ, ◌+◌, ◌<◌, ◌≤◌, ◌==◌, Bool, true, false, List, [], ◌∷◌, map}
 use Rattle.run_records.specs.declared.holding.Holding.{Holding}
 use Rattle.run_records.specs.declared.holding.Holding.TheVariants as holding
-use Rattle.run_check.specs.declared.places.Hand.{Hand}
+use Rattle.run_check.specs.declared.places.{Hand.{Hand}, OwnedPlace.{OwnedPlace}}
 use Rattle.run_check.specs.declared.places.Hand.TheVariants as hand
-use Rattle.run_check.specs.declared.places.OwnedPlace.{OwnedPlace}
 
 abbrev pub held_by : Hand → ℕ → ℕ → Holding
 held_by hand.Card offset len = holding.Piece offset len

@@ -1,12 +1,8 @@
 //! The holders of one buffer.
-ghost use Rattle.std.specs.Prelude.{◌≡◌, ◌==◌, ◌&&◌, ◌<◌, ◌+◌, ◌-◌, ◌^◌, IfOk, [], ◌∷◌, ◌++◌, length, nat_lt, Some, not};
-ghost use Rattle.std.specs.Prelude.{filter};
-ghost use Rattle.std.specs.List.{list_any};
+ghost use Rattle.std.specs.{Prelude.{◌≡◌, ◌==◌, ◌&&◌, ◌<◌, ◌+◌, ◌-◌, ◌^◌, IfOk, [], ◌∷◌, ◌++◌, length, nat_lt, Some, not, filter}, List.{list_any}};
 ghost use Rattle.run_records.specs.declared.holding.Holding.TheVariants as holding;
 ghost use Rattle.run_records.specs.Holders.{becomes, is_pool_count, is_same, is_user_count, only_if};
-ghost use Rattle.run_check.specs.Holding.{Changes, can_place};
-ghost use Rattle.run_check.specs.Places.{IsNoLoan, held_by};
-ghost use Rattle.run_check.specs.Buffer.{kept_by};
+ghost use Rattle.run_check.specs.{Holding.{Changes, can_place}, Places.{IsNoLoan, held_by}, Buffer.{kept_by}};
 
 use crate::places::{Hand, OwnedPlace, are_apart, is_there};
 use std::alloc::{AllocError, Global};

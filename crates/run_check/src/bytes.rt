@@ -1,7 +1,6 @@
 //! A source byte by byte.
 ghost use Rattle.std.specs.Prelude.{◌≡◌, [], IfOk};
-ghost use Rattle.run_check.specs.Judged.{HasCheckCause};
-ghost use Rattle.run_check.specs.Coming.{GivesByte, IsLeftEmpty, ahead};
+ghost use Rattle.run_check.specs.{Judged.{HasCheckCause}, Coming.{GivesByte, IsLeftEmpty, ahead}};
 
 use std::alloc::{AllocError, Global};
 use std::marker::Model;

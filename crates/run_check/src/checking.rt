@@ -1,10 +1,7 @@
 ghost use Rattle.std.specs.Prelude.{◌≡◌, ℕ, ◌+◌, ◌^◌, ◌<◌, [], ◌∷◌, ◌++◌, IfOk, IfErr, IfSome, length};
 ghost use Rattle.zr_kinds.specs.declared.fault.Fault.TheVariants as fault;
-ghost use Rattle.run_records.specs.Setting.{total_buffers};
-ghost use Rattle.run_records.specs.RunText.{run_line, text_of_lines};
-ghost use Rattle.run_check.specs.Coming.{ahead};
-ghost use Rattle.run_check.specs.Holding.{EndsRecord, LineChanges, holdings_of};
-ghost use Rattle.run_check.specs.Judged.{HasCheckCause, Judges, YesAtEnd};
+ghost use Rattle.run_records.specs.{Setting.{total_buffers}, RunText.{run_line, text_of_lines}};
+ghost use Rattle.run_check.specs.{Coming.{ahead}, Holding.{EndsRecord, LineChanges, holdings_of}, Judged.{HasCheckCause, Judges, YesAtEnd}};
 
 use crate::holders::Holders;
 use crate::lines::Lines;

@@ -1,7 +1,6 @@
 //! The holders of a run's buffers.
 ghost use Rattle.std.specs.Prelude.{◌≡◌, ◌<◌, ◌+◌, ◌^◌, ℕ, [], IfOk, length, IsTrue, ◌↔◌};
-ghost use Rattle.run_records.specs.Setting.{IsSetting, total_buffers};
-ghost use Rattle.run_records.specs.Holders.{buffer_of, changed, has_counts, is_in_range};
+ghost use Rattle.run_records.specs.{Setting.{IsSetting, total_buffers}, Holders.{buffer_of, changed, has_counts, is_in_range}};
 ghost use Rattle.run_check.specs.Holding.{Changes, HasChanged, HasSmallApp, holdings_of};
 
 use crate::buffer::Buffer;

@@ -1,8 +1,6 @@
 //! A source line by line.
-ghost use Rattle.std.specs.Prelude.{◌≡◌, [], IfOk, IsTrue};
-ghost use Rattle.std.specs.Io.KnownBytes.{IsAtEnd};
-ghost use Rattle.run_check.specs.Judged.{HasCheckCause};
-ghost use Rattle.run_check.specs.Coming.{ReadsLine, ahead, IsOver};
+ghost use Rattle.std.specs.{Prelude.{◌≡◌, [], IfOk, IsTrue}, Io.KnownBytes.{IsAtEnd}};
+ghost use Rattle.run_check.specs.{Judged.{HasCheckCause}, Coming.{ReadsLine, ahead, IsOver}};
 
 use crate::bytes::Bytes;
 use std::alloc::{AllocError, Global};

@@ -1,6 +1,5 @@
 //! The places of a buffer that somebody has, by their offsets. They have bytes and no byte in common.
-ghost use Rattle.std.specs.Prelude.{◌≡◌, ◌==◌, ◌&&◌, ◌<◌, ◌+◌, ◌^◌};
-ghost use Rattle.std.specs.List.{list_any, list_all};
+ghost use Rattle.std.specs.{Prelude.{◌≡◌, ◌==◌, ◌&&◌, ◌<◌, ◌+◌, ◌^◌}, List.{list_any, list_all}};
 ghost use Rattle.run_records.specs.Holders.{is_apart, is_same};
 ghost use Rattle.run_check.specs.Places.{AreApart, all_placed, is_same_hand, placed};
 

@@ -1,7 +1,6 @@
 //! The setting that the first line of a record says.
 ghost use Rattle.std.specs.Prelude.{◌≡◌, ◌≤◌, ◌↔◌, IfOk, IsTrue, All, length, map, option_map, ◌==◌, ◌+◌};
-ghost use Rattle.run_records.specs.Setting.{AreAreas, IsArea, IsSetting, IsSize, pool_buffers, pool_bytes, size_of_buffer, total_buffers};
-ghost use Rattle.run_records.specs.Holders.{is_app, is_buffer, is_pool_buffer, is_reserve_of, is_within};
+ghost use Rattle.run_records.specs.{Setting.{AreAreas, IsArea, IsSetting, IsSize, pool_buffers, pool_bytes, size_of_buffer, total_buffers}, Holders.{is_app, is_buffer, is_pool_buffer, is_reserve_of, is_within}};
 ghost use Rattle.run_check.specs.Reading.{IsSettingOf, all_areas, area_by, area_of, setting_by, setting_from};
 
 use crate::words::{is_word, number_of, parts_of};

@@ -1,8 +1,5 @@
 //! The words of a line, and the events that they say.
-ghost use Rattle.std.specs.Prelude.{◌≡◌, [], ◌∷◌, IfOk, map, option_map};
-ghost use Rattle.std.specs.Char.{is_ascii_digit};
-ghost use Rattle.std.specs.List.{list_all};
-ghost use Rattle.std.specs.Str.{bytes_eq};
+ghost use Rattle.std.specs.{Prelude.{◌≡◌, [], ◌∷◌, IfOk, map, option_map}, Char.{is_ascii_digit}, List.{list_all}, Str.{bytes_eq}};
 ghost use Rattle.run_check.specs.Reading.{all_numbers, event_by, event_from, event_of, is_numeral, number_of, parts_of};
 
 use run_records::Event;

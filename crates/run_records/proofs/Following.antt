@@ -1,11 +1,6 @@
 -- Events that go on: one more behind those of a run.
-use Rattle.std.proofs.Common.{◌≡◌, ◌∙◌, ◌++◌, List, [], ◌∷◌, Option, Some, None, refl, ap}
-use Rattle.std.specs.Prelude.{option_and_then}
-use Rattle.std.specs.List.{AllByRecursion}
-use Rattle.run_records.specs.declared.event.Event.{Event}
-use Rattle.run_records.specs.Setting.{Setting}
-use Rattle.run_records.specs.Holders.{Holdings, after, all_after}
-use Rattle.run_records.specs.LegalRun.{HasSmallNumbers}
+use Rattle.std.{proofs.Common.{◌≡◌, ◌∙◌, ◌++◌, List, [], ◌∷◌, Option, Some, None, refl, ap}, specs.{Prelude.{option_and_then}, List.{AllByRecursion}}}
+use Rattle.run_records.specs.{declared.event.Event.{Event}, Setting.{Setting}, Holders.{Holdings, after, all_after}, LegalRun.{HasSmallNumbers}}
 
 pub some_from : {A B : Type 0} (value : Option A) (f : A → Option B) (result : B) → option_and_then f value ≡ Some result
     → (a : A) × (value ≡ Some a) × (f a ≡ Some result)

@@ -1,14 +1,8 @@
 -- What holders weigh, and what a list of them weighs once one became others.
-use Rattle.std.proofs.Common.{◌≡◌, ◌∙◌, ℕ, ◌+◌, ◌++◌, List, [], ◌∷◌, length, if◌then◌else◌, Bool, true, false}
-use Rattle.std.proofs.Common.{Some, refl, sym, ap, arith, ⊎_elim}
-use Rattle.std.specs.Prelude.{filter, count_by}
-use Rattle.std.specs.List.{list_any, sum_by}
-use Rattle.std.proofs.lemmas.Bool.{cases_Bool, eqb-true}
-use Rattle.std.proofs.lemmas.Bool.Decides.{nat_tests}
-use Rattle.std.proofs.lemmas.List.Sums.{sum_by-cons}
-use Rattle.run_records.specs.declared.holding.Holding.{Holding}
+use Rattle.std.proofs.Common.{◌≡◌, ◌∙◌, ℕ, ◌+◌, ◌++◌, List, [], ◌∷◌, length, if◌then◌else◌, Bool, true, false, Some, refl, sym, ap, arith, ⊎_elim}
+use Rattle.std.{specs.{Prelude.{filter, count_by}, List.{list_any, sum_by}}, proofs.lemmas.{Bool.{cases_Bool, eqb-true, Decides.{nat_tests}}, List.Sums.{sum_by-cons}}}
+use Rattle.run_records.specs.{declared.holding.Holding.{Holding}, Holders.{becomes, is_same, weight}}
 use Rattle.run_records.specs.declared.holding.Holding.TheVariants as holding
-use Rattle.run_records.specs.Holders.{becomes, is_same, weight}
 
 pub same-equal : (one other : Holding) → is_same one other ≡ true → one ≡ other
 same-equal holding.Own holding.Own same = refl

@@ -1,13 +1,10 @@
 -- The holders of each buffer, and what an event of a run changes in them. A holder is one entry of its buffer's list; the
 -- list's order says nothing.
 use Rattle.std.specs.Prelude.{ℕ, ◌+◌, ◌-◌, ◌%◌, ◌==◌, ◌&&◌, ◌||◌, nat_lt, nat_le, not, if◌then◌else◌, Bool, true, false, List, [], ◌∷◌, ◌++◌}
-use Rattle.std.specs.Prelude.{length, filter, count_by, Option, Some, None, option_map, option_and_then}
-use Rattle.std.specs.List.{list_any, list_all}
-use Rattle.run_records.specs.declared.event.Event.{Event}
+use Rattle.std.specs.{Prelude.{length, filter, count_by, Option, Some, None, option_map, option_and_then}, List.{list_any, list_all}}
+use Rattle.run_records.specs.{declared.{event.Event.{Event}, holding.Holding.{Holding}}, Setting.{Setting, pool_buffers, total_buffers, size_of_buffer}}
 use Rattle.run_records.specs.declared.event.Event.TheVariants as event
-use Rattle.run_records.specs.declared.holding.Holding.{Holding}
 use Rattle.run_records.specs.declared.holding.Holding.TheVariants as holding
-use Rattle.run_records.specs.Setting.{Setting, pool_buffers, total_buffers, size_of_buffer}
 
 -- ---- which holder
 

@@ -1,10 +1,6 @@
 -- Which events are those of a legal run.
-use Rattle.std.specs.Prelude.{◌≡◌, ℕ, ◌<◌, ◌≤◌, ◌^◌, List, [], length, Bool, IsTrue, Some}
-use Rattle.std.specs.List.{AllByRecursion}
-use Rattle.run_records.specs.declared.event.Event.{Event}
-use Rattle.run_records.specs.Setting.{most_events, Setting, IsSetting}
-use Rattle.run_records.specs.Holders.{Holdings, no_holdings, all_after}
-use Rattle.run_records.specs.RunText.{numbers_of}
+use Rattle.std.specs.{Prelude.{◌≡◌, ℕ, ◌<◌, ◌≤◌, ◌^◌, List, [], length, Bool, IsTrue, Some}, List.{AllByRecursion}}
+use Rattle.run_records.specs.{declared.event.Event.{Event}, Setting.{most_events, Setting, IsSetting}, Holders.{Holdings, no_holdings, all_after}, RunText.{numbers_of}}
 
 -- the numbers of an event are those of a `u32`
 abbrev pub HasSmallNumbers : Event → Type 0

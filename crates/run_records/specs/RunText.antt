@@ -1,10 +1,7 @@
 -- The text of a run: lines that end with a line feed, words parted by one space, numbers in decimal without leading zeros.
-use Rattle.std.specs.Prelude.{ℕ, List, [], ◌∷◌, ◌++◌, map, Bool, true, false, codes}
-use Rattle.std.specs.Fmt.{decimal}
-use Rattle.std.specs.List.{flat_map, join_with_byte}
-use Rattle.run_records.specs.declared.event.Event.{Event}
+use Rattle.std.specs.{Prelude.{ℕ, List, [], ◌∷◌, ◌++◌, map, Bool, true, false, codes}, Fmt.{decimal}, List.{flat_map, join_with_byte}}
+use Rattle.run_records.specs.{declared.event.Event.{Event}, Setting.{Setting}}
 use Rattle.run_records.specs.declared.event.Event.TheVariants as event
-use Rattle.run_records.specs.Setting.{Setting}
 
 -- a line without its line feed, or a word
 abbrev pub Text : Type 0

@@ -1,7 +1,6 @@
 -- The setting of a run: its buffers, as areas, and how many applications there are. Pool buffers are numbered from 0
 -- through all areas in order. Behind them stand the reserves, one for each application, which have area 0's size.
-use Rattle.std.specs.Prelude.{ℕ, ◌+◌, ◌-◌, ◌*◌, ◌≤◌, List, [], ◌∷◌, length, map, sum, nat_lt, if◌then◌else◌, All}
-use Rattle.std.specs.Int.{IsPowerOfTwo}
+use Rattle.std.specs.{Prelude.{ℕ, ◌+◌, ◌-◌, ◌*◌, ◌≤◌, List, [], ◌∷◌, length, map, sum, nat_lt, if◌then◌else◌, All}, Int.{IsPowerOfTwo}}
 
 -- each area with its number of pool buffers and their size in bytes
 pub record Setting : Type 0 where

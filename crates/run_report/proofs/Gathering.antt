@@ -1,14 +1,9 @@
 -- Texts that are gathered in a block one behind the other, and how far they went out.
 use Rattle.std.proofs.Common.{◌≡◌, ℕ, zero, suc, ◌+◌, ◌<◌, List, [], ◌∷◌, ◌++◌, length, map, take, drop, get_or, Bool, Option, Result, Ok, Err, codes}
-use Rattle.std.proofs.Common.{refl, sym, ap, subst, ◌∙◌, append_assoc, append-nil, take-append-drop, add-one, arith}
-use Rattle.std.proofs.Math.Seq.{take-append_seam}
-use Rattle.std.proofs.KnownBytes.{Appends-nil, Appends-trans}
-use Rattle.std.specs.Io.KnownBytes.{Appends}
-use Rattle.std.specs.List.{flat_map, join_with_byte}
+use Rattle.std.proofs.{Common.{refl, sym, ap, subst, ◌∙◌, append_assoc, append-nil, take-append-drop, add-one, arith}, Math.Seq.{take-append_seam}}
+use Rattle.std.{proofs.KnownBytes.{Appends-nil, Appends-trans}, specs.{Io.KnownBytes.{Appends}, List.{flat_map, join_with_byte}}}
 use Rattle.zr_io.specs.Moved.{AddsPiece}
-use Rattle.run_records.specs.declared.event.Event.{Event}
-use Rattle.run_records.specs.Setting.{Setting}
-use Rattle.run_records.specs.RunText.{last_line, line_of, run_line, text_of, text_of_lines}
+use Rattle.run_records.specs.{declared.event.Event.{Event}, Setting.{Setting}, RunText.{last_line, line_of, run_line, text_of, text_of_lines}}
 use Rattle.run_report.specs.Gathered.{Waits}
 
 -- what waits, put on its way by a step more

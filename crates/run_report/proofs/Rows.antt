@@ -1,8 +1,6 @@
 -- The report's text at small values.
-use Rattle.std.proofs.Common.{◌≡◌, [], ◌∷◌, ◌++◌, true, codes, refl}
-use Rattle.std.specs.Fmt.{digits}
-use Rattle.zr_kinds.specs.declared.behaviour.Stopped.TheVariants.{No}
-use Rattle.zr_kinds.specs.declared.outcome.FlowEnd.TheVariants.{Whole}
+use Rattle.std.{proofs.Common.{◌≡◌, [], ◌∷◌, ◌++◌, true, codes, refl}, specs.Fmt.{digits}}
+use Rattle.zr_kinds.specs.declared.{behaviour.Stopped.TheVariants.{No}, outcome.FlowEnd.TheVariants.{Whole}}
 use Rattle.run_report.specs.Report.{report_of, capture_line, app_line, flow_line, pool_line}
 
 -- three records, one application, one flow, no refused frame

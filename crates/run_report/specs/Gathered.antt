@@ -1,6 +1,5 @@
 -- A text on its way to a sink through a block, where what waits goes out together.
-use Rattle.std.specs.Prelude.{◌≡◌, ℕ, List, ◌++◌, take, Option, Result, MatchResult}
-use Rattle.std.specs.Io.KnownBytes.{Appends}
+use Rattle.std.specs.{Prelude.{◌≡◌, ℕ, List, ◌++◌, take, Option, Result, MatchResult}, Io.KnownBytes.{Appends}}
 
 -- Some of it went out, and the rest waits in the block.
 abbrev pub Waits : Option (List ℕ) → Option (List ℕ) → List ℕ → List ℕ → Type 0

@@ -1,16 +1,9 @@
 -- The text of a report, whether it went out, and the answer behind it.
-use Rattle.std.specs.Prelude.{◌≡◌, ℕ, List, [], ◌∷◌, ◌++◌, ◌==◌, if◌then◌else◌, Bool, true, false, Option, Result, Ok, Err, codes}
-use Rattle.std.specs.Fmt.{decimal}
-use Rattle.std.specs.List.{flat_map, enumerate_from}
-use Rattle.std.specs.Io.KnownBytes.{Keeps, Appends}
-use Rattle.zr_kinds.specs.declared.behaviour.Stopped.{Stopped}
+use Rattle.std.specs.{Prelude.{◌≡◌, ℕ, List, [], ◌∷◌, ◌++◌, ◌==◌, if◌then◌else◌, Bool, true, false, Option, Result, Ok, Err, codes}, Fmt.{decimal}}
+use Rattle.std.specs.{List.{flat_map, enumerate_from}, Io.KnownBytes.{Keeps, Appends}}
+use Rattle.zr_kinds.specs.declared.{behaviour.Stopped.{Stopped}, outcome.{Tally.{Tally}, AppLine.{AppLine}, FlowEnd.{FlowEnd}}}
+use Rattle.zr_kinds.specs.declared.outcome.{FlowEnd.TheVariants.{Going, Whole, Short, Reset}, FlowLine.{FlowLine}, PoolStats.{PoolStats}}
 use Rattle.zr_kinds.specs.declared.behaviour.Stopped.TheVariants as stopped
-use Rattle.zr_kinds.specs.declared.outcome.Tally.{Tally}
-use Rattle.zr_kinds.specs.declared.outcome.AppLine.{AppLine}
-use Rattle.zr_kinds.specs.declared.outcome.FlowEnd.{FlowEnd}
-use Rattle.zr_kinds.specs.declared.outcome.FlowEnd.TheVariants.{Going, Whole, Short, Reset}
-use Rattle.zr_kinds.specs.declared.outcome.FlowLine.{FlowLine}
-use Rattle.zr_kinds.specs.declared.outcome.PoolStats.{PoolStats}
 use Rattle.zr_io.specs.Moved.{Rose, Gained}
 use Rattle.run_report.specs.declared.report.Unreported.{Unreported}
 use Rattle.run_report.specs.declared.report.Unreported.TheVariants as unreported

@@ -1,6 +1,5 @@
 //! The lines of a report.
-ghost use Rattle.std.specs.Prelude.{◌≡◌, Some};
-ghost use Rattle.std.specs.List.{flat_map};
+ghost use Rattle.std.specs.{Prelude.{◌≡◌, Some}, List.{flat_map}};
 ghost use Rattle.run_report.specs.Report.{app_line, capture_line, end_word, flow_line, numbered, pool_line, refused_line, stopped_word};
 
 use std::fmt;

@@ -1,7 +1,5 @@
 //! The record of a run, and its way to a sink.
-ghost use Rattle.std.specs.Prelude.{◌≡◌, ◌+◌, ◌*◌, ◌≤◌, [], ◌∷◌, ◌++◌, OnOk, length, map};
-ghost use Rattle.std.specs.Fmt.{decimal};
-ghost use Rattle.std.specs.List.{join_with_byte};
+ghost use Rattle.std.specs.{Prelude.{◌≡◌, ◌+◌, ◌*◌, ◌≤◌, [], ◌∷◌, ◌++◌, OnOk, length, map}, Fmt.{decimal}, List.{join_with_byte}};
 ghost use Rattle.arrayvec.specs.ArrayString.{array_string_len};
 ghost use Rattle.zr_io.specs.Moved.{AddsPiece, HasCause};
 ghost use Rattle.run_records.specs.RunText.{area_text, last_line, line_of, run_line, spaced, text_of, text_of_lines};

@@ -1,6 +1,5 @@
 -- The card sends, and the application hasn't begun.
-use Rattle.face_table.specs.declared.card.CardHand.{CardHand}
-use Rattle.face_table.specs.CardHand.{IsCardHand}
+use Rattle.face_table.specs.{declared.card.CardHand.{CardHand}, CardHand.{IsCardHand}}
 use Rattle.plain_board.specs.Board.{Board, side_of}
 use Rattle.zc_poll.specs.Fresh.{HasDoneNothing}
 

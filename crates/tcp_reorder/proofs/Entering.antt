@@ -1,25 +1,12 @@
 -- How the values of a part of a frame enter a queue, gap after gap.
-use Rattle.std.proofs.Common.{◌≡◌, ℕ, ◌+◌, ◌-◌, ◌%◌, ◌^◌, ◌<◌, ◌≤◌, List, length, take, drop, nat_le, not, true, false}
-use Rattle.std.proofs.Common.{◌&&◌, refl, sym, ap, subst, ◌∙◌}
-use Rattle.std.proofs.Common.{⊎_elim, inl, inr, length-take-le, add-zero, arith}
-use Rattle.std.proofs.lemmas.Bool.{cases_lt, le-leb, not-false}
-use Rattle.std.proofs.lemmas.List.{length-drop}
-use Rattle.zr_kinds.specs.CopyingReceiver.{Placed, next_missing, lead, accepts, first_of, filled, received, received_part}
-use Rattle.zr_kinds.proofs.InOrder.{first_of-nothing}
-use Rattle.tcp_reorder.specs.declared.places.Gap.{Gap}
-use Rattle.tcp_reorder.specs.Queue.{Kept, Queue, has, next_of, with_kept, IsSound}
-use Rattle.tcp_reorder.specs.Gaps.{origin, wants, IsFirstGap, AreUnwanted}
-use Rattle.tcp_reorder.specs.Values.{Holds}
-use Rattle.tcp_reorder.specs.Entering.{HasEntered, HoldsWhatCame}
-use Rattle.tcp_reorder.proofs.Holding.{brought-before, brought-past, Holds-nothing, Holds-same, Holds-with_kept, Holds-popped, is_some-held}
-use Rattle.tcp_reorder.proofs.Holding.{next_missing-held}
-use Rattle.tcp_reorder.proofs.Parts.{origin-part, may_be_taken}
-use Rattle.tcp_reorder.proofs.Sound.{MayBeKept}
-use Rattle.tcp_reorder.proofs.Taking.{may_be_kept}
-use Rattle.tcp_reorder.proofs.Gapping.{wanted_behind}
-use Rattle.tcp_reorder.proofs.Judging.{parts_accepted}
-use Rattle.tcp_reorder.proofs.GapByGap.{IsPast, filled-past, gap-filled, all-filled}
-use Rattle.tcp_reorder.proofs.OwnFrame.{IsStill, own-take}
+use Rattle.std.proofs.Common.{◌≡◌, ℕ, ◌+◌, ◌-◌, ◌%◌, ◌^◌, ◌<◌, ◌≤◌, List, length, take, drop, nat_le, not, true, false, ◌&&◌, refl, sym, ap, subst, ◌∙◌}
+use Rattle.std.proofs.{Common.{⊎_elim, inl, inr, length-take-le, add-zero, arith}, lemmas.{Bool.{cases_lt, le-leb, not-false}, List.{length-drop}}}
+use Rattle.zr_kinds.{specs.CopyingReceiver.{Placed, next_missing, lead, accepts, first_of, filled, received, received_part}, proofs.InOrder.{first_of-nothing}}
+use Rattle.tcp_reorder.specs.{declared.places.Gap.{Gap}, Queue.{Kept, Queue, has, next_of, with_kept, IsSound}, Gaps.{origin, wants, IsFirstGap, AreUnwanted}}
+use Rattle.tcp_reorder.specs.{Values.{Holds}, Entering.{HasEntered, HoldsWhatCame}}
+use Rattle.tcp_reorder.proofs.Holding.{brought-before, brought-past, Holds-nothing, Holds-same, Holds-with_kept, Holds-popped, is_some-held, next_missing-held}
+use Rattle.tcp_reorder.proofs.{Parts.{origin-part, may_be_taken}, Sound.{MayBeKept}, Taking.{may_be_kept}, Gapping.{wanted_behind}, Judging.{parts_accepted}}
+use Rattle.tcp_reorder.proofs.{GapByGap.{IsPast, filled-past, gap-filled, all-filled}, OwnFrame.{IsStill, own-take}}
 
 -- a whole frame is a part of itself
 pub received-whole : {A : Type 0} (base : ℕ) (placed : Placed A) (seq : ℕ) (part : List A)

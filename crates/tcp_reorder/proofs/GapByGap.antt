@@ -1,12 +1,7 @@
 -- What the copying receiver has once the first values of a list were received, and then those of a gap behind them.
-use Rattle.std.proofs.Common.{◌≡◌, ℕ, zero, suc, ◌+◌, ◌-◌, ◌^◌, ◌<◌, ◌≤◌, List, [], ◌∷◌, length, take, drop}
-use Rattle.std.proofs.Common.{None, IsSome, refl, sym, ap, subst, ◌∙◌}
-use Rattle.std.proofs.Common.{◌⊎◌, ⊎_elim, length-take-le, arith}
-use Rattle.std.proofs.lemmas.Bool.{cases_lt}
-use Rattle.std.proofs.lemmas.List.{length-drop}
-use Rattle.zr_kinds.specs.CopyingReceiver.{Placed, value_at, brought, first_of, filled}
-use Rattle.zr_kinds.proofs.InOrder.{first_of-nothing}
-use Rattle.zr_kinds.proofs.ValuesFrom.{first_of-some}
+use Rattle.std.proofs.Common.{◌≡◌, ℕ, zero, suc, ◌+◌, ◌-◌, ◌^◌, ◌<◌, ◌≤◌, List, [], ◌∷◌, length, take, drop, None, IsSome, refl, sym, ap, subst, ◌∙◌}
+use Rattle.std.proofs.{Common.{◌⊎◌, ⊎_elim, length-take-le, arith}, lemmas.{Bool.{cases_lt}, List.{length-drop}}}
+use Rattle.zr_kinds.{specs.CopyingReceiver.{Placed, value_at, brought, first_of, filled}, proofs.{InOrder.{first_of-nothing}, ValuesFrom.{first_of-some}}}
 use Rattle.tcp_reorder.proofs.Holding.{brought-at, brought-before, brought-past}
 
 module _ {A : Type 0} where

@@ -3,9 +3,7 @@ use Rattle.std.proofs.Common.{◌≡◌, ℕ, ◌+◌, ◌-◌, ◌^◌, ◌<◌
 use Rattle.std.proofs.lemmas.Bool.{and_from, and_left, and_right, and_parts, or_from, or_right, or_parts, not-true, not_from_true, not_from_false, le-leb}
 use Rattle.std.proofs.lemmas.Bool.{lt-leb, leb-true, le-ltb, ltb-false, cases_lt}
 use Rattle.zr_kinds.specs.CopyingReceiver.{lead}
-use Rattle.tcp_reorder.specs.Queue.{Kept, Queue, is_kept, has, next_of}
-use Rattle.tcp_reorder.specs.Gaps.{origin, wants, IsFirstGap}
-use Rattle.tcp_reorder.proofs.Positions.{IsFree}
+use Rattle.tcp_reorder.{specs.{Queue.{Kept, Queue, is_kept, has, next_of}, Gaps.{origin, wants, IsFirstGap}}, proofs.Positions.{IsFree}}
 use Rattle.tcp_reorder.proofs.Least.{has-before, next_of-popped}
 
 module _ {H : Type 0} (queue : Queue H) (seq : ℕ) where

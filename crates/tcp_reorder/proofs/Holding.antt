@@ -3,14 +3,10 @@ use Rattle.std.proofs.Common.{◌≡◌, ℕ, zero, suc, ◌+◌, ◌-◌, ◌^�
 use Rattle.std.proofs.Common.{◌||◌, if◌then◌else◌, Option, None, Some, IsSome, is_some, refl, sym, ap, ◌∙◌, subst, ⊎_elim, arith, add-zero}
 use Rattle.std.proofs.lemmas.Bool.{or_left, or_parts, lt-ltb, le-ltb, cases_lt, cases_Bool, cond_both, both_ways}
 use Rattle.zr_kinds.specs.CopyingReceiver.{Placed, nothing_placed, next_missing, value_at, brought, first_of, filled, values_from}
-use Rattle.tcp_reorder.specs.declared.places.Span.{Span}
-use Rattle.tcp_reorder.specs.Queue.{Kept, Queue, end_of, covers, is_kept, has, positions_of, next_of, with_kept}
-use Rattle.tcp_reorder.specs.Gaps.{kept_at, LosesFirst}
-use Rattle.tcp_reorder.specs.Values.{kept_value, AreSized, Holds}
-use Rattle.tcp_reorder.proofs.Positions.{covers-within, covers-behind, covered, cases_piece, IsFree}
-use Rattle.zr_kinds.proofs.LeastMissing.{value_at-past, next_missing-least, same_least}
-use Rattle.zr_kinds.proofs.InOrder.{first_of-nothing}
-use Rattle.tcp_reorder.proofs.Least.{next_of-least, is_some-present}
+use Rattle.zr_kinds.proofs.{LeastMissing.{value_at-past, next_missing-least, same_least}, InOrder.{first_of-nothing}}
+use Rattle.tcp_reorder.specs.{declared.places.Span.{Span}, Queue.{Kept, Queue, end_of, covers, is_kept, has, positions_of, next_of, with_kept}}
+use Rattle.tcp_reorder.specs.{Gaps.{kept_at, LosesFirst}, Values.{kept_value, AreSized, Holds}}
+use Rattle.tcp_reorder.proofs.{Positions.{covers-within, covers-behind, covered, cases_piece, IsFree}, Least.{next_of-least, is_some-present}}
 
 -- ---- values at places of a list
 

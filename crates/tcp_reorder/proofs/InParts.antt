@@ -1,16 +1,10 @@
 -- A frame that is received part after part, each judged anew, is received as a whole.
-use Rattle.std.proofs.Common.{◌≡◌, ℕ, zero, suc, ◌+◌, ◌-◌, ◌^◌, ◌<◌, ◌≤◌, List, [], ◌∷◌, ◌++◌, length, length-append}
-use Rattle.std.proofs.Common.{Bool, true, false, if◌then◌else◌}
-use Rattle.std.proofs.Common.{Option, Some, None, IsSome, is_some, refl, sym, ap, subst, ◌∙◌, ⊎_elim, arith}
-use Rattle.std.proofs.lemmas.Bool.{cases_Bool, cases_lt, both_ways}
-use Rattle.zr_kinds.specs.CopyingReceiver.{Placed, next_missing, lead, accepts, value_at, brought, first_of, filled, received_part}
-use Rattle.tcp_reorder.specs.Parts.{IsReceived, AreSame, PartsMakeTheFrame}
-use Rattle.zr_kinds.proofs.InOrder.{first_of-nothing}
-use Rattle.zr_kinds.proofs.LeastMissing.{value_at-past, next_missing-least, same_least}
-use Rattle.zr_kinds.proofs.ValuesFrom.{first_of-some}
-use Rattle.tcp_reorder.proofs.Holding.{brought-at, brought-before, brought-past, first_of-there}
-use Rattle.tcp_reorder.proofs.GapByGap.{filled-past}
-use Rattle.tcp_reorder.proofs.Judging.{judged_alike, accepted}
+use Rattle.std.proofs.Common.{◌≡◌, ℕ, zero, suc, ◌+◌, ◌-◌, ◌^◌, ◌<◌, ◌≤◌, List, [], ◌∷◌, ◌++◌, length, length-append, Bool, true, false, if◌then◌else◌}
+use Rattle.std.proofs.{Common.{Option, Some, None, IsSome, is_some, refl, sym, ap, subst, ◌∙◌, ⊎_elim, arith}, lemmas.Bool.{cases_Bool, cases_lt, both_ways}}
+use Rattle.zr_kinds.{specs.CopyingReceiver.{Placed, next_missing, lead, accepts, value_at, brought, first_of, filled, received_part}, proofs.InOrder.{first_of-nothing}}
+use Rattle.zr_kinds.proofs.{LeastMissing.{value_at-past, next_missing-least, same_least}, ValuesFrom.{first_of-some}}
+use Rattle.tcp_reorder.{specs.Parts.{IsReceived, AreSame, PartsMakeTheFrame}, proofs.Holding.{brought-at, brought-before, brought-past, first_of-there}}
+use Rattle.tcp_reorder.proofs.{GapByGap.{filled-past}, Judging.{judged_alike, accepted}}
 
 module _ {A : Type 0} where
   -- ---- one list behind another

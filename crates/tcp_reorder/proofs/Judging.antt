@@ -1,9 +1,7 @@
 -- Why the pieces of a frame are judged alike.
-use Rattle.std.proofs.Common.{◌≡◌, ℕ, ◌+◌, ◌%◌, ◌^◌, ◌<◌, ◌≤◌, true, arith}
-use Rattle.std.proofs.lemmas.Bool.{and_from, and_parts, le-leb, leb-true}
+use Rattle.std.proofs.{Common.{◌≡◌, ℕ, ◌+◌, ◌%◌, ◌^◌, ◌<◌, ◌≤◌, true, arith}, lemmas.Bool.{and_from, and_parts, le-leb, leb-true}}
 use Rattle.zr_kinds.specs.CopyingReceiver.{lead, accepts}
-use Rattle.tcp_reorder.specs.Laws.{AreJudgedAlike, PartsAreAccepted, NextNeverFalls}
-use Rattle.tcp_reorder.proofs.Positions.{EndWithin-with_kept}
+use Rattle.tcp_reorder.{specs.Laws.{AreJudgedAlike, PartsAreAccepted, NextNeverFalls}, proofs.Positions.{EndWithin-with_kept}}
 use Rattle.tcp_reorder.proofs.Least.{next_of-with_kept, next_of-within}
 
 pub accepted : (base n seq total : ℕ) → accepts base n seq total ≡ true → (lead base n seq + total ≤ 2 ^ 30 + 2 ^ 31)

@@ -1,9 +1,7 @@
 -- The first missing position.
-use Rattle.std.proofs.Common.{◌≡◌, ℕ, ◌<◌, ◌≤◌, nat_lt, Bool, true, false, None, IsSome, is_some, refl}
-use Rattle.std.proofs.Common.{ap, ◌∙◌, ⊎_elim, arith}
+use Rattle.std.proofs.Common.{◌≡◌, ℕ, ◌<◌, ◌≤◌, nat_lt, Bool, true, false, None, IsSome, is_some, refl, ap, ◌∙◌, ⊎_elim, arith}
 use Rattle.std.proofs.lemmas.Bool.{or_from, or_left, or_right, or_cases, or_parts, le-ltb, ltb-false, cases_lt, cases_order, both_ways}
-use Rattle.zr_kinds.specs.ReceiverLaws.{IsLeastMissing}
-use Rattle.zr_kinds.proofs.LeastMissing.{next_missing-least}
+use Rattle.zr_kinds.{specs.ReceiverLaws.{IsLeastMissing}, proofs.LeastMissing.{next_missing-least}}
 use Rattle.tcp_reorder.specs.Queue.{Kept, Queue, covers, is_kept, present, has, top_of, positions_of, next_of, with_kept, EndWithin}
 use Rattle.tcp_reorder.proofs.Positions.{top_of-above, is_kept-past, is_kept-behind, is_kept-with_kept}
 

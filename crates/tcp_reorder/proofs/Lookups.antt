@@ -1,14 +1,8 @@
 -- What a look-up by position finds among the entries of the map.
-use Rattle.std.proofs.Common.{◌≡◌, ℕ, ◌+◌, ◌<◌, ◌≤◌, List, [], ◌∷◌, ◌++◌, nat_le, filter, Bool, true, false, ◌⊎◌, refl}
-use Rattle.std.proofs.Common.{sym, ◌∙◌, subst, ⊎_elim, inl, inr, arith}
-use Rattle.std.specs.Ordering.{nat_cmp}
-use Rattle.std.specs.BTreeMap.Range.{range_contains}
-use Rattle.std.specs.declared.ops.Bound.TheVariants.{Included, Unbounded}
-use Rattle.std.proofs.lemmas.Bool.Decides.{nat_tests}
-use Rattle.std.proofs.lemmas.Bool.{or_from, or_left, or_right, or_parts, leb-true, leb-false, cases_lt, cases_Bool, both_ways}
-use Rattle.tcp_reorder.specs.declared.piece.KeptPiece.{KeptPiece}
-use Rattle.tcp_reorder.specs.Queue.{end_of, covers, is_kept, AreApart, EndWithin}
-use Rattle.tcp_reorder.specs.Pieces.{kept_of, all_kept}
+use Rattle.std.proofs.Common.{◌≡◌, ℕ, ◌+◌, ◌<◌, ◌≤◌, List, [], ◌∷◌, ◌++◌, nat_le, filter, Bool, true, false, ◌⊎◌, refl, sym, ◌∙◌, subst, ⊎_elim, inl, inr, arith}
+use Rattle.std.specs.{Ordering.{nat_cmp}, BTreeMap.Range.{range_contains}, declared.ops.Bound.TheVariants.{Included, Unbounded}}
+use Rattle.std.proofs.lemmas.Bool.{Decides.{nat_tests}, or_from, or_left, or_right, or_parts, leb-true, leb-false, cases_lt, cases_Bool, both_ways}
+use Rattle.tcp_reorder.specs.{declared.piece.KeptPiece.{KeptPiece}, Queue.{end_of, covers, is_kept, AreApart, EndWithin}, Pieces.{kept_of, all_kept}}
 use Rattle.tcp_reorder.proofs.Positions.{covers-within, covers-before, covers-behind, is_kept-below}
 
 not_nil : {A : Type 0} (before : List A) (last : A) → [] ≡ before ++ last ∷ [] → ⊥

@@ -1,18 +1,11 @@
 -- Why a frame that was accepted is judged alike after its own bytes were taken, and after pops.
-use Rattle.std.proofs.Common.{◌≡◌, ℕ, ◌+◌, ◌-◌, ◌%◌, ◌^◌, ◌<◌, ◌≤◌, nat_lt, true, false, refl, sym, ap, subst, ◌∙◌}
-use Rattle.std.proofs.Common.{⊎_elim, arith}
+use Rattle.std.proofs.Common.{◌≡◌, ℕ, ◌+◌, ◌-◌, ◌%◌, ◌^◌, ◌<◌, ◌≤◌, nat_lt, true, false, refl, sym, ap, subst, ◌∙◌, ⊎_elim, arith}
 use Rattle.std.proofs.lemmas.Bool.{or_parts, le-ltb, both_ways, or_cases}
 use Rattle.zr_kinds.specs.CopyingReceiver.{lead, accepts}
-use Rattle.tcp_reorder.specs.declared.places.Span.{Span}
-use Rattle.tcp_reorder.specs.Queue.{Kept, Queue, is_kept, end_of, next_of, with_kept, IsSound}
-use Rattle.tcp_reorder.specs.Gaps.{origin, kept_at, LosesFirst}
-use Rattle.tcp_reorder.specs.Entering.{CameBy, nothing, took, popped, StaysAccepted}
-use Rattle.tcp_reorder.proofs.Positions.{EndWithin-with_kept}
-use Rattle.tcp_reorder.proofs.Least.{has-next, has-before, next_of-popped, next_of-with_kept, next_of-within}
-use Rattle.tcp_reorder.proofs.Judging.{judged_alike, parts_accepted}
-use Rattle.tcp_reorder.proofs.Sound.{IsAt, MayBeKept, behind-next, taken_is_at, popped_is_at}
-use Rattle.tcp_reorder.proofs.Taking.{may_be_kept}
-use Rattle.tcp_reorder.proofs.Gapping.{wanted_behind}
+use Rattle.tcp_reorder.specs.{declared.places.Span.{Span}, Queue.{Kept, Queue, is_kept, end_of, next_of, with_kept, IsSound}, Gaps.{origin, kept_at, LosesFirst}}
+use Rattle.tcp_reorder.{specs.Entering.{CameBy, nothing, took, popped, StaysAccepted}, proofs.Positions.{EndWithin-with_kept}}
+use Rattle.tcp_reorder.proofs.{Least.{has-next, has-before, next_of-popped, next_of-with_kept, next_of-within}, Judging.{judged_alike, parts_accepted}}
+use Rattle.tcp_reorder.proofs.{Sound.{IsAt, MayBeKept, behind-next, taken_is_at, popped_is_at}, Taking.{may_be_kept}, Gapping.{wanted_behind}}
 
 module _ {H : Type 0} where
   pub sound-taken : (queue : Queue H) (one : Kept H) → IsSound queue → MayBeKept queue one → IsSound (record queue { kept = with_kept queue.kept one })

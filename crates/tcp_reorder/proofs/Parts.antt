@@ -1,10 +1,7 @@
 -- A gap of a frame meets the conditions of `take`, at its own sequence number.
 use Rattle.std.proofs.Common.{◌≡◌, ℕ, ◌+◌, ◌-◌, ◌%◌, ◌^◌, ◌<◌, ◌≤◌, nat_le, not, true, ◌&&◌, ap, ◌∙◌, arith}
 use Rattle.zr_kinds.specs.CopyingReceiver.{accepts}
-use Rattle.tcp_reorder.specs.declared.places.Gap.{Gap}
-use Rattle.tcp_reorder.specs.Queue.{Queue, has, next_of}
-use Rattle.tcp_reorder.specs.Gaps.{origin, wants, IsFirstGap}
-use Rattle.tcp_reorder.proofs.Judging.{parts_accepted}
+use Rattle.tcp_reorder.{specs.{declared.places.Gap.{Gap}, Queue.{Queue, has, next_of}, Gaps.{origin, wants, IsFirstGap}}, proofs.Judging.{parts_accepted}}
 
 module _ {H : Type 0} (queue : Queue H) (seq len : ℕ) (near : accepts queue.base (next_of queue) seq len ≡ true) where
   -- a part of the frame begins at its place

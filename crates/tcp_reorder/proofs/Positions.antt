@@ -1,6 +1,5 @@
 -- Which positions the kept pieces have.
-use Rattle.std.proofs.Common.{◌≡◌, ℕ, ◌^◌, ◌<◌, ◌≤◌, List, [], ◌∷◌, nat_lt, Bool, true, false, ◌||◌, ◌⊎◌, refl, ap}
-use Rattle.std.proofs.Common.{◌∙◌, ⊎_elim, inl, inr, arith}
+use Rattle.std.proofs.Common.{◌≡◌, ℕ, ◌^◌, ◌<◌, ◌≤◌, List, [], ◌∷◌, nat_lt, Bool, true, false, ◌||◌, ◌⊎◌, refl, ap, ◌∙◌, ⊎_elim, inl, inr, arith}
 use Rattle.std.proofs.lemmas.Bool.{and_from, and_left, and_right, and_parts, or_from, or_left, le-leb, lt-leb, lt-ltb, le-ltb, leb-true, ltb-true, ltb-false}
 use Rattle.std.proofs.lemmas.Bool.{cases_lt, cond_both, both_ways}
 use Rattle.tcp_reorder.specs.Queue.{Kept, end_of, covers, is_kept, top_of, with_kept, AreApart, EndWithin}

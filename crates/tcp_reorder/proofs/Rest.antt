@@ -1,11 +1,7 @@
 -- What the map keeps behind the first piece.
-use Rattle.std.proofs.Common.{◌≡◌, ℕ, ◌+◌, ◌≤◌, List, ◌∷◌, Option, None, Some, refl, ap, arith}
-use Rattle.std.proofs.lemmas.Bool.{le-ltb}
-use Rattle.tcp_reorder.specs.declared.piece.KeptPiece.{KeptPiece}
-use Rattle.tcp_reorder.specs.Queue.{Kept, is_kept, next_of, with_kept, AreApart, EndWithin, IsSound}
-use Rattle.tcp_reorder.specs.Pieces.{kept_of, all_kept, with_first, queue_of}
-use Rattle.tcp_reorder.proofs.Positions.{covers-behind, AreApart-lower}
-use Rattle.tcp_reorder.proofs.Least.{next_of-popped}
+use Rattle.std.proofs.{Common.{◌≡◌, ℕ, ◌+◌, ◌≤◌, List, ◌∷◌, Option, None, Some, refl, ap, arith}, lemmas.Bool.{le-ltb}}
+use Rattle.tcp_reorder.specs.{declared.piece.KeptPiece.{KeptPiece}, Queue.{Kept, is_kept, next_of, with_kept, AreApart, EndWithin, IsSound}}
+use Rattle.tcp_reorder.{specs.Pieces.{kept_of, all_kept, with_first, queue_of}, proofs.{Positions.{covers-behind, AreApart-lower}, Least.{next_of-popped}}}
 use Rattle.tcp_reorder.proofs.Sound.{first_ends}
 
 module _ {H : Type 0} where

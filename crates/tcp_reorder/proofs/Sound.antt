@@ -1,17 +1,12 @@
 -- What each call keeps true of a queue.
 use Rattle.std.proofs.Common.{◌≡◌, ◌≢◌, ℕ, ◌+◌, ◌^◌, ◌<◌, ◌≤◌, List, [], ◌∷◌, length, nat_lt, max, true, false, ◌||◌}
-use Rattle.std.proofs.Common.{None, Some, slice_get, refl, sym, ap, ◌∙◌, subst, ⊎_elim, arith}
-use Rattle.std.specs.Ordering.{nat_cmp}
-use Rattle.std.specs.Map.{lookup}
+use Rattle.std.{proofs.Common.{None, Some, slice_get, refl, sym, ap, ◌∙◌, subst, ⊎_elim, arith}, specs.{Ordering.{nat_cmp}, Map.{lookup}}}
 use Rattle.std.specs.BTreeMap.{insert_entry, is_at}
-use Rattle.std.proofs.lemmas.Bool.{cases_eq, or_from, or_left, or_right, or_parts, or_cases, lt-ltb, le-ltb, cases_lt, both_ways, eq-eqb, ne_eqb}
-use Rattle.std.proofs.lemmas.Bool.Decides.{nat_tests}
+use Rattle.std.proofs.lemmas.Bool.{cases_eq, or_from, or_left, or_right, or_parts, or_cases, lt-ltb, le-ltb, cases_lt, both_ways, eq-eqb, ne_eqb, Decides.{nat_tests}}
 use Rattle.tcp_reorder.specs.declared.piece.KeptPiece.{KeptPiece}
-use Rattle.tcp_reorder.specs.Queue.{Kept, Queue, end_of, covers, is_kept, has, next_of, with_kept, AreApart, EndWithin, IsSound, front_of}
-use Rattle.tcp_reorder.specs.Pieces.{kept_of, all_kept}
+use Rattle.tcp_reorder.specs.{Queue.{Kept, Queue, end_of, covers, is_kept, has, next_of, with_kept, AreApart, EndWithin, IsSound, front_of}, Pieces.{kept_of, all_kept}}
 use Rattle.tcp_reorder.proofs.Positions.{covers-within, covers-before, covers-behind, AreApart-lower, is_kept-below, is_kept-with_kept, EndWithin-more}
-use Rattle.tcp_reorder.proofs.Positions.{EndWithin-with_kept, IsFree, AreApart-with_kept}
-use Rattle.tcp_reorder.proofs.Least.{has-next, has-before, next_of-is, next_of-popped, next_of-within}
+use Rattle.tcp_reorder.proofs.{Positions.{EndWithin-with_kept, IsFree, AreApart-with_kept}, Least.{has-next, has-before, next_of-is, next_of-popped, next_of-within}}
 
 pub first_entry : {A : Type 0} (entries : List A) (first : A) → slice_get entries 0 ≡ Some first → (others : List A) × (entries ≡ first ∷ others)
 first_entry [] first found = cc

@@ -1,19 +1,12 @@
 -- What `take` may keep, and what the map has then.
 use Rattle.std.proofs.Common.{◌≡◌, ℕ, ◌+◌, ◌-◌, ◌^◌, ◌<◌, ◌≤◌, List, [], ◌∷◌, true, false, Option, None, Some, refl, sym, ap, subst, ◌∙◌, arith}
-use Rattle.std.specs.Ordering.{nat_cmp}
-use Rattle.std.specs.Map.{lookup}
-use Rattle.std.specs.BTreeMap.{insert_entry, is_at}
+use Rattle.std.{specs.{Ordering.{nat_cmp}, Map.{lookup}, BTreeMap.{insert_entry, is_at}}, proofs.lemmas.Bool.{or_from, or_left}}
 use Rattle.zr_kinds.specs.CopyingReceiver.{lead, accepts}
-use Rattle.tcp_reorder.specs.declared.piece.KeptPiece.{KeptPiece}
-use Rattle.std.proofs.lemmas.Bool.{or_from, or_left}
-use Rattle.tcp_reorder.specs.Queue.{Kept, Queue, covers, is_kept, next_of, with_kept, IsSound}
-use Rattle.tcp_reorder.specs.Gaps.{origin, wants, AreWanted, with_taken}
-use Rattle.tcp_reorder.specs.Pieces.{kept_of, all_kept, with_first, queue_of}
-use Rattle.tcp_reorder.proofs.Judging.{accepted}
+use Rattle.tcp_reorder.specs.{declared.piece.KeptPiece.{KeptPiece}, Queue.{Kept, Queue, covers, is_kept, next_of, with_kept, IsSound}}
+use Rattle.tcp_reorder.{specs.{Gaps.{origin, wants, AreWanted, with_taken}, Pieces.{kept_of, all_kept, with_first, queue_of}}, proofs.Judging.{accepted}}
 use Rattle.tcp_reorder.proofs.Positions.{covers-within, covers-behind}
 use Rattle.tcp_reorder.proofs.Sound.{IsAt, MayBeKept, behind-next, no_first, taken_is_at, lookup_free, all_kept-insert_entry}
-use Rattle.tcp_reorder.proofs.Rest.{first_end, first_end-low, rest_kept, rest_apart, rest_with_kept}
-use Rattle.tcp_reorder.proofs.Gapping.{origin-is, wanted_free, wanted_behind}
+use Rattle.tcp_reorder.proofs.{Rest.{first_end, first_end-low, rest_kept, rest_apart, rest_with_kept}, Gapping.{origin-is, wanted_free, wanted_behind}}
 
 module _ {H : Type 0} where
   -- a call of `take` that meets its conditions

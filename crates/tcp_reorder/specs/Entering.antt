@@ -1,11 +1,8 @@
 -- How the values of frames enter a queue, as the copying receiver has them: gap after gap, whatever a piece is made of.
 use Rattle.std.specs.Prelude.{◌≡◌, ℕ, ◌+◌, ◌-◌, ◌%◌, ◌^◌, ◌<◌, ◌≤◌, List, [], length, take, drop, true, false}
 use Rattle.zr_kinds.specs.CopyingReceiver.{Placed, nothing_placed, next_missing, accepts, received, received_part, values_from}
-use Rattle.tcp_reorder.specs.declared.places.Gap.{Gap}
-use Rattle.tcp_reorder.specs.declared.places.Span.{Span}
-use Rattle.tcp_reorder.specs.Queue.{Queue, next_of, IsSound}
-use Rattle.tcp_reorder.specs.Gaps.{origin, IsFirstGap, AreWanted, AreUnwanted, with_taken, LosesFirst}
-use Rattle.tcp_reorder.specs.Values.{Holds}
+use Rattle.tcp_reorder.specs.{declared.places.{Gap.{Gap}, Span.{Span}}, Queue.{Queue, next_of, IsSound}}
+use Rattle.tcp_reorder.specs.{Gaps.{origin, IsFirstGap, AreWanted, AreUnwanted, with_taken, LosesFirst}, Values.{Holds}}
 
 -- Of a part of a frame the first `done` values entered the queue, where they were wanted. The frame has `total` values
 -- from the sequence number `seq` on, and the part's are those behind its first `at`.

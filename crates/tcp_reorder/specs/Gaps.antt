@@ -1,9 +1,7 @@
 -- What of a frame's bytes a queue still wants, and how its calls change it.
 use Rattle.std.specs.Prelude.{◌≡◌, ℕ, ◌+◌, ◌-◌, ◌^◌, ◌<◌, ◌≤◌, ◌∷◌, nat_le, not, Bool, true, false, ◌&&◌}
 use Rattle.zr_kinds.specs.CopyingReceiver.{lead}
-use Rattle.tcp_reorder.specs.declared.places.Gap.{Gap}
-use Rattle.tcp_reorder.specs.declared.places.Span.{Span}
-use Rattle.tcp_reorder.specs.Queue.{Kept, Queue, has, next_of, with_kept}
+use Rattle.tcp_reorder.specs.{declared.places.{Gap.{Gap}, Span.{Span}}, Queue.{Kept, Queue, has, next_of, with_kept}}
 
 module _ {H : Type 0} where
   -- the position of the byte with this sequence number, and 2^31 more: so it is no less than 0

@@ -1,7 +1,6 @@
 -- The first piece and the map of a `RecvQueue` as a list of kept pieces.
 use Rattle.std.specs.Prelude.{ℕ, List, ◌∷◌, map, Option, None, Some}
-use Rattle.tcp_reorder.specs.declared.piece.KeptPiece.{KeptPiece}
-use Rattle.tcp_reorder.specs.Queue.{Kept, Queue}
+use Rattle.tcp_reorder.specs.{declared.piece.KeptPiece.{KeptPiece}, Queue.{Kept, Queue}}
 
 abbrev pub kept_of : {H : Type 0} → ℕ × KeptPiece H → Kept H
 kept_of entry = record { position = entry.0; len = entry.1.len; piece = entry.1.held }

@@ -1,6 +1,5 @@
 -- The reassembly queue of one flow: its pieces at their positions in the stream, and how much was popped from its front.
-use Rattle.std.specs.Prelude.{ℕ, ◌+◌, ◌^◌, ◌<◌, ◌≤◌, max, List, [], ◌∷◌, nat_lt, nat_le, if◌then◌else◌, Bool, true, false}
-use Rattle.std.specs.Prelude.{◌&&◌, ◌||◌, ◌==◌, Option, None, Some}
+use Rattle.std.specs.Prelude.{ℕ, ◌+◌, ◌^◌, ◌<◌, ◌≤◌, max, List, [], ◌∷◌, nat_lt, nat_le, if◌then◌else◌, Bool, true, false, ◌&&◌, ◌||◌, ◌==◌, Option, None, Some}
 use Rattle.zr_kinds.specs.CopyingReceiver.{Placed, next_missing}
 
 -- a piece of so many bytes, the first of which is at the position

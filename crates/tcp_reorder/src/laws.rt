@@ -1,6 +1,4 @@
-ghost use Rattle.tcp_reorder.specs.Laws.{AreJudgedAlike, PartsAreAccepted, NextNeverFalls};
-ghost use Rattle.tcp_reorder.specs.Entering.{HoldsWhatCame, StaysAccepted};
-ghost use Rattle.tcp_reorder.specs.Parts.{PartsMakeTheFrame};
+ghost use Rattle.tcp_reorder.specs.{Laws.{AreJudgedAlike, PartsAreAccepted, NextNeverFalls}, Entering.{HoldsWhatCame, StaysAccepted}, Parts.{PartsMakeTheFrame}};
 
 /// A frame of at most 2^30 bytes that was accepted, and of which a byte is wanted, stays accepted at the same positions
 /// while the first missing position grows by at most 2^30. It does nothing: its contract is the law.

@@ -15,6 +15,3 @@ pub use laws::{
 };
 pub use places::{Gap, Span};
 pub use queue::RecvQueue;
-
-#[cfg(test)]
-mod tests;

@@ -1,8 +1,6 @@
 //! Look-ups among the kept pieces by position, and the least of them.
-ghost use Rattle.std.specs.Prelude.{◌≡◌, ℕ, ◌+◌, ◌^◌, ◌<◌, ◌≤◌, [], ◌∷◌, true, false, None, MatchOption, slice_get};
-ghost use Rattle.std.specs.Option.{option_map};
-ghost use Rattle.tcp_reorder.specs.Queue.{AreApart, EndWithin, is_kept};
-ghost use Rattle.tcp_reorder.specs.Pieces.{all_kept, with_first};
+ghost use Rattle.std.specs.{Prelude.{◌≡◌, ℕ, ◌+◌, ◌^◌, ◌<◌, ◌≤◌, [], ◌∷◌, true, false, None, MatchOption, slice_get}, Option.{option_map}};
+ghost use Rattle.tcp_reorder.specs.{Queue.{AreApart, EndWithin, is_kept}, Pieces.{all_kept, with_first}};
 
 use std::collections::BTreeMap;
 

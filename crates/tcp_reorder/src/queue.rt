@@ -1,8 +1,6 @@
-ghost use Rattle.std.specs.Prelude.{◌≡◌, ◌<◌, ◌↔◌, [], true, IsNone, IfSome, IfNone, OnOk, IfErr, OnErr};
-ghost use Rattle.std.specs.Option.{option_map, option_copied};
+ghost use Rattle.std.specs.{Prelude.{◌≡◌, ◌<◌, ◌↔◌, [], true, IsNone, IfSome, IfNone, OnOk, IfErr, OnErr}, Option.{option_map, option_copied}};
 ghost use Rattle.zr_kinds.specs.CopyingReceiver.{accepts};
-ghost use Rattle.tcp_reorder.specs.Queue.{next_of, IsSound, front_of};
-ghost use Rattle.tcp_reorder.specs.Gaps.{IsFirstGap, AreWanted, AreUnwanted, with_taken, span_of, LosesFirst};
+ghost use Rattle.tcp_reorder.specs.{Queue.{next_of, IsSound, front_of}, Gaps.{IsFirstGap, AreWanted, AreUnwanted, with_taken, span_of, LosesFirst}};
 
 use crate::distance::lead;
 use crate::piece::{KeptPiece, first_free, least, next_kept, pop_least};

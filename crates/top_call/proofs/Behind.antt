@@ -1,11 +1,8 @@
 -- Bytes of which a flow too many ends the reading: whatever follows them changes nothing of how it ends.
 use Rattle.std.proofs.Common.{◌≡◌, ◌≢◌, ℕ, List, [], ◌∷◌, ◌++◌, Option, Some, None, ap, ◌∙◌}
-use Rattle.zr_kinds.specs.declared.fault.Fault.{Fault}
-use Rattle.zr_kinds.specs.declared.fault.Fault.TheVariants.{TooManyFlows}
-use Rattle.pcapng_reader.specs.Records.{records_of}
-use Rattle.pcapng_reader.proofs.BlocksGo.{capture-goes}
-use Rattle.frames_read.specs.Ending.{Ending, ended_after, ended_of, ended_or, ending_at, frames_of}
-use Rattle.frames_read.proofs.Reading.{frames-append}
+use Rattle.zr_kinds.specs.declared.fault.Fault.{Fault, TheVariants.{TooManyFlows}}
+use Rattle.pcapng_reader.{specs.Records.{records_of}, proofs.BlocksGo.{capture-goes}}
+use Rattle.frames_read.{specs.Ending.{Ending, ended_after, ended_of, ended_or, ending_at, frames_of}, proofs.Reading.{frames-append}}
 
 -- a reading that ends at one of these frames ends there whatever frames follow
 goes-by : (ending : Option Fault) (before : List (List ℕ)) (first later ended : Ending) → (first ≡ ended → later ≡ ended)

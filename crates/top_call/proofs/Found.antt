@@ -1,7 +1,5 @@
 -- Items behind the first ones of a list.
-use Rattle.std.proofs.Common.{◌≡◌, ℕ, ◌+◌, ◌-◌, ◌≤◌, List, drop}
-use Rattle.std.proofs.Common.{sym, ap, ◌∙◌, arith}
-use Rattle.std.specs.List.{slice_get}
+use Rattle.std.{proofs.Common.{◌≡◌, ℕ, ◌+◌, ◌-◌, ◌≤◌, List, drop, sym, ap, ◌∙◌, arith}, specs.List.{slice_get}}
 use Rattle.run_account.proofs.Ended.{slice-drop}
 
 -- what follows so many is the same, so each of it is

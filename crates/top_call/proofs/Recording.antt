@@ -1,58 +1,28 @@
 -- What the log of a board that is over tells of its run, and how the record goes out behind the report.
 use Rattle.std.proofs.Common.{◌≡◌, ℕ, ◌+◌, ◌*◌, ◌-◌, ◌^◌, ◌<◌, ◌≤◌, nat_le, nat_lt, Bool, true, false, List, [], ◌∷◌, ◌++◌, length, take, drop, get_or}
 use Rattle.std.proofs.Common.{Option, None, Some, Err, refl, sym, ap, subst, ◌∙◌, append_assoc, take-append-drop, arith, lt-ltb}
-use Rattle.std.specs.Prelude.{◌==◌, All, sum_by, if◌then◌else◌}
-use Rattle.std.specs.List.{AllByRecursion, slice_get}
-use Rattle.std.proofs.lemmas.Bool.{leb-false, leb-true}
-use Rattle.std.proofs.lemmas.List.{length-take-le, take_all}
-use Rattle.std.proofs.lemmas.List.Sums.{count_by-le-length, sum_by-cons}
-use Rattle.std.specs.Io.KnownBytes.{Appends}
-use Rattle.run_records.specs.Setting.{most_events}
+use Rattle.std.{specs.{Prelude.{◌==◌, All, sum_by, if◌then◌else◌}, List.{AllByRecursion, slice_get}}, proofs.lemmas.Bool.{leb-false, leb-true}}
+use Rattle.std.{proofs.lemmas.List.{length-take-le, take_all, Sums.{count_by-le-length, sum_by-cons}}, specs.Io.KnownBytes.{Appends}}
+use Rattle.run_records.specs.{Setting.{most_events}, declared.{event.Event.{Event}, holding.Holding.{Holding}}, Holders.{all_after, no_holdings}}
+use Rattle.run_records.{specs.LegalRun.{HasSmallNumbers, IsLegalRun}, proofs.Weighing.{weight-length}}
 use Rattle.zr_io.specs.Moved.{Gained}
-use Rattle.zr_kinds.specs.declared.behaviour.Behaviour.{Behaviour}
-use Rattle.zr_kinds.specs.declared.outcome.AppLine.{AppLine}
+use Rattle.zr_kinds.specs.declared.{behaviour.Behaviour.{Behaviour}, outcome.AppLine.{AppLine}}
 use Rattle.area_layout.specs.Layout.{IsLayout, MakeLayout, shape_of_areas}
-use Rattle.run_records.specs.declared.event.Event.{Event}
 use Rattle.run_records.specs.declared.event.Event.TheVariants as event
-use Rattle.run_records.specs.declared.holding.Holding.{Holding}
-use Rattle.run_records.specs.Holders.{all_after, no_holdings}
-use Rattle.run_records.specs.LegalRun.{HasSmallNumbers, IsLegalRun}
-use Rattle.board_face.specs.Laws.{AllSides, pool_of}
-use Rattle.board_face.specs.Blank.{blank_app}
-use Rattle.board_face.specs.Sides.{IsApp}
-use Rattle.board_face.proofs.SideLemmas.{IsApp-at}
-use Rattle.board_face.specs.declared.views.nic.NicSide.{NicSide}
-use Rattle.board_face.specs.declared.views.app.AppSide.{AppSide}
-use Rattle.board_face.specs.declared.views.app.LentPiece.{LentPiece}
-use Rattle.flow_queues.specs.Core.{total}
-use Rattle.flow_queues.specs.Totals.{lent_len}
+use Rattle.board_face.{specs.{Laws.{AllSides, pool_of}, Blank.{blank_app}, Sides.{IsApp}, declared.views.nic.NicSide.{NicSide}}, proofs.SideLemmas.{IsApp-at}}
+use Rattle.board_face.specs.declared.views.{app.{AppSide.{AppSide}, LentPiece.{LentPiece}}, parts.Setting.{Setting as Shared}}
+use Rattle.flow_queues.specs.{Core.{total}, Totals.{lent_len}}
 use Rattle.flow_table.specs.Steered.{SteeredTcp}
-use Rattle.event_log.specs.IsLogged.{IsLogged, run_of}
-use Rattle.event_log.specs.Logs.{Kept, log_of}
-use Rattle.event_log.specs.Settings.{areas_of}
-use Rattle.event_log.specs.Settings.{setting_of as run_setting}
-use Rattle.board_face.specs.declared.views.parts.Setting.{Setting as Shared}
-use Rattle.event_log.specs.Tallies.{IsTallied, bytes_in, copies_in, is_copy, is_loan, is_stray, len_of, loan_bytes, loans_in}
-use Rattle.event_log.specs.Plain.{weight}
+use Rattle.event_log.specs.{IsLogged.{IsLogged, run_of}, Logs.{Kept, log_of}, Settings.{areas_of, setting_of as run_setting}}
+use Rattle.event_log.specs.{Tallies.{IsTallied, bytes_in, copies_in, is_copy, is_loan, is_stray, len_of, loan_bytes, loans_in}, Plain.{weight}}
 use Rattle.event_log.proofs.Runs.{ended-law, no-holders}
-use Rattle.run_records.proofs.Weighing.{weight-length}
-use Rattle.plain_board.specs.Board.{Board, sides_of, stand_of}
-use Rattle.plain_board.specs.Finish.{IsOver}
-use Rattle.plain_board.specs.Recorded.{IsRecorded}
-use Rattle.plain_board.specs.Sound.{IsPhased, IsSound}
+use Rattle.plain_board.{specs.{Board.{Board, sides_of, stand_of}, Finish.{IsOver}, Recorded.{IsRecorded}, Sound.{IsPhased, IsSound}}, proofs.Ending.{boards-end_well}}
 use Rattle.replay_turns.specs.Events.{room_of}
-use Rattle.plain_board.proofs.Ending.{boards-end_well}
-use Rattle.card_feed.specs.Account.{AccountsFor, AppAccounts}
-use Rattle.card_feed.specs.Counts.{capped}
-use Rattle.card_feed.specs.Plan.{IsPlan}
-use Rattle.card_feed.specs.declared.plan.Plan.{Plan}
-use Rattle.run_account.specs.Ran.{Ran, Told}
-use Rattle.run_account.proofs.Places.{get-within}
-use Rattle.run_report.specs.Report.{Reports}
-use Rattle.run_report.specs.declared.report.Unreported.{Unreported}
+use Rattle.card_feed.specs.{Account.{AccountsFor, AppAccounts}, Counts.{capped}, Plan.{IsPlan}, declared.plan.Plan.{Plan}}
+use Rattle.run_account.{specs.Ran.{Ran, Told}, proofs.Places.{get-within}}
+use Rattle.run_report.specs.{Report.{Reports}, declared.report.Unreported.{Unreported}}
 use Rattle.run_report.specs.declared.report.Unreported.TheVariants as unreported
-use Rattle.top_call.specs.Records.{HasRecord, IsLineOf, IsReportOf, TellsRun, setting_of}
-use Rattle.top_call.specs.declared.card.Card.{Card}
+use Rattle.top_call.specs.{Records.{HasRecord, IsLineOf, IsReportOf, TellsRun, setting_of}, declared.card.Card.{Card}}
 
 -- ---- the areas
 

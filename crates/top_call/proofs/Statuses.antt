@@ -1,49 +1,24 @@
 -- What the status of a replay says of how it went.
 use Rattle.std.proofs.Common.{◌≡◌, ◌≢◌, nat_eq, ℕ, suc, List, [], ◌∷◌, length, ◌<◌, Bool, true, false, ◌||◌, Option, None, Some}
-use Rattle.std.proofs.Common.{refl, sym, ap, subst, ◌∙◌, ◌⊎◌, ⊎_elim, inl, inr, arith}
-use Rattle.std.proofs.Common.{get_or, ◌≤◌, option_map}
-use Rattle.std.proofs.lemmas.List.Folds.{list_any_at}
-use Rattle.std.proofs.lemmas.Option.{get_or_from_slice_get}
-use Rattle.std.specs.Prelude.{IfSome, OnOk, Result, Ok, Err, ◌==◌, if◌then◌else◌, is_some}
-use Rattle.std.specs.List.{slice_get}
-use Rattle.std.proofs.lemmas.Bool.{cases_eq}
-use Rattle.std.proofs.lemmas.Bool.{cases_lt}
-use Rattle.std.proofs.lemmas.Bool.Decides.{nat_tests}
-use Rattle.zr_kinds.specs.declared.fault.Fault.{Fault}
-use Rattle.zr_kinds.specs.declared.fault.Fault.TheVariants.{Memory, Usage, NotPcap, Version, LinkType, Cut, LongRecord, Read, Write, TooManyFlows}
-use Rattle.zr_kinds.specs.declared.fault.Fault.TheVariants.{TooManyFrames, BadBlock, BadRun}
-use Rattle.zr_kinds.specs.declared.behaviour.Stopped.{Stopped}
+use Rattle.std.proofs.{Common.{refl, sym, ap, subst, ◌∙◌, ◌⊎◌, ⊎_elim, inl, inr, arith, get_or, ◌≤◌, option_map}, lemmas.List.Folds.{list_any_at}}
+use Rattle.std.{proofs.lemmas.Option.{get_or_from_slice_get}, specs.{Prelude.{IfSome, OnOk, Result, Ok, Err, ◌==◌, if◌then◌else◌, is_some}, List.{slice_get}}}
+use Rattle.std.proofs.lemmas.Bool.{cases_eq, cases_lt, Decides.{nat_tests}}
+use Rattle.zr_kinds.specs.declared.fault.Fault.{Fault, TheVariants.{Memory, Usage, NotPcap, Version, LinkType, Cut, LongRecord, Read, Write, TooManyFlows}}
+use Rattle.zr_kinds.specs.declared.{fault.Fault.TheVariants.{TooManyFrames, BadBlock, BadRun}, behaviour.Stopped.{Stopped}, outcome.AppLine.{AppLine}}
 use Rattle.zr_kinds.specs.declared.behaviour.Stopped.TheVariants as stop
-use Rattle.zr_kinds.specs.declared.outcome.AppLine.{AppLine}
-use Rattle.zr_io.specs.Moved.{Rose, Took}
-use Rattle.zr_io.proofs.Moved.{Took-then, Took-weaker}
-use Rattle.frames_read.specs.Ending.{Ending, ended_of, steered_in}
-use Rattle.frames_read.specs.Reading.{ShowsEnding, BreaksOff, TakenEnds, IsEnding, IsReadToEnd}
-use Rattle.frames_read.proofs.Endings.{some-weaker}
-use Rattle.board_face.specs.declared.views.nic.NicSide.{NicSide}
-use Rattle.board_face.specs.declared.views.app.AppSide.{AppSide}
-use Rattle.card_feed.specs.Need.{buffers_of, need_in}
-use Rattle.card_feed.specs.Offered.{offers_of, WantsRoom}
-use Rattle.card_feed.specs.declared.plan.Plan.{Plan}
-use Rattle.card_feed.specs.Plan.{how_of, plain_behaviour}
+use Rattle.zr_io.{specs.Moved.{Rose, Took}, proofs.Moved.{Took-then, Took-weaker}}
+use Rattle.frames_read.{specs.{Ending.{Ending, ended_of, steered_in}, Reading.{ShowsEnding, BreaksOff, TakenEnds, IsEnding, IsReadToEnd}}, proofs.Endings.{some-weaker}}
+use Rattle.board_face.specs.declared.views.{nic.NicSide.{NicSide}, app.AppSide.{AppSide}}
+use Rattle.card_feed.specs.{Need.{buffers_of, need_in}, Offered.{offers_of, WantsRoom}, declared.plan.Plan.{Plan}, Plan.{how_of, plain_behaviour}}
 use Rattle.card_feed.proofs.OfFlow.{there}
-use Rattle.run_account.specs.Running.{losses_in, losses_or}
-use Rattle.run_account.specs.Ran.{HasReadOn, HaveWholeStreams, Ran, Told}
-use Rattle.run_account.proofs.WholeStreams.{whole-streams}
-use Rattle.command_words.specs.Options.{AreInRange}
-use Rattle.command_words.specs.Words.{ReplayShown}
-use Rattle.top_call.specs.Planned.{IsPlanOf}
-use Rattle.top_call.specs.Records.{HasRecord, record_in}
-use Rattle.top_call.specs.declared.card.Card.{Card}
-use Rattle.top_call.proofs.Behind.{ended_of-behind}
-use Rattle.run_account.proofs.AppLines.{found-there}
-use Rattle.run_account.proofs.Places.{get-within}
-use Rattle.top_call.proofs.Found.{get-same_rest}
-use Rattle.run_report.specs.Report.{Reports, answer_of}
-use Rattle.run_report.specs.declared.report.Unreported.{Unreported}
-use Rattle.run_report.specs.declared.report.Unreported.TheVariants as unreported
+use Rattle.run_account.{specs.{Running.{losses_in, losses_or}, Ran.{HasReadOn, HaveWholeStreams, Ran, Told}}, proofs.WholeStreams.{whole-streams}}
+use Rattle.run_account.proofs.{AppLines.{found-there}, Places.{get-within}}
+use Rattle.command_words.specs.{Options.{AreInRange}, Words.{ReplayShown}}
+use Rattle.top_call.{specs.{Planned.{IsPlanOf}, Records.{HasRecord, record_in}, declared.card.Card.{Card}}, proofs.{Behind.{ended_of-behind}, Found.{get-same_rest}}}
 use Rattle.top_call.specs.Status.{is_memory, is_write, any_stopped, end_number, status_from, status_of}
 use Rattle.top_call.specs.StreamTheorem.{HasLost, IsStatusOf, IsStatus, IsBrokenOff, RanWith, Replays, Tells}
+use Rattle.run_report.specs.{Report.{Reports, answer_of}, declared.report.Unreported.{Unreported}}
+use Rattle.run_report.specs.declared.report.Unreported.TheVariants as unreported
 
 -- ---- the ways in which a reading ends
 

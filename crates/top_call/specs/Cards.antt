@@ -1,15 +1,9 @@
 -- The board in a card.
 use Rattle.std.specs.Prelude.{◌≡◌, ℕ, ⊤, List, All, Option, None, Some}
 use Rattle.area_layout.specs.Layout.{pool_buffers}
-use Rattle.board_face.specs.Ended.{IsEachOnce, IsServed}
-use Rattle.board_face.specs.declared.views.nic.NicSide.{NicSide}
-use Rattle.board_face.specs.declared.views.app.AppSide.{AppSide}
-use Rattle.plain_board.specs.Finish.{IsOver, free_of, HasNoCounts}
-use Rattle.plain_board.specs.Board.{sides_of, stand_of}
-use Rattle.plain_board.specs.Recorded.{IsRecorded}
-use Rattle.plain_board.specs.Sound.{IsSound}
-use Rattle.word_board.specs.Board.{card_of}
-use Rattle.word_board.specs.Desk.{AllAreBack, AreServed, HasNoHolders, StandInOrder}
+use Rattle.board_face.specs.{Ended.{IsEachOnce, IsServed}, declared.views.{nic.NicSide.{NicSide}, app.AppSide.{AppSide}}}
+use Rattle.plain_board.specs.{Finish.{IsOver, free_of, HasNoCounts}, Board.{sides_of, stand_of}, Recorded.{IsRecorded}, Sound.{IsSound}}
+use Rattle.word_board.specs.{Board.{card_of}, Desk.{AllAreBack, AreServed, HasNoHolders, StandInOrder}}
 use Rattle.top_call.specs.declared.card.Card.{Card}
 
 -- there is a board, and it is over

@@ -1,12 +1,8 @@
 -- What `check` leaves.
-use Rattle.std.specs.Prelude.{◌≡◌, ◌≢◌, ℕ, List, [], ◌∷◌, ◌++◌, ◌==◌, ◌⊎◌, true, take, codes, Option, IfSome}
-use Rattle.std.specs.Fmt.{decimal}
-use Rattle.std.specs.List.{list_any}
+use Rattle.std.specs.{Prelude.{◌≡◌, ◌≢◌, ℕ, List, [], ◌∷◌, ◌++◌, ◌==◌, ◌⊎◌, true, take, codes, Option, IfSome}, Fmt.{decimal}, List.{list_any}}
 use Rattle.std.specs.Io.KnownBytes.{Appends, IsAtEnd}
 use Rattle.zr_io.specs.Moved.{Rose}
-use Rattle.run_check.specs.Judged.{Judges}
-use Rattle.run_check.specs.declared.checking.Checked.{Checked}
-use Rattle.run_check.specs.declared.checking.Checked.TheVariants.{Yes, No}
+use Rattle.run_check.specs.{Judged.{Judges}, declared.checking.Checked.{Checked, TheVariants.{Yes, No}}}
 
 -- the line that says what was found
 abbrev pub check_line : Checked → List ℕ

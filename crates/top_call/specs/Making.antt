@@ -1,7 +1,5 @@
 -- What `make` leaves.
-use Rattle.std.specs.Prelude.{◌≡◌, ℕ, List, [], ◌∷◌, ◌==◌, true, take, Option}
-use Rattle.std.specs.List.{list_any}
-use Rattle.std.specs.Io.KnownBytes.{Appends}
+use Rattle.std.specs.{Prelude.{◌≡◌, ℕ, List, [], ◌∷◌, ◌==◌, true, take, Option}, List.{list_any}, Io.KnownBytes.{Appends}}
 use Rattle.zr_io.specs.Moved.{Rose}
 use Rattle.cap_make.specs.GeneratedCapture.{generated_capture}
 

@@ -1,19 +1,13 @@
 -- The record that a replay writes behind its report, where it is asked for, and what it tells of the run.
-use Rattle.std.specs.Prelude.{◌≡◌, ℕ, ◌≤◌, ⊤, true, false, if◌then◌else◌, List, [], length, Some}
-use Rattle.std.specs.List.{slice_get}
+use Rattle.std.specs.{Prelude.{◌≡◌, ℕ, ◌≤◌, ⊤, true, false, if◌then◌else◌, List, [], length, Some}, List.{slice_get}}
 use Rattle.zr_kinds.specs.declared.behaviour.Stopped.TheVariants as stop
 use Rattle.zr_kinds.specs.declared.outcome.AppLine.{AppLine}
-use Rattle.run_records.specs.declared.event.Event.{Event}
-use Rattle.run_records.specs.Setting.{most_events, Setting}
-use Rattle.run_records.specs.Holders.{Holdings, all_after, no_holdings}
-use Rattle.run_records.specs.LegalRun.{IsLegalRun}
+use Rattle.run_records.specs.{declared.event.Event.{Event}, Setting.{most_events, Setting}, Holders.{Holdings, all_after, no_holdings}, LegalRun.{IsLegalRun}}
 use Rattle.run_records.specs.RunText.{text_of}
-use Rattle.event_log.specs.Logs.{Kept, log_of}
+use Rattle.event_log.specs.{Logs.{Kept, log_of}, Tallies.{AreTallied, bytes_in, copies_in, loans_in, strays_in}}
 use Rattle.board_face.specs.Laws.{AllSides}
-use Rattle.event_log.specs.Tallies.{AreTallied, bytes_in, copies_in, loans_in, strays_in}
 use Rattle.plain_board.specs.Board.{sides_of}
-use Rattle.card_feed.specs.Counts.{capped}
-use Rattle.card_feed.specs.declared.plan.Plan.{Plan}
+use Rattle.card_feed.specs.{Counts.{capped}, declared.plan.Plan.{Plan}}
 use Rattle.run_account.specs.Ran.{Told}
 use Rattle.top_call.specs.declared.card.Card.{Card}
 

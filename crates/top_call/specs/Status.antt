@@ -1,12 +1,7 @@
 -- The status of a replay.
-use Rattle.std.specs.Prelude.{ℕ, List, Bool, true, false, Option, Some, None}
-use Rattle.std.specs.List.{list_any}
-use Rattle.zr_kinds.specs.declared.fault.Fault.{Fault}
-use Rattle.zr_kinds.specs.declared.fault.Fault.TheVariants.{Memory}
-use Rattle.zr_kinds.specs.Fault.{number_of}
-use Rattle.zr_kinds.specs.declared.behaviour.Stopped.{Stopped}
+use Rattle.std.specs.{Prelude.{ℕ, List, Bool, true, false, Option, Some, None}, List.{list_any}}
+use Rattle.zr_kinds.specs.{declared.{fault.Fault.{Fault, TheVariants.{Memory}}, behaviour.Stopped.{Stopped}, outcome.AppLine.{AppLine}}, Fault.{number_of}}
 use Rattle.zr_kinds.specs.declared.behaviour.Stopped.TheVariants as stop
-use Rattle.zr_kinds.specs.declared.outcome.AppLine.{AppLine}
 use Rattle.run_account.specs.Ran.{Told}
 
 abbrev pub is_memory : Stopped → Bool

@@ -1,32 +1,18 @@
 -- What a replay leaves: the streams on their shelves, the report, the status, and the board of the run.
 use Rattle.std.specs.Prelude.{◌≡◌, ◌≢◌, ℕ, ◌<◌, ◌≤◌, List, [], ◌∷◌, ◌++◌, length, ◌==◌, true, Option, Some, None, Result, IfSome, OnOk, ◌⊎◌, ⊤}
 use Rattle.std.specs.List.{list_any, slice_get}
-use Rattle.zr_kinds.specs.declared.fault.Fault.{Fault}
-use Rattle.zr_kinds.specs.declared.fault.Fault.TheVariants.{Cut}
+use Rattle.zr_kinds.specs.declared.{fault.Fault.{Fault, TheVariants.{Cut}}, outcome.AppLine.{AppLine}}
 use Rattle.zr_io.specs.Moved.{Rose, Took}
-use Rattle.board_face.specs.declared.views.nic.NicSide.{NicSide}
-use Rattle.board_face.specs.declared.views.app.AppSide.{AppSide}
-use Rattle.command_words.specs.Words.{ReplayShown, Shown, replay, make, check}
-use Rattle.command_words.specs.declared.options.Options.{Options}
-use Rattle.frames_read.specs.Ending.{ended_of, steered_in}
-use Rattle.frames_read.specs.Reading.{IsReadToEnd}
+use Rattle.board_face.specs.declared.views.{nic.NicSide.{NicSide}, app.AppSide.{AppSide}}
+use Rattle.command_words.specs.{Words.{ReplayShown, Shown, replay, make, check}, declared.options.Options.{Options}}
+use Rattle.frames_read.specs.{Ending.{ended_of, steered_in}, Reading.{IsReadToEnd}}
 use Rattle.zr_kinds.specs.declared.behaviour.Stopped.TheVariants as stop
-use Rattle.zr_kinds.specs.declared.outcome.AppLine.{AppLine}
-use Rattle.card_feed.specs.declared.plan.Plan.{Plan}
-use Rattle.card_feed.specs.Need.{buffers_of, need_in}
-use Rattle.card_feed.specs.Offered.{offers_of}
-use Rattle.run_account.specs.Running.{losses_in}
-use Rattle.run_account.specs.Ran.{HasReadOn, HaveWholeStreams, LacksMemory, LacksMemoryBeside, Ran, Told}
+use Rattle.card_feed.specs.{declared.plan.Plan.{Plan}, Need.{buffers_of, need_in}, Offered.{offers_of}}
+use Rattle.run_account.specs.{Running.{losses_in}, Ran.{HasReadOn, HaveWholeStreams, LacksMemory, LacksMemoryBeside, Ran, Told}}
 use Rattle.replay_turns.specs.Following.{RunsBy}
-use Rattle.run_report.specs.Report.{report_of, Reports, answer_of}
-use Rattle.run_report.specs.declared.report.Unreported.{Unreported}
-use Rattle.top_call.specs.Cards.{HasOver, HasSides, IsClosed, IsOfWay}
-use Rattle.top_call.specs.Planned.{IsPlanOf}
-use Rattle.top_call.specs.Records.{HasRecord, record_in}
-use Rattle.top_call.specs.Status.{end_number, status_of}
-use Rattle.top_call.specs.Making.{Makes}
-use Rattle.top_call.specs.Checking.{Checks}
-use Rattle.top_call.specs.declared.card.Card.{Card}
+use Rattle.run_report.specs.{Report.{report_of, Reports, answer_of}, declared.report.Unreported.{Unreported}}
+use Rattle.top_call.specs.{Cards.{HasOver, HasSides, IsClosed, IsOfWay}, Planned.{IsPlanOf}, Records.{HasRecord, record_in}, Status.{end_number, status_of}}
+use Rattle.top_call.specs.{Making.{Makes}, Checking.{Checks}, declared.card.Card.{Card}}
 
 -- Want of memory, a failed read and a lost shelf show in no byte. Any other status is that of what ended the reading.
 abbrev pub IsStatusOf : ℕ → Option Fault → Type 0

@@ -1,20 +1,15 @@
 //! The top call: a command's words, a source, eight shelves and a sink.
 
-ghost use Rattle.std.specs.Prelude.{◌≡◌, ℕ, ◌≤◌, ◌<◌, ◌⊎◌, List, Option, None, Some, IfSome, IfOk, IfErr, OnErr, OnOk, Ok, ◌++◌, map, length, take, vec_len};
-ghost use Rattle.std.specs.Io.KnownBytes.{Appends};
+ghost use Rattle.std.specs.{Prelude.{◌≡◌, ℕ, ◌≤◌, ◌<◌, ◌⊎◌, List, Option, None, Some, IfSome, IfOk, IfErr, OnErr, OnOk, Ok, ◌++◌, map, length, take, vec_len}, Io.KnownBytes.{Appends}};
 ghost use Rattle.zr_io.specs.Moved.{AddsPiece, HasCause, Rose};
 ghost use Rattle.area_layout.specs.Layout.{MakeLayout};
 ghost use Rattle.cap_make.specs.GeneratedCapture.{generated_capture};
-ghost use Rattle.command_words.specs.Options.{AreInRange, GoesByTurns};
-ghost use Rattle.command_words.specs.Words.{IsPortList, reading_of, replay};
+ghost use Rattle.command_words.specs.{Options.{AreInRange, GoesByTurns}, Words.{IsPortList, reading_of, replay}};
 ghost use Rattle.card_feed.specs.Plan.{IsPlan, TakesTurns};
 ghost use Rattle.run_account.specs.Ran.{told_of};
 ghost use Rattle.run_report.specs.Report.{Reports, report_of};
 ghost use Rattle.replay_turns.specs.Schedule.{AreTurns};
-ghost use Rattle.top_call.specs.Cards.{IsClosed};
-ghost use Rattle.top_call.specs.Planned.{IsPlanOf};
-ghost use Rattle.top_call.specs.Records.{HasRecord, record_in};
-ghost use Rattle.top_call.specs.StreamTheorem.{Answers, Commands, IsThreaded, IsUntouched, LacksMemoryBy, RanWith, RepliesTo, Tells, asked_by};
+ghost use Rattle.top_call.specs.{Cards.{IsClosed}, Planned.{IsPlanOf}, Records.{HasRecord, record_in}, StreamTheorem.{Answers, Commands, IsThreaded, IsUntouched, LacksMemoryBy, RanWith, RepliesTo, Tells, asked_by}};
 
 use crate::card::Card;
 use crate::checking::check_record;

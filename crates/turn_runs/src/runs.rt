@@ -1,6 +1,5 @@
 //! One run over memory, and what it left.
-ghost use Rattle.std.specs.Prelude.{◌<◌, ◌≤◌, length, nat_eq, IsTrue, IfOk};
-ghost use Rattle.std.specs.List.{IsDistinct};
+ghost use Rattle.std.specs.{Prelude.{◌<◌, ◌≤◌, length, nat_eq, IsTrue, IfOk}, List.{IsDistinct}};
 ghost use Rattle.card_feed.specs.Plan.{IsPlan, TakesTurns};
 ghost use Rattle.replay_turns.specs.Schedule.{AreTurns};
 

@@ -1,39 +1,17 @@
 -- What an application's seat keeps beside the words still tells of its side after each event.
 use Rattle.std.proofs.Common.{◌≡◌, ℕ, ◌+◌, ◌-◌, ◌%◌, ◌<◌, ◌≤◌, Bool, true, false, List, [], ◌∷◌, ◌++◌, length, map, take, refl, ap, sym, ◌∙◌, subst, arith}
-use Rattle.std.specs.Prelude.{◌==◌, if◌then◌else◌, All, Option, Some, None, slice_index, slice_set}
-use Rattle.std.proofs.lemmas.List.{length-set, length-append}
-use Rattle.std.proofs.lemmas.List.Elements.{All-nil, All-cons, All-append, All-push, All-map, All-contains}
-use Rattle.std.proofs.Math.Nat.{mod-add-mod, mod-lt}
-use Rattle.zr_kinds.specs.declared.place.Place.{Place}
-use Rattle.zr_kinds.specs.declared.place.Note.{Note}
-use Rattle.zr_kinds.specs.declared.ring.Rqe.{Rqe}
+use Rattle.std.{specs.Prelude.{◌==◌, if◌then◌else◌, All, Option, Some, None, slice_index, slice_set}, proofs.lemmas.List.{length-set, length-append}}
+use Rattle.std.proofs.{lemmas.List.Elements.{All-nil, All-cons, All-append, All-push, All-map, All-contains}, Math.Nat.{mod-add-mod, mod-lt}}
+use Rattle.zr_kinds.specs.declared.{place.{Place.{Place}, Note.{Note}}, ring.Rqe.{Rqe}}
 use Rattle.area_layout.specs.Layout.{total as all_buffers, LiesIn}
-use Rattle.board_face.specs.Lists.{same_place}
-use Rattle.board_face.specs.Opened.{unseen}
-use Rattle.board_face.specs.Sides.{app_at}
-use Rattle.board_face.specs.SlotSteps.{side_gave, side_pushed, side_took_note, side_took_linear}
-use Rattle.board_face.specs.Texts.{front_place, rest_place, further}
-use Rattle.board_face.specs.AppCalls.{HasHeld, HasLoan}
-use Rattle.board_face.specs.AppEvents.{app_saw, fell_quiet, cut, held_origin, helds_without, released, lent, has_read, told_end}
-use Rattle.board_face.specs.Returns.{loans_out}
-use Rattle.board_face.specs.declared.answers.Polled.{Polled}
-use Rattle.board_face.specs.declared.answers.Polled.TheVariants.{Note as got_note, Linear as got_linear, Empty as got_none, Ended as got_end}
-use Rattle.board_face.specs.NicCalls.{apps_of}
-use Rattle.board_face.specs.declared.views.parts.Setting.{Setting}
-use Rattle.board_face.specs.declared.views.app.Origin.TheVariants.{Note as of_note}
-use Rattle.board_face.specs.declared.views.app.HeldPiece.{HeldPiece}
-use Rattle.board_face.specs.declared.views.app.LentPiece.{LentPiece}
-use Rattle.board_face.specs.declared.views.app.AppLook.{AppLook}
-use Rattle.board_face.specs.declared.views.app.AppLook.TheVariants.{NoNote, NotQuiet}
-use Rattle.board_face.specs.declared.views.app.AppSide.{AppSide}
-use Rattle.board_face.proofs.ListLemmas.{All-without, eqb_same}
-use Rattle.board_face.proofs.Tallies.{weight, tally-push}
-use Rattle.board_face.proofs.Parts.{count-tally}
-use Rattle.board_face.proofs.LiesLemmas.{loans-at}
-use Rattle.board_face.proofs.WrittenLemmas.{loans-fewer}
-use Rattle.word_board.specs.Hands.{AppRests, AppLies, KnowsSlots, AppKeeps}
-use Rattle.word_board.specs.Polls.{Polls, end_known}
-use Rattle.word_board.proofs.LoansCounted.{count-raised, count-lowered}
+use Rattle.board_face.specs.{Lists.{same_place}, Opened.{unseen}, Sides.{app_at}, SlotSteps.{side_gave, side_pushed, side_took_note, side_took_linear}}
+use Rattle.board_face.specs.{Texts.{front_place, rest_place, further}, AppCalls.{HasHeld, HasLoan}}
+use Rattle.board_face.specs.{AppEvents.{app_saw, fell_quiet, cut, held_origin, helds_without, released, lent, has_read, told_end}, Returns.{loans_out}}
+use Rattle.board_face.specs.declared.answers.Polled.{Polled, TheVariants.{Note as got_note, Linear as got_linear, Empty as got_none, Ended as got_end}}
+use Rattle.board_face.specs.{NicCalls.{apps_of}, declared.views.{parts.Setting.{Setting}, app.{Origin.TheVariants.{Note as of_note}, HeldPiece.{HeldPiece}}}}
+use Rattle.board_face.specs.declared.views.app.{LentPiece.{LentPiece}, AppLook.{AppLook, TheVariants.{NoNote, NotQuiet}}, AppSide.{AppSide}}
+use Rattle.board_face.proofs.{ListLemmas.{All-without, eqb_same}, Tallies.{weight, tally-push}, Parts.{count-tally}, LiesLemmas.{loans-at}, WrittenLemmas.{loans-fewer}}
+use Rattle.word_board.{specs.{Hands.{AppRests, AppLies, KnowsSlots, AppKeeps}, Polls.{Polls, end_known}}, proofs.LoansCounted.{count-raised, count-lowered}}
 
 -- ---- one count raised or lowered
 

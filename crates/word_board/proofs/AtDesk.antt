@@ -3,19 +3,11 @@ use Rattle.std.proofs.Common.{◌≡◌, ℕ, zero, suc, ◌+◌, ◌<◌, ◌�
 use Rattle.std.proofs.Common.{arith, subst, ⊎_elim, length-append}
 use Rattle.std.specs.Prelude.{◌≢◌, All, AllPairs, Option, Some, None, is_none, replicate, nat_eq, count_by, if◌then◌else◌}
 use Rattle.std.proofs.lemmas.List.{append-nil, map-append, replicate-append-replicate, get_or-set_same, get_or-set_other}
-use Rattle.std.proofs.Math.Seq.{take-append_seam, drop-append_seam}
-use Rattle.std.proofs.lemmas.List.Elements.{All-push}
-use Rattle.std.proofs.lemmas.Bool.Decides.{eqb_tells}
-use Rattle.board_face.specs.declared.views.nic.NicSide.{NicSide}
-use Rattle.board_face.specs.declared.views.app.AppSide.{AppSide}
-use Rattle.board_face.proofs.Tallies.{weight}
-use Rattle.ref_words.specs.declared.view.View.{View}
-use Rattle.ref_words.specs.Over.{CardIsOver, AppIsOver}
-use Rattle.ref_words.specs.Seated.{times_in, both_sides, card_view, app_view}
-use Rattle.board_parts.specs.Free.{listed_below}
-use Rattle.board_parts.proofs.FreeLists.{below-rises}
-use Rattle.word_board.specs.Board.{HasDealt, first_nic}
-use Rattle.word_board.specs.Desk.{AreOver, StandInOrder, cache_back}
+use Rattle.std.proofs.{Math.Seq.{take-append_seam, drop-append_seam}, lemmas.{List.Elements.{All-push}, Bool.Decides.{eqb_tells}}}
+use Rattle.board_face.{specs.declared.views.{nic.NicSide.{NicSide}, app.AppSide.{AppSide}}, proofs.Tallies.{weight}}
+use Rattle.ref_words.specs.{declared.view.View.{View}, Over.{CardIsOver, AppIsOver}, Seated.{times_in, both_sides, card_view, app_view}}
+use Rattle.board_parts.{specs.Free.{listed_below}, proofs.FreeLists.{below-rises}}
+use Rattle.word_board.specs.{Board.{HasDealt, first_nic}, Desk.{AreOver, StandInOrder, cache_back}}
 
 -- a seat comes back that dealt nothing out
 pub HasDealt-both : (given : List Bool) (v w : View) → w.dealt ≡ [] → HasDealt given v → HasDealt given (both_sides v w)

@@ -1,36 +1,16 @@
 -- What the card keeps beside the words tells of its side, after each of its events.
 use Rattle.std.proofs.Common.{◌≡◌, ⊎_elim, ℕ, ◌+◌, ◌-◌, ◌%◌, ◌<◌, Bool, true, false, List, [], ◌∷◌, ◌++◌, length, map, take, set}
-use Rattle.std.proofs.Common.{get_or, refl, ap, sym, ◌∙◌, subst, arith}
-use Rattle.std.specs.Prelude.{◌≢◌, ◌==◌, ◌&&◌, nat_lt, if◌then◌else◌, filter, All, Some}
-use Rattle.std.proofs.Math.Nat.{mod-add-mod, mod-lt}
-use Rattle.std.proofs.lemmas.Bool.{ltb-true}
-use Rattle.std.proofs.lemmas.Bool.Decides.{eqb_tells}
-use Rattle.std.proofs.lemmas.List.{get_or-set_same, get_or-set_other, length-set, length_push}
+use Rattle.std.{proofs.Common.{get_or, refl, ap, sym, ◌∙◌, subst, arith}, specs.Prelude.{◌≢◌, ◌==◌, ◌&&◌, nat_lt, if◌then◌else◌, filter, All, Some}}
+use Rattle.std.proofs.{Math.Nat.{mod-add-mod, mod-lt}, lemmas.{Bool.{ltb-true, Decides.{eqb_tells}}, List.{get_or-set_same, get_or-set_other, length-set, length_push}}}
 use Rattle.std.proofs.lemmas.List.Elements.{All-push, All-pop, All-append, All-contains}
 use Rattle.area_layout.specs.Layout.{pool_buffers, size_of}
-use Rattle.board_face.specs.Holders.{sent_to}
-use Rattle.board_face.specs.Lists.{without}
-use Rattle.board_face.specs.NicCalls.{DealtWith, HasNothingIn, HasOwn, TookBuffer, apps_of}
-use Rattle.board_face.specs.NicEvents.{cached, cache_room, fresh, placed, shut, took}
-use Rattle.board_face.specs.Relay.{dealt_entries}
-use Rattle.board_face.specs.Sides.{nic_at}
-use Rattle.board_face.specs.Tokens.{filled_by, same_filling}
-use Rattle.board_face.specs.declared.answers.Entry.{Entry}
-use Rattle.board_face.specs.declared.answers.Entry.TheVariants.{Freed, Honoured, Stray, Empty}
-use Rattle.board_face.specs.declared.views.nic.Dealt.{Dealt}
-use Rattle.board_face.specs.declared.views.nic.NicSide.{NicSide}
-use Rattle.board_face.specs.declared.views.nic.NicView.{NicView}
-use Rattle.board_face.specs.declared.views.nic.SentNote.{SentNote}
-use Rattle.board_face.specs.declared.views.parts.Filling.{Filling}
-use Rattle.board_face.specs.declared.views.parts.Setting.{Setting}
-use Rattle.board_face.specs.declared.views.parts.Slot.{Slot}
-use Rattle.board_face.proofs.DealtLemmas.{dealt-more, dealt-same, length-mapped}
-use Rattle.board_face.proofs.ListLemmas.{All-without}
-use Rattle.board_face.proofs.NicLemmas.{sent_to-same, sent_to-other}
-use Rattle.ref_words.specs.FreeLaws.{IsSwept}
-use Rattle.ref_words.specs.FreeSteps.{found_in, side_swept}
-use Rattle.word_board.specs.Board.{IsSetting, TheNic}
-use Rattle.word_board.specs.Hands.{NicKeeps}
+use Rattle.board_face.specs.{Holders.{sent_to}, Lists.{without}, NicCalls.{DealtWith, HasNothingIn, HasOwn, TookBuffer, apps_of}}
+use Rattle.board_face.specs.{NicEvents.{cached, cache_room, fresh, placed, shut, took}, Relay.{dealt_entries}, Sides.{nic_at}, Tokens.{filled_by, same_filling}}
+use Rattle.board_face.specs.declared.{answers.Entry.{Entry, TheVariants.{Freed, Honoured, Stray, Empty}}, views.nic.{Dealt.{Dealt}, NicSide.{NicSide}}}
+use Rattle.board_face.specs.declared.views.{nic.{NicView.{NicView}, SentNote.{SentNote}}, parts.{Filling.{Filling}, Setting.{Setting}, Slot.{Slot}}}
+use Rattle.board_face.proofs.{DealtLemmas.{dealt-more, dealt-same, length-mapped}, ListLemmas.{All-without}, NicLemmas.{sent_to-same, sent_to-other}}
+use Rattle.ref_words.specs.{FreeLaws.{IsSwept}, FreeSteps.{found_in, side_swept}}
+use Rattle.word_board.specs.{Board.{IsSetting, TheNic}, Hands.{NicKeeps}}
 
 -- ---- the next slots
 

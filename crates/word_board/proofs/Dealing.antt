@@ -1,24 +1,13 @@
 -- Seats that come, take their role, and go back.
-use Rattle.std.proofs.Common.{◌≡◌, ◌≢◌, ⊎_elim, ℕ, ◌<◌, Bool, true, false, List, [], ◌∷◌, length, set, get_or, refl, ap, sym}
-use Rattle.std.proofs.Common.{◌∙◌}
-use Rattle.std.proofs.Common.{arith, subst}
-use Rattle.std.proofs.lemmas.List.{get_or-set_same, get_or-set_other}
-use Rattle.std.proofs.lemmas.Bool.Decides.{eqb_tells}
+use Rattle.std.proofs.Common.{◌≡◌, ◌≢◌, ⊎_elim, ℕ, ◌<◌, Bool, true, false, List, [], ◌∷◌, length, set, get_or, refl, ap, sym, ◌∙◌, arith, subst}
+use Rattle.std.proofs.lemmas.{List.{get_or-set_same, get_or-set_other}, Bool.Decides.{eqb_tells}}
 use mathlib.Core.Option.{some}
 use lib.ListN.{get_elem?}
-use Rattle.atomic_table.specs.Table.{Me, keeps, Allows, Splits, Joins}
-use Rattle.atomic_table.proofs.Lists.{set_else}
-use Rattle.board_face.specs.declared.views.parts.Setting.{Setting}
-use Rattle.board_face.specs.declared.views.nic.NicSide.{NicSide}
-use Rattle.board_face.specs.declared.views.app.AppSide.{AppSide}
-use Rattle.ref_words.specs.declared.view.View.{View}
-use Rattle.ref_words.specs.Words.{Words, roles_of, with_role, role_at, table_of}
-use Rattle.ref_words.specs.Seated.{Seated, times_in, due_view, dealt_out, both_sides, no_role}
-use Rattle.ref_words.specs.Laws.{SplitLaw, JoinLaw, TakesRole}
-use Rattle.ref_words.specs.Rule.{BoardRule}
-use Rattle.board_face.proofs.Tallies.{weight}
-use Rattle.ref_words.proofs.Seating.{in-append}
-use Rattle.ref_words.proofs.Laying.{role-set, role-word}
+use Rattle.atomic_table.{specs.Table.{Me, keeps, Allows, Splits, Joins}, proofs.Lists.{set_else}}
+use Rattle.board_face.{specs.declared.views.{parts.Setting.{Setting}, nic.NicSide.{NicSide}, app.AppSide.{AppSide}}, proofs.Tallies.{weight}}
+use Rattle.ref_words.specs.{declared.view.View.{View}, Words.{Words, roles_of, with_role, role_at, table_of}}
+use Rattle.ref_words.specs.{Seated.{Seated, times_in, due_view, dealt_out, both_sides, no_role}, Laws.{SplitLaw, JoinLaw, TakesRole}, Rule.{BoardRule}}
+use Rattle.ref_words.proofs.{Seating.{in-append}, Laying.{role-set, role-word}}
 use Rattle.word_board.specs.Board.{IsBoard, HasDealt}
 
 pub deals : SplitLaw → (setting : Setting) (r : ℕ) (v : View) → times_in {V = View} (λ v. v.dealt) (λ x. x) r v.dealt ≡ 0

@@ -2,13 +2,9 @@
 use Rattle.std.proofs.Common.{◌≡◌, ℕ, ◌<◌, true, List, [], ◌∷◌, ◌++◌, length, Some, set, get_or, ap, sym, ◌∙◌, arith}
 use Rattle.std.proofs.lemmas.List.{get_or-set_same, set-set, length-set}
 use Rattle.zr_kinds.specs.declared.ring.Rqe.{Rqe}
-use Rattle.board_face.specs.Opened.{unseen}
-use Rattle.board_face.specs.SlotSteps.{seen_with, one_more, next_slot, side_entry_looked, side_entry_loaded, side_in_hand}
-use Rattle.board_face.specs.declared.views.parts.Slot.{Slot}
-use Rattle.board_face.specs.declared.views.nic.Judged.TheVariants.{Not}
-use Rattle.board_face.specs.declared.views.nic.NicSide.{NicSide}
-use Rattle.word_rings.specs.Slots.{entry_of}
-use Rattle.word_rings.proofs.NoteSlots.{pair_back}
+use Rattle.board_face.specs.{Opened.{unseen}, SlotSteps.{seen_with, one_more, next_slot, side_entry_looked, side_entry_loaded, side_in_hand}}
+use Rattle.board_face.specs.declared.views.{parts.Slot.{Slot}, nic.{Judged.TheVariants.{Not}, NicSide.{NicSide}}}
+use Rattle.word_rings.{specs.Slots.{entry_of}, proofs.NoteSlots.{pair_back}}
 use Rattle.word_board.specs.Board.{side_entry_taken}
 
 -- the last word is loaded, and the entry that the words tell of is in hand

@@ -1,16 +1,8 @@
 -- What a law says of a word of the free list is what a step on it does.
-use Rattle.std.proofs.Common.{◌≡◌, ℕ, ◌/◌, ◌%◌, ◌^◌, ◌*◌, ◌<◌, List, set, get_or, refl, ap, sym, ◌∙◌, arith, subst}
-use Rattle.std.specs.Prelude.{bit_and, bit_or}
-use Rattle.std.specs.Int.{bit_not, w64}
-use Rattle.std.proofs.lemmas.Nat.{one_shl}
-use Rattle.board_face.specs.NicCalls.{free_words_of}
-use Rattle.board_face.specs.NicEvents.{word_bits}
-use Rattle.board_face.specs.declared.views.parts.Setting.{Setting}
-use Rattle.board_face.specs.declared.views.nic.NicSide.{NicSide}
-use Rattle.board_face.specs.declared.views.app.AppSide.{AppSide}
-use Rattle.ref_words.specs.Words.{Words, table_of, free_at, free_of, with_free, with_listed, with_unlisted}
-use Rattle.ref_words.specs.Rule.{BoardRule}
-use Rattle.ref_words.proofs.Laying.{free-word, free-set}
+use Rattle.std.{proofs.Common.{◌≡◌, ℕ, ◌/◌, ◌%◌, ◌^◌, ◌*◌, ◌<◌, List, set, get_or, refl, ap, sym, ◌∙◌, arith, subst}, specs.Prelude.{bit_and, bit_or}}
+use Rattle.std.{specs.Int.{bit_not, w64}, proofs.lemmas.Nat.{one_shl}}
+use Rattle.board_face.specs.{NicCalls.{free_words_of}, NicEvents.{word_bits}, declared.views.{parts.Setting.{Setting}, nic.NicSide.{NicSide}, app.AppSide.{AppSide}}}
+use Rattle.ref_words.{specs.{Words.{Words, table_of, free_at, free_of, with_free, with_listed, with_unlisted}, Rule.{BoardRule}}, proofs.Laying.{free-word, free-set}}
 use Rattle.word_board.specs.Steps.{MakesWords}
 
 module _ (setting : Setting) (words : Words) (j i : ℕ) (at : i ≡ free_at setting j) (within : j < free_words_of setting) where

@@ -1,12 +1,9 @@
 -- What the desk has for each application's seat: it is given once, and is that of an application that has done nothing.
 use Rattle.std.proofs.Common.{◌≡◌, ℕ, zero, suc, ◌+◌, ◌<◌, Bool, true, false, List, [], ◌∷◌, length, map, set, get_or, replicate, refl, ap, sym, ◌∙◌}
-use Rattle.std.proofs.Common.{subst, arith, Option, Some, None, is_none, IfSome}
-use Rattle.std.proofs.Math.Nat.{zero-mod}
+use Rattle.std.proofs.{Common.{subst, arith, Option, Some, None, is_none, IfSome}, Math.Nat.{zero-mod}}
 use Rattle.std.proofs.lemmas.List.{map-set, get_or-map, set-get_or, get_or_default, length-replicate}
 use Rattle.area_layout.specs.Layout.{total}
-use Rattle.board_face.specs.NicCalls.{apps_of}
-use Rattle.board_face.specs.Opened.{new_app}
-use Rattle.board_face.specs.declared.views.parts.Setting.{Setting}
+use Rattle.board_face.specs.{NicCalls.{apps_of}, Opened.{new_app}, declared.views.parts.Setting.{Setting}}
 use Rattle.word_board.specs.Hands.{IsNew, AppKeeps}
 
 module _ {A : Type 0} (nic : Bool) (hands : List (Option A)) (a : ℕ) where

@@ -1,20 +1,10 @@
 -- Where a held piece ends.
-use Rattle.std.proofs.Common.{ℕ, ◌+◌, ◌^◌, ◌<◌, List, ap, arith}
-use Rattle.std.specs.Prelude.{◌==◌}
+use Rattle.std.{proofs.Common.{ℕ, ◌+◌, ◌^◌, ◌<◌, List, ap, arith}, specs.Prelude.{◌==◌}}
 use Rattle.zr_kinds.specs.declared.place.Place.{Place}
-use Rattle.area_layout.specs.Layout.{total as all_buffers, size_of}
-use Rattle.area_layout.proofs.Words.{words_apart}
-use Rattle.board_face.specs.AppCalls.{HasHeld}
-use Rattle.board_face.specs.Sides.{IsApp}
-use Rattle.board_face.specs.declared.views.parts.Setting.{Setting}
-use Rattle.board_face.specs.declared.views.nic.NicSide.{NicSide}
-use Rattle.board_face.specs.declared.views.app.AppSide.{AppSide}
-use Rattle.board_face.proofs.ListLemmas.{eqb_same}
-use Rattle.board_face.proofs.Tallies.{weight}
-use Rattle.board_face.proofs.PlaceTallies.{in_buffer}
-use Rattle.board_face.proofs.LiesLemmas.{helds-at, lies-by}
-use Rattle.ref_words.specs.Words.{Words}
-use Rattle.ref_words.specs.Rule.{BoardRule}
+use Rattle.area_layout.{specs.Layout.{total as all_buffers, size_of}, proofs.Words.{words_apart}}
+use Rattle.board_face.specs.{AppCalls.{HasHeld}, Sides.{IsApp}, declared.views.{parts.Setting.{Setting}, nic.NicSide.{NicSide}, app.AppSide.{AppSide}}}
+use Rattle.board_face.proofs.{ListLemmas.{eqb_same}, Tallies.{weight}, PlaceTallies.{in_buffer}, LiesLemmas.{helds-at, lies-by}}
+use Rattle.ref_words.specs.{Words.{Words}, Rule.{BoardRule}}
 
 pub held-ends : (setting : Setting) (words : Words) (nic : NicSide) (apps : List AppSide) (a : ℕ) (app : AppSide) (p : Place)
     → BoardRule setting words nic apps → IsApp apps a app → HasHeld app.view p → p.buffer < all_buffers setting.layout → p.offset + p.len < 2 ^ 32

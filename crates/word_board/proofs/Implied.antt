@@ -1,33 +1,15 @@
 -- What an answer 'not now' implies of the role's own view, by the rule of the board of which the look tells.
-use Rattle.std.proofs.Common.{◌≡◌, ℕ, ◌+◌, ◌<◌, ◌≤◌, false, [], ◌∷◌, length, get_or, refl, ap, sym, ◌∙◌, arith, subst, ⊎_elim}
-use Rattle.std.proofs.Common.{Option, Some, None, zero, suc}
-use Rattle.std.proofs.Math.Nat.{mod-eq_of_lt}
-use Rattle.std.specs.Prelude.{◌==◌, not, IfSome}
-use Rattle.std.proofs.lemmas.Bool.{cases_lt, false≢true}
+use Rattle.std.proofs.Common.{◌≡◌, ℕ, ◌+◌, ◌<◌, ◌≤◌, false, [], ◌∷◌, length, get_or, refl, ap, sym, ◌∙◌, arith, subst, ⊎_elim, Option, Some, None, zero, suc}
+use Rattle.std.{proofs.{Math.Nat.{mod-eq_of_lt}, lemmas.Bool.{cases_lt, false≢true}}, specs.Prelude.{◌==◌, not, IfSome}}
 use Rattle.area_layout.specs.Layout.{pool_buffers, total}
-use Rattle.board_face.specs.NicCalls.{apps_of}
-use Rattle.board_face.specs.NicEvents.{nic_gist}
-use Rattle.board_face.specs.AppEvents.{app_gist, reserve_of}
-use Rattle.board_face.specs.NotNow.{HasSentRingful, HasWrittenRingful, HasWritten, HasPushedRaw, HasUsedReserve}
-use Rattle.board_face.specs.Returns.{is_raw}
-use Rattle.board_face.specs.Holders.{sent_to, making_places}
-use Rattle.board_face.specs.SlotSteps.{next_slot}
-use Rattle.board_face.specs.Blank.{blank_app}
-use Rattle.board_face.specs.declared.views.parts.Setting.{Setting}
-use Rattle.board_face.specs.declared.views.parts.Making.{Making}
-use Rattle.board_face.specs.declared.views.nic.NicView.{NicView}
-use Rattle.board_face.specs.declared.views.app.LentPiece.{LentPiece}
-use Rattle.board_face.specs.declared.views.app.SpareOwn.{SpareOwn}
-use Rattle.board_face.specs.declared.views.app.AppView.{AppView}
-use Rattle.board_face.proofs.SideLemmas.{IsApp-at}
-use Rattle.board_face.proofs.Tallies.{weight, tally, tally-append}
-use Rattle.board_face.proofs.Parts.{count-tally}
-use Rattle.board_parts.proofs.FreeLists.{weight-other}
-use Rattle.board_parts.proofs.Reserves.{reserve-alone}
+use Rattle.board_face.specs.{NicCalls.{apps_of}, NicEvents.{nic_gist}, AppEvents.{app_gist, reserve_of}}
+use Rattle.board_face.specs.{NotNow.{HasSentRingful, HasWrittenRingful, HasWritten, HasPushedRaw, HasUsedReserve}, Returns.{is_raw}, Holders.{sent_to, making_places}}
+use Rattle.board_face.specs.{SlotSteps.{next_slot}, Blank.{blank_app}, declared.views.{parts.{Setting.{Setting}, Making.{Making}}, nic.NicView.{NicView}}}
+use Rattle.board_face.{specs.declared.views.app.{LentPiece.{LentPiece}, SpareOwn.{SpareOwn}, AppView.{AppView}}, proofs.SideLemmas.{IsApp-at}}
+use Rattle.board_face.proofs.{Tallies.{weight, tally, tally-append}, Parts.{count-tally}}
+use Rattle.board_parts.proofs.{FreeLists.{weight-other}, Reserves.{reserve-alone}}
 use Rattle.word_rings.specs.Slots.{note_width}
-use Rattle.ref_words.specs.Words.{slot_word, pool_of}
-use Rattle.ref_words.specs.Rings.{IsRing, words_of_note}
-use Rattle.ref_words.proofs.Phases.{phases-mine}
+use Rattle.ref_words.{specs.{Words.{slot_word, pool_of}, Rings.{IsRing, words_of_note}}, proofs.Phases.{phases-mine}}
 use Rattle.word_board.specs.Told.{IsToldToApp, IsRawInUse, IsOneInUse, SawNoteInUse, SawRefillInUse, SawReserveHeld}
 
 -- what is 0 wasn't seen above it

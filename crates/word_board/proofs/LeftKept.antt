@@ -1,25 +1,13 @@
 -- What the card knows of the words that are left in its note slots, as it begins and behind each note.
 use Rattle.std.proofs.Common.{◌≡◌, ⊎_elim, ℕ, zero, suc, ◌+◌, ◌*◌, ◌%◌, ◌<◌, ◌≤◌, List, [], ◌∷◌, ◌++◌, length, replicate, set}
-use Rattle.std.proofs.Common.{get_or, refl, ap, sym, ◌∙◌, subst, arith, mod-lt}
-use Rattle.std.specs.Prelude.{◌≢◌, ◌==◌, filter}
-use Rattle.std.proofs.Math.Nat.{add-mod_right}
-use Rattle.std.proofs.lemmas.Bool.{cases_lt}
+use Rattle.std.{proofs.{Common.{get_or, refl, ap, sym, ◌∙◌, subst, arith, mod-lt}, Math.Nat.{add-mod_right}, lemmas.Bool.{cases_lt}}, specs.Prelude.{◌≢◌, ◌==◌, filter}}
 use Rattle.std.proofs.lemmas.Bool.Decides.{eqb_tells}
-use Rattle.std.proofs.lemmas.List.{get_or-set_same, get_or-set_other, get_or-replicate, get_or_append_left, length-set, length-replicate, length_push}
-use Rattle.std.proofs.lemmas.List.{get_or_push}
+use Rattle.std.proofs.lemmas.List.{get_or-set_same, get_or-set_other, get_or-replicate, get_or_append_left, length-set, length-replicate, length_push, get_or_push}
 use Rattle.atomic_table.proofs.Lists.{one_turn}
-use Rattle.board_face.specs.NicCalls.{apps_of}
-use Rattle.board_face.specs.Opened.{unseen}
-use Rattle.board_face.specs.SlotSteps.{next_slot}
-use Rattle.board_face.specs.declared.views.nic.SentNote.{SentNote}
-use Rattle.board_face.specs.declared.views.parts.Setting.{Setting}
-use Rattle.board_face.specs.declared.views.parts.Slot.{Slot}
-use Rattle.board_face.proofs.NicLemmas.{sent_to-same, sent_to-other}
-use Rattle.board_face.proofs.OpenedLemmas.{all-alike}
-use Rattle.word_rings.specs.Slots.{note_width, IsBlankFrom}
-use Rattle.word_rings.proofs.NoteSlots.{note-blank, zeros-blank}
-use Rattle.ref_words.specs.Rings.{left_for, area_of_note, words_of_note, linear_bytes}
-use Rattle.ref_words.proofs.LeftWords.{left-more, left-turn}
+use Rattle.board_face.specs.{NicCalls.{apps_of}, Opened.{unseen}, SlotSteps.{next_slot}, declared.views.{nic.SentNote.{SentNote}, parts.Setting.{Setting}}}
+use Rattle.board_face.{specs.declared.views.parts.Slot.{Slot}, proofs.{NicLemmas.{sent_to-same, sent_to-other}, OpenedLemmas.{all-alike}}}
+use Rattle.word_rings.{specs.Slots.{note_width, IsBlankFrom}, proofs.NoteSlots.{note-blank, zeros-blank}}
+use Rattle.ref_words.{specs.Rings.{left_for, area_of_note, words_of_note, linear_bytes}, proofs.LeftWords.{left-more, left-turn}}
 use Rattle.word_board.specs.Hands.{KnowsLeft}
 
 -- the card begins with slots of zeros

@@ -1,12 +1,8 @@
 -- Counts of loans: what a raised and a lowered count says, and that a loan is out in a buffer exactly where some are counted there.
 use Rattle.std.proofs.Common.{◌≡◌, ℕ, zero, suc, ◌+◌, ◌-◌, ◌<◌, List, [], ◌∷◌, length, map, set, get_or, ap, sym, subst, arith, ⊎_elim}
-use Rattle.std.specs.Prelude.{◌==◌, ◌↔◌, nat_lt, count_by, Contains, IsTrue}
-use Rattle.std.proofs.lemmas.Bool.{eq-eqb, lt-ltb, ltb-true}
-use Rattle.std.proofs.lemmas.Bool.Decides.{eqb_tells}
+use Rattle.std.{specs.Prelude.{◌==◌, ◌↔◌, nat_lt, count_by, Contains, IsTrue}, proofs.lemmas.Bool.{eq-eqb, lt-ltb, ltb-true, Decides.{eqb_tells}}}
 use Rattle.std.proofs.lemmas.List.{get_or-set_same, get_or-set_other}
-use Rattle.board_face.specs.declared.views.app.LentPiece.{LentPiece}
-use Rattle.board_face.proofs.Parts.{count-tally}
-use Rattle.board_face.proofs.Tallies.{weight, tally}
+use Rattle.board_face.{specs.declared.views.app.LentPiece.{LentPiece}, proofs.{Parts.{count-tally}, Tallies.{weight, tally}}}
 
 pub count-raised : (counts : List ℕ) (i b : ℕ) → i < length counts
     → get_or (set counts i (get_or counts i 0 + 1)) b 0 ≡ get_or counts b 0 + weight (i == b)

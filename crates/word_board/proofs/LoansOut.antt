@@ -1,19 +1,10 @@
 -- How many loans of an application are out in a buffer.
-use Rattle.std.proofs.Common.{◌≡◌, ℕ, ◌+◌, ◌^◌, ◌<◌, List, refl, subst, arith}
-use Rattle.std.specs.Prelude.{◌==◌}
+use Rattle.std.{proofs.Common.{◌≡◌, ℕ, ◌+◌, ◌^◌, ◌<◌, List, refl, subst, arith}, specs.Prelude.{◌==◌}}
 use Rattle.area_layout.specs.Layout.{total as all_buffers}
-use Rattle.board_face.specs.NicCalls.{apps_of}
-use Rattle.board_face.specs.Sides.{IsApp}
-use Rattle.board_face.specs.Returns.{loans_out}
-use Rattle.board_face.specs.declared.views.parts.Setting.{Setting}
-use Rattle.board_face.specs.declared.views.nic.NicSide.{NicSide}
-use Rattle.board_face.specs.declared.views.app.LentPiece.{LentPiece}
-use Rattle.board_face.specs.declared.views.app.AppSide.{AppSide}
-use Rattle.board_face.proofs.ListLemmas.{eqb_same}
-use Rattle.board_face.proofs.Parts.{user_part, owed_count, loans_in, count-tally, user_count-parts}
-use Rattle.board_face.proofs.LiesLemmas.{total-at}
-use Rattle.ref_words.specs.Words.{Words, user_of}
-use Rattle.ref_words.specs.Rule.{BoardRule}
+use Rattle.board_face.specs.{NicCalls.{apps_of}, Sides.{IsApp}, Returns.{loans_out}, declared.views.{parts.Setting.{Setting}, nic.NicSide.{NicSide}}}
+use Rattle.board_face.{specs.declared.views.app.{LentPiece.{LentPiece}, AppSide.{AppSide}}, proofs.ListLemmas.{eqb_same}}
+use Rattle.board_face.proofs.{Parts.{user_part, owed_count, loans_in, count-tally, user_count-parts}, LiesLemmas.{total-at}}
+use Rattle.ref_words.specs.{Words.{Words, user_of}, Rule.{BoardRule}}
 
 -- an application's own loans are in its user count
 part-own : (b : ℕ) (nic : NicSide) (app : AppSide) → user_part app.view.app b nic app ≡ loans_in b app + owed_count b nic app

@@ -1,18 +1,12 @@
 -- What the card's next note slot is, once the card looked at it and stored words there.
-use Rattle.std.proofs.Common.{◌≡◌, ℕ, suc, ◌+◌, ◌<◌, List, [], ◌∷◌, ◌++◌, length}
-use Rattle.std.proofs.Common.{take, drop, get_or, set, ap, ◌∙◌, arith, take-suc}
-use Rattle.std.proofs.lemmas.Grind.{get_or_after_one}
-use Rattle.std.proofs.Common.{◌≤◌, sym}
-use Rattle.std.proofs.lemmas.List.{get_or-set_same, set-set, length-take-le, take-append-drop}
-use Rattle.board_face.specs.declared.views.parts.Setting.{Setting}
+use Rattle.std.proofs.{Common.{◌≡◌, ℕ, suc, ◌+◌, ◌<◌, List, [], ◌∷◌, ◌++◌, length, take, drop, get_or, set, ap, ◌∙◌, arith, take-suc}, lemmas.Grind.{get_or_after_one}}
+use Rattle.std.proofs.{Common.{◌≤◌, sym}, lemmas.List.{get_or-set_same, set-set, length-take-le, take-append-drop}}
+use Rattle.board_face.specs.{declared.views.parts.Setting.{Setting}, Opened.{unseen}, NicEvents.{sent, sent_linear}}
+use Rattle.board_face.specs.{SlotSteps.{seen_with, one_more, next_slot, at_note, side_note_stored, side_sent, side_sent_linear}, declared.views.parts.Slot.{Slot}}
+use Rattle.board_face.specs.declared.views.nic.NicSide.{NicSide}
 use Rattle.word_rings.specs.Slots.{IsBlankFrom}
 use Rattle.ref_words.specs.Rings.{left_in_note, note_so_far}
 use Rattle.zr_kinds.specs.declared.place.Note.{Note}
-use Rattle.board_face.specs.Opened.{unseen}
-use Rattle.board_face.specs.NicEvents.{sent, sent_linear}
-use Rattle.board_face.specs.SlotSteps.{seen_with, one_more, next_slot, at_note, side_note_stored, side_sent, side_sent_linear}
-use Rattle.board_face.specs.declared.views.parts.Slot.{Slot}
-use Rattle.board_face.specs.declared.views.nic.NicSide.{NicSide}
 
 -- one word more of those behind the flag
 pub one-word : (body : List ℕ) (k : ℕ) → k < length (drop 1 body)

@@ -1,16 +1,10 @@
 -- What an application's next note slot is, once it loaded words from there.
-use Rattle.std.proofs.Common.{◌≡◌, ℕ, suc, ◌+◌, ◌<◌, List, [], ◌∷◌, ◌++◌, length, take, drop, set, ap, sym, ◌∙◌, arith}
-use Rattle.std.proofs.Common.{⊎_elim, false, min, append_assoc}
-use Rattle.std.specs.Prelude.{if◌then◌else◌}
-use Rattle.std.proofs.Math.Seq.{drop-append_seam}
-use Rattle.std.proofs.lemmas.Bool.{cases_lt}
+use Rattle.std.proofs.Common.{◌≡◌, ℕ, suc, ◌+◌, ◌<◌, List, [], ◌∷◌, ◌++◌, length, take, drop, set, ap, sym, ◌∙◌, arith, ⊎_elim, false, min, append_assoc}
+use Rattle.std.{specs.Prelude.{if◌then◌else◌}, proofs.{Math.Seq.{drop-append_seam}, lemmas.Bool.{cases_lt}}}
 use Rattle.std.proofs.lemmas.List.{take_all, take_more_set, length-set, length-append, length-drop, length-take-le, take-append-drop}
 use Rattle.zr_kinds.specs.declared.place.Note.{Note}
-use Rattle.board_face.specs.SlotSteps.{seen_with, at_slot, side_took_note, side_took_linear}
-use Rattle.board_face.specs.declared.views.app.AppSide.{AppSide}
-use Rattle.word_rings.specs.Slots.{note_of, linear_of, bytes_of}
-use Rattle.word_rings.specs.Texts.{text_count}
-use Rattle.word_rings.proofs.NoteSlots.{note-front, bytes-front}
+use Rattle.board_face.specs.{SlotSteps.{seen_with, at_slot, side_took_note, side_took_linear}, declared.views.app.AppSide.{AppSide}}
+use Rattle.word_rings.{specs.{Slots.{note_of, linear_of, bytes_of}, Texts.{text_count}}, proofs.NoteSlots.{note-front, bytes-front}}
 use Rattle.ref_words.specs.SlotLaws.{loaded_note, loaded_bytes}
 use Rattle.word_board.specs.Board.{side_full_taken}
 

@@ -1,12 +1,8 @@
 -- The words of a board that was just opened are zeros, the free list, and zeros.
-use Rattle.std.proofs.Common.{◌≡◌, ℕ, zero, suc, ◌+◌, ◌-◌, ◌*◌, ◌≤◌, List, [], ◌∷◌, ◌++◌, length, replicate, take, refl}
-use Rattle.std.proofs.Common.{ap, sym, ◌∙◌, arith}
-use Rattle.std.proofs.Common.{suc-mul, length-append}
-use Rattle.std.specs.List.{flat_map}
-use Rattle.std.proofs.lemmas.List.{append_assoc, append-nil, replicate-append-replicate, length-replicate, take_all}
+use Rattle.std.proofs.Common.{◌≡◌, ℕ, zero, suc, ◌+◌, ◌-◌, ◌*◌, ◌≤◌, List, [], ◌∷◌, ◌++◌, length, replicate, take, refl, ap, sym, ◌∙◌, arith, suc-mul, length-append}
+use Rattle.std.{specs.List.{flat_map}, proofs.lemmas.List.{append_assoc, append-nil, replicate-append-replicate, length-replicate, take_all}}
 use Rattle.area_layout.specs.Layout.{total, pool_buffers, area_words}
-use Rattle.board_face.specs.NicCalls.{apps_of, free_words_of}
-use Rattle.board_face.specs.declared.views.parts.Setting.{Setting}
+use Rattle.board_face.specs.{NicCalls.{apps_of, free_words_of}, declared.views.parts.Setting.{Setting}}
 use Rattle.ref_words.specs.Words.{joined, table_of, opened_words, begin_at, table_words, free_list, free_word, roles_of}
 use Rattle.word_rings.specs.Slots.{note_width, refill_width}
 

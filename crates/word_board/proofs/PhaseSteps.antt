@@ -1,12 +1,7 @@
 -- What a law says of a phase word is what the table asks of a step there.
 use Rattle.std.proofs.Common.{◌≡◌, ℕ, ◌<◌, List, set, get_or, refl, ap, ◌∙◌, arith}
-use Rattle.board_face.specs.declared.views.parts.Setting.{Setting}
-use Rattle.board_face.specs.declared.views.nic.NicSide.{NicSide}
-use Rattle.board_face.specs.declared.views.app.AppSide.{AppSide}
-use Rattle.ref_words.specs.Words.{Words, table_of, phase_at, roles_of}
-use Rattle.ref_words.specs.PhaseRule.{with_phase}
-use Rattle.ref_words.specs.Rule.{BoardRule}
-use Rattle.ref_words.proofs.PhaseWords.{phase-word, phase-set}
+use Rattle.board_face.specs.declared.views.{parts.Setting.{Setting}, nic.NicSide.{NicSide}, app.AppSide.{AppSide}}
+use Rattle.ref_words.{specs.{Words.{Words, table_of, phase_at, roles_of}, PhaseRule.{with_phase}, Rule.{BoardRule}}, proofs.PhaseWords.{phase-word, phase-set}}
 use Rattle.word_board.specs.Steps.{MakesWords}
 
 module _ (setting : Setting) (words : Words) (r x : ℕ) (at : x ≡ phase_at setting r) (few : r < roles_of setting) where

@@ -1,10 +1,7 @@
 -- The refill slots that an application saw free, one by one.
-use Rattle.std.proofs.Common.{◌≡◌, ⊎_elim, ℕ, ◌+◌, ◌<◌, List, [], ◌∷◌, ap, sym, ◌∙◌, arith, subst}
-use Rattle.std.specs.Prelude.{Contains}
-use Rattle.std.proofs.lemmas.Bool.{cases_lt}
+use Rattle.std.{proofs.{Common.{◌≡◌, ⊎_elim, ℕ, ◌+◌, ◌<◌, List, [], ◌∷◌, ap, sym, ◌∙◌, arith, subst}, lemmas.Bool.{cases_lt}}, specs.Prelude.{Contains}}
 use Rattle.std.proofs.lemmas.List.Elements.{Contains-get_or, Contains-append_right}
-use Rattle.board_face.specs.SlotSteps.{side_slot_free}
-use Rattle.board_face.specs.declared.views.app.AppSide.{AppSide}
+use Rattle.board_face.specs.{SlotSteps.{side_slot_free}, declared.views.app.AppSide.{AppSide}}
 
 -- the side with these slots seen free
 abbrev pub with_free_slots : AppSide → List ℕ → AppSide

@@ -1,31 +1,15 @@
 -- What the rule says of the roles that are back: a load tells the desk.
-use Rattle.std.proofs.Common.{◌≡◌, ℕ, ◌+◌, ◌<◌, ◌≤◌, List, [], ◌∷◌, ◌++◌, length, get_or, refl, ap, sym, ◌∙◌}
-use Rattle.std.proofs.Common.{arith, subst}
-use Rattle.std.specs.Prelude.{All, nat_eq, count_by, if◌then◌else◌}
-use Rattle.std.specs.List.{flat_map}
-use Rattle.std.proofs.lemmas.List.{get_or_default, get_or-map, set-get_or, length-map}
+use Rattle.std.proofs.Common.{◌≡◌, ℕ, ◌+◌, ◌<◌, ◌≤◌, List, [], ◌∷◌, ◌++◌, length, get_or, refl, ap, sym, ◌∙◌, arith, subst}
+use Rattle.std.{specs.{Prelude.{All, nat_eq, count_by, if◌then◌else◌}, List.{flat_map}}, proofs.lemmas.List.{get_or_default, get_or-map, set-get_or, length-map}}
 use Rattle.std.proofs.lemmas.List.Elements.{All-head, All-tail}
 use mathlib.Core.Option.{some}
 use lib.ListN.{get_elem?}
-use Rattle.atomic_table.specs.Table.{State, Me, keeps, Allows}
-use Rattle.atomic_table.proofs.Lists.{at_index, set_again}
+use Rattle.atomic_table.{specs.Table.{State, Me, keeps, Allows}, proofs.Lists.{at_index, set_again}}
 use Rattle.area_layout.specs.Layout.{pool_buffers}
-use Rattle.board_face.specs.Counts.{is_user}
-use Rattle.board_face.specs.Ended.{IsServed}
-use Rattle.board_face.specs.Holders.{nic_holders, app_holders, holders_of}
-use Rattle.board_face.specs.Opened.{new_app}
-use Rattle.board_face.specs.Relay.{IsProper}
-use Rattle.board_face.specs.Sides.{IsApp}
-use Rattle.board_face.specs.declared.views.parts.Setting.{Setting}
-use Rattle.board_face.specs.declared.views.nic.NicSide.{NicSide}
-use Rattle.board_face.specs.declared.views.app.AppSide.{AppSide}
-use Rattle.ref_words.specs.declared.view.View.{View}
-use Rattle.ref_words.specs.Seated.{Seated, times_in}
-use Rattle.ref_words.specs.Words.{listed_in}
-use Rattle.ref_words.specs.Over.{CardIsOver, AppIsOver, OverLaw}
-use Rattle.ref_words.proofs.Seating.{taken-at}
-use Rattle.word_board.specs.Board.{IsBoard, card_of, first_nic}
-use Rattle.word_board.specs.Desk.{AreOver, AreOfBoard, AreServed, AllAreBack, HasNoHolders}
+use Rattle.board_face.specs.{Counts.{is_user}, Ended.{IsServed}, Holders.{nic_holders, app_holders, holders_of}, Opened.{new_app}, Relay.{IsProper}, Sides.{IsApp}}
+use Rattle.board_face.specs.declared.views.{parts.Setting.{Setting}, nic.NicSide.{NicSide}, app.AppSide.{AppSide}}
+use Rattle.ref_words.{specs.{declared.view.View.{View}, Seated.{Seated, times_in}, Words.{listed_in}, Over.{CardIsOver, AppIsOver, OverLaw}}, proofs.Seating.{taken-at}}
+use Rattle.word_board.specs.{Board.{IsBoard, card_of, first_nic}, Desk.{AreOver, AreOfBoard, AreServed, AllAreBack, HasNoHolders}}
 
 -- A load that changes nothing tells what the rule says of each table under it.
 pub lesson : (setting : Setting) (slots id i : ℕ) (told : ℕ → Type 0) (me : Me (Unit {0}) View)

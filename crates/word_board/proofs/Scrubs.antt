@@ -1,12 +1,9 @@
 -- A scrub, buffer by buffer.
 use Rattle.std.proofs.Common.{◌≡◌, ⊎_elim, ℕ, ◌+◌, ◌<◌, Bool, true, false, List, length, set, get_or, ap, sym, ◌∙◌, arith}
-use Rattle.std.specs.Prelude.{◌≢◌, ◌==◌, nat_eq, slice_index}
-use Rattle.std.proofs.lemmas.Bool.Decides.{eqb_tells}
+use Rattle.std.{specs.Prelude.{◌≢◌, ◌==◌, nat_eq, slice_index}, proofs.lemmas.Bool.Decides.{eqb_tells}}
 use Rattle.std.proofs.lemmas.List.{length-set, get_or-set_same, get_or-set_other, set-get_or}
 use Rattle.area_layout.specs.Layout.{total}
-use Rattle.board_face.specs.Steps.{side_user_taken, side_owes_lowered}
-use Rattle.board_face.specs.declared.views.parts.Setting.{Setting}
-use Rattle.board_face.specs.declared.views.app.AppSide.{AppSide}
+use Rattle.board_face.specs.{Steps.{side_user_taken, side_owes_lowered}, declared.views.{parts.Setting.{Setting}, app.AppSide.{AppSide}}}
 use Rattle.board_face.proofs.ListLemmas.{eqb_same, not-eqb}
 use Rattle.ref_words.specs.Sides.{HasScrubLists}
 use Rattle.word_board.specs.Board.{ScrubbedOne, ScrubbedAll}

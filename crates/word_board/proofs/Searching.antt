@@ -1,16 +1,9 @@
 -- An application's search for a buffer in the free list, word by word.
-use Rattle.std.proofs.Common.{◌≡◌, ℕ, ◌+◌, ◌<◌, List, [], ◌∷◌, ◌++◌, refl, ap, sym, ◌∙◌, subst, arith, ⊎_elim}
-use Rattle.std.specs.Prelude.{Contains, nat_eq}
+use Rattle.std.{proofs.Common.{◌≡◌, ℕ, ◌+◌, ◌<◌, List, [], ◌∷◌, ◌++◌, refl, ap, sym, ◌∙◌, subst, arith, ⊎_elim}, specs.Prelude.{Contains, nat_eq}}
 use Rattle.std.proofs.lemmas.Bool.{cases_lt}
-use Rattle.board_face.specs.Lists.{without}
-use Rattle.board_face.specs.declared.views.parts.Setting.{Setting}
-use Rattle.board_face.specs.declared.views.app.AppView.{AppView}
-use Rattle.board_face.proofs.ListLemmas.{eqb_same}
-use Rattle.board_face.specs.declared.views.app.AppSide.{AppSide}
+use Rattle.board_face.{specs.{Lists.{without}, declared.views.{parts.Setting.{Setting}, app.{AppView.{AppView}, AppSide.{AppSide}}}}, proofs.ListLemmas.{eqb_same}}
 use Rattle.ref_words.specs.FreeSteps.{side_word_without}
-use Rattle.word_board.specs.Spares.{seen_without}
-use Rattle.word_board.specs.Told.{SawWithout}
-use Rattle.word_board.proofs.Quieting.{sees-more}
+use Rattle.word_board.{specs.{Spares.{seen_without}, Told.{SawWithout}}, proofs.Quieting.{sees-more}}
 
 -- The words below k have nothing for it, and nothing else was done.
 pub record IsSearching (first now : AppSide) (k : ℕ) : Type 0 where

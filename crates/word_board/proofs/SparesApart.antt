@@ -1,15 +1,8 @@
 -- Spares lie in buffers of their own, so a length that is kept by buffer is that of one spare.
-use Rattle.std.proofs.Common.{◌≡◌, ℕ, zero, suc, Bool, true, false, cond, List, [], ◌∷◌, length, map, set, get_or}
-use Rattle.std.proofs.Common.{refl, ap, sym, ◌∙◌, subst, arith}
-use Rattle.std.specs.Prelude.{◌≢◌, All, AllPairs, Contains}
-use Rattle.std.proofs.lemmas.Bool.{false≢true}
-use Rattle.std.proofs.lemmas.List.{get_or-set_other}
-use Rattle.std.proofs.lemmas.List.Elements.{All-nil, All-cons, All-head, All-tail, All-map, All-contains}
-use Rattle.std.proofs.lemmas.List.Kept.{AllPairs-cons}
-use Rattle.board_face.specs.Lists.{without, at_first}
-use Rattle.board_face.specs.Tokens.{same_filling}
-use Rattle.board_face.specs.declared.views.parts.Filling.{Filling}
-use Rattle.board_face.specs.declared.views.app.SpareOwn.{SpareOwn}
+use Rattle.std.proofs.Common.{◌≡◌, ℕ, zero, suc, Bool, true, false, cond, List, [], ◌∷◌, length, map, set, get_or, refl, ap, sym, ◌∙◌, subst, arith}
+use Rattle.std.{specs.Prelude.{◌≢◌, All, AllPairs, Contains}, proofs.lemmas.{Bool.{false≢true}, List.{get_or-set_other}}}
+use Rattle.std.proofs.lemmas.List.{Elements.{All-nil, All-cons, All-head, All-tail, All-map, All-contains}, Kept.{AllPairs-cons}}
+use Rattle.board_face.specs.{Lists.{without, at_first}, Tokens.{same_filling}, declared.views.{parts.Filling.{Filling}, app.SpareOwn.{SpareOwn}}}
 use Rattle.board_face.proofs.ListLemmas.{All-without, same_filling-is, same_filling-refl}
 
 -- ---- pairs

@@ -1,35 +1,16 @@
 -- What an application keeps is right after each event of its spares, and once a loan is abandoned.
 use Rattle.std.proofs.Common.{◌≡◌, ℕ, ◌+◌, ◌-◌, ◌^◌, ◌<◌, ◌≤◌, Bool, true, false, List, [], ◌∷◌, ◌++◌, length, map, set, get_or, refl, ap, ◌∙◌}
-use Rattle.std.proofs.Common.{arith, Option, ⊎_elim, length-append}
-use Rattle.std.specs.Prelude.{◌==◌, if◌then◌else◌, nat_lt, All, AllPairs, IsTrue, ◌↔◌}
-use Rattle.std.proofs.lemmas.List.{length-set, get_or-set_same, get_or_default}
-use Rattle.std.proofs.lemmas.List.Elements.{All-push, All-map, All-contains}
-use Rattle.std.proofs.lemmas.List.Quantifiers.{all_pairs_push}
+use Rattle.std.{proofs.Common.{arith, Option, ⊎_elim, length-append}, specs.Prelude.{◌==◌, if◌then◌else◌, nat_lt, All, AllPairs, IsTrue, ◌↔◌}}
+use Rattle.std.proofs.lemmas.List.{length-set, get_or-set_same, get_or_default, Elements.{All-push, All-map, All-contains}, Quantifiers.{all_pairs_push}}
 use Rattle.std.proofs.lemmas.Bool.{false≢true}
 use Rattle.zr_kinds.specs.declared.place.Place.{Place}
-use Rattle.area_layout.specs.Layout.{IsLayout, LiesIn, pool_buffers, total, size_of}
-use Rattle.area_layout.proofs.Words.{words_apart}
-use Rattle.board_face.specs.Sides.{app_at}
-use Rattle.board_face.specs.NicEvents.{fresh}
-use Rattle.board_face.specs.Lists.{same_place}
-use Rattle.board_face.specs.Tokens.{filled_by, same_filling}
-use Rattle.board_face.specs.OwnBuffers.{IsOwnBuffer}
-use Rattle.board_face.specs.Returns.{loans_out}
-use Rattle.board_face.specs.AppEvents.{abandoned, got_spare, filled, owns_without, lent_own, own_bytes, begin_place}
-use Rattle.board_face.specs.AppCalls.{HasLoan, HasSpare, HasNoneIn, IsLive}
-use Rattle.board_face.specs.declared.views.parts.Setting.{Setting}
-use Rattle.board_face.specs.declared.views.parts.Filling.{Filling}
-use Rattle.board_face.specs.declared.views.app.Origin.TheVariants.{Copied as of_copy}
-use Rattle.board_face.specs.declared.views.app.LentPiece.{LentPiece}
-use Rattle.board_face.specs.declared.views.app.SpareOwn.{SpareOwn}
-use Rattle.board_face.specs.declared.views.app.AppSide.{AppSide}
-use Rattle.board_face.proofs.ListLemmas.{All-without}
-use Rattle.board_face.proofs.Parts.{count-tally}
-use Rattle.board_face.proofs.Tallies.{tally-push}
+use Rattle.area_layout.{specs.Layout.{IsLayout, LiesIn, pool_buffers, total, size_of}, proofs.Words.{words_apart}}
+use Rattle.board_face.specs.{Sides.{app_at}, NicEvents.{fresh}, Lists.{same_place}, Tokens.{filled_by, same_filling}, OwnBuffers.{IsOwnBuffer}, Returns.{loans_out}}
+use Rattle.board_face.specs.{AppEvents.{abandoned, got_spare, filled, owns_without, lent_own, own_bytes, begin_place}, AppCalls.{HasLoan, HasSpare, HasNoneIn, IsLive}}
+use Rattle.board_face.specs.declared.views.{parts.{Setting.{Setting}, Filling.{Filling}}, app.{Origin.TheVariants.{Copied as of_copy}, LentPiece.{LentPiece}}}
+use Rattle.board_face.{specs.declared.views.app.{SpareOwn.{SpareOwn}, AppSide.{AppSide}}, proofs.{ListLemmas.{All-without}, Parts.{count-tally}, Tallies.{tally-push}}}
 use Rattle.board_face.proofs.WrittenLemmas.{loans-fewer}
-use Rattle.word_board.specs.Hands.{AppKeeps}
-use Rattle.word_board.proofs.AppKept.{loan-lies, loan-some, kept as kept-event}
-use Rattle.word_board.proofs.LoansCounted.{count-raised, count-lowered, counted-tells}
+use Rattle.word_board.{specs.Hands.{AppKeeps}, proofs.{AppKept.{loan-lies, loan-some, kept as kept-event}, LoansCounted.{count-raised, count-lowered, counted-tells}}}
 use Rattle.word_board.proofs.SparesApart.{AreApartBuffers, IsElsewhere, HasLength, AllPairs-without, others-elsewhere, lengths-elsewhere, text-of_spare, own-of_spare}
 
 abbrev SpareLies : Setting → SpareOwn → Type 0

@@ -1,28 +1,15 @@
 -- What a law says of words and sides is what the table asks of a step.
-use Rattle.std.proofs.Common.{◌≡◌, ℕ, ◌+◌, ◌-◌, ◌%◌, ◌^◌, ◌<◌, ◌≤◌, List, [], set, get_or, refl, ap, sym, ◌∙◌}
-use Rattle.std.proofs.Common.{arith, subst}
-use Rattle.atomic_table.specs.Table.{Me, keeps, Allows}
-use Rattle.atomic_table.specs.Seated.{TableId}
-use Rattle.std.proofs.lemmas.List.{set-get_or, get_or_default}
-use Rattle.area_layout.specs.Layout.{total, area_words}
-use Rattle.board_face.specs.NicCalls.{apps_of}
-use Rattle.board_face.specs.Sides.{IsApp}
-use Rattle.board_face.specs.declared.views.parts.Setting.{Setting}
-use Rattle.board_face.specs.declared.views.nic.NicSide.{NicSide}
-use Rattle.board_face.specs.declared.views.app.AppSide.{AppSide}
-use Rattle.ref_words.specs.declared.view.View.{View}
-use Rattle.ref_words.specs.Words.{Words, table_of, table_words, pool_at, pool_of, with_pool, user_at, user_of, with_user}
-use Rattle.ref_words.specs.Words.{note_at, with_note, refill_at, slot_word, with_refill, area_at}
-use Rattle.ref_words.specs.Area.{with_area}
+use Rattle.std.proofs.{Common.{◌≡◌, ℕ, ◌+◌, ◌-◌, ◌%◌, ◌^◌, ◌<◌, ◌≤◌, List, [], set, get_or, refl, ap, sym, ◌∙◌, arith, subst}, lemmas.List.{set-get_or, get_or_default}}
 use Rattle.std.specs.Prelude.{slice_index, All}
+use Rattle.atomic_table.specs.{Table.{Me, keeps, Allows}, Seated.{TableId}}
+use Rattle.area_layout.specs.Layout.{total, area_words}
+use Rattle.board_face.specs.{NicCalls.{apps_of}, Sides.{IsApp}, declared.views.{parts.Setting.{Setting}, nic.NicSide.{NicSide}, app.AppSide.{AppSide}}}
+use Rattle.ref_words.specs.{declared.view.View.{View}, Words.{Words, table_of, table_words, pool_at, pool_of, with_pool, user_at, user_of, with_user}}
+use Rattle.ref_words.specs.{Words.{note_at, with_note, refill_at, slot_word, with_refill, area_at}, Area.{with_area}, Seated.{Seated, card_view, app_view}}
+use Rattle.ref_words.{specs.Rule.{BoardRule}, proofs.Roles.{card-is, card-moves, app-is, app-moves}}
+use Rattle.ref_words.proofs.{Laying.{pool-word, pool-set, user-word, user-set, note-word, note-set, refill-word, refill-set}, LayingArea.{area-is, area-set}}
 use Rattle.word_rings.specs.Slots.{note_width, refill_width}
-use Rattle.ref_words.specs.Seated.{Seated, card_view, app_view}
-use Rattle.ref_words.specs.Rule.{BoardRule}
-use Rattle.ref_words.proofs.Roles.{card-is, card-moves, app-is, app-moves}
-use Rattle.ref_words.proofs.Laying.{pool-word, pool-set, user-word, user-set, note-word, note-set, refill-word, refill-set}
-use Rattle.ref_words.proofs.LayingArea.{area-is, area-set}
-use Rattle.word_board.specs.Board.{IsBoard, TheNic, TheApp, card_of, app_of}
-use Rattle.word_board.specs.Steps.{MakesWords, MayCard, MayApp}
+use Rattle.word_board.specs.{Board.{IsBoard, TheNic, TheApp, card_of, app_of}, Steps.{MakesWords, MayCard, MayApp}}
 
 module _ (setting : Setting) (slots id i : ℕ) (f : ℕ → ℕ) (told : ℕ → Type 0) where
   -- A step of the card's seat is allowed where its law holds for all words and applications.

@@ -1,27 +1,13 @@
 -- What a step tells its role: the board of words that it found is one with what the role did.
-use Rattle.std.proofs.Common.{◌≡◌, ℕ, ◌≤◌, Bool, true, false, List, refl, ap, sym, ◌∙◌, subst, arith, ⊎_elim, Option, Some, None}
-use Rattle.std.specs.Prelude.{nat_lt, IfNone}
+use Rattle.std.{proofs.Common.{◌≡◌, ℕ, ◌≤◌, Bool, true, false, List, refl, ap, sym, ◌∙◌, subst, arith, ⊎_elim, Option, Some, None}, specs.Prelude.{nat_lt, IfNone}}
 use Rattle.std.proofs.lemmas.Bool.{lt-ltb, cases_lt, false≢true}
 use Rattle.area_layout.specs.Layout.{pool_buffers}
-use Rattle.board_face.specs.NicEvents.{nic_gist}
-use Rattle.board_face.specs.AppEvents.{app_gist, looks_by_spare}
-use Rattle.board_face.specs.Looks.{AppTold}
-use Rattle.board_face.proofs.LookLemmas.{AppTold-none, AppTold-one}
-use Rattle.board_face.specs.declared.answers.Polled.{Polled}
-use Rattle.board_face.specs.declared.answers.Polled.TheVariants.{Note as got_note, Linear as got_linear, Empty as got_none, Ended as got_end}
-use Rattle.board_face.specs.declared.views.app.AppLook.{AppLook}
-use Rattle.board_face.specs.declared.views.app.AppLook.TheVariants.{NoNote, CardEnded, NoneListed}
-use Rattle.board_face.specs.declared.views.app.AppView.{AppView}
-use Rattle.board_face.specs.Sides.{IsApp}
-use Rattle.board_face.specs.declared.views.parts.Setting.{Setting}
-use Rattle.board_face.specs.declared.views.nic.NicSide.{NicSide}
-use Rattle.board_face.specs.declared.views.app.AppSide.{AppSide}
-use Rattle.ref_words.specs.Words.{Words}
-use Rattle.ref_words.specs.Rule.{BoardRule}
-use Rattle.word_board.specs.Board.{TheBoard}
-use Rattle.word_board.specs.Polls.{Polls}
-use Rattle.word_board.specs.Spares.{TookSpare}
-use Rattle.word_board.specs.Told.{IsToldToCard, IsToldToApp, AppTells, SawNoneListed, IsFirstSeen}
+use Rattle.board_face.{specs.{NicEvents.{nic_gist}, AppEvents.{app_gist, looks_by_spare}, Looks.{AppTold}}, proofs.LookLemmas.{AppTold-none, AppTold-one}}
+use Rattle.board_face.specs.declared.answers.Polled.{Polled, TheVariants.{Note as got_note, Linear as got_linear, Empty as got_none, Ended as got_end}}
+use Rattle.board_face.specs.{declared.views.app.{AppLook.{AppLook, TheVariants.{NoNote, CardEnded, NoneListed}}, AppView.{AppView}}, Sides.{IsApp}}
+use Rattle.board_face.specs.declared.views.{parts.Setting.{Setting}, nic.NicSide.{NicSide}, app.AppSide.{AppSide}}
+use Rattle.ref_words.specs.{Words.{Words}, Rule.{BoardRule}}
+use Rattle.word_board.specs.{Board.{TheBoard}, Polls.{Polls}, Spares.{TookSpare}, Told.{IsToldToCard, IsToldToApp, AppTells, SawNoneListed, IsFirstSeen}}
 
 pub tells-card : (setting : Setting) (words : Words) (mine : NicSide) (apps : List AppSide) → BoardRule setting words mine apps
     → (so : Words → NicSide → Type 0) → so words mine → IsToldToCard setting (nic_gist mine.view) so

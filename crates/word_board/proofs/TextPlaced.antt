@@ -1,16 +1,9 @@
 -- The side of a role while it stores the words of a text.
-use Rattle.std.proofs.Common.{◌≡◌, ℕ, zero, suc, refl, ◌+◌, ◌<◌, List, []}
-use Rattle.std.proofs.Common.{◌∷◌, ◌++◌, length, take, get_or, ap, sym, ◌∙◌, arith, take-suc}
+use Rattle.std.proofs.Common.{◌≡◌, ℕ, zero, suc, refl, ◌+◌, ◌<◌, List, [], ◌∷◌, ◌++◌, length, take, get_or, ap, sym, ◌∙◌, arith, take-suc}
 use Rattle.std.specs.Prelude.{Option, Some, None}
-use Rattle.board_face.specs.AppEvents.{begin_place}
-use Rattle.board_face.specs.declared.views.parts.Making.{Making}
-use Rattle.board_face.specs.declared.views.app.AppSide.{AppSide}
-use Rattle.ref_words.specs.AreaLaws.{IsMadeThere}
-use Rattle.ref_words.specs.AreaSteps.{made_words, one_word_more}
-use Rattle.board_face.specs.Steps.{side_begun}
-use Rattle.board_face.specs.Tokens.{next_place}
-use Rattle.board_face.specs.declared.views.parts.Filling.{Filling}
-use Rattle.board_face.specs.declared.views.nic.NicSide.{NicSide}
+use Rattle.board_face.specs.{AppEvents.{begin_place}, declared.views.{parts.Making.{Making}, app.AppSide.{AppSide}}, Steps.{side_begun}, Tokens.{next_place}}
+use Rattle.board_face.specs.declared.views.{parts.Filling.{Filling}, nic.NicSide.{NicSide}}
+use Rattle.ref_words.specs.{AreaLaws.{IsMadeThere}, AreaSteps.{made_words, one_word_more}}
 use Rattle.word_rings.specs.Texts.{text_words}
 
 -- the card has stored k words of a piece that it began

@@ -1,24 +1,13 @@
 -- What holds of the table between any two steps, and what its seats are.
-use Rattle.std.specs.Prelude.{◌≡◌, ℕ, ◌<◌, Bool, true, false, if◌then◌else◌, List, [], ◌∷◌, slice_index_or}
-use Rattle.std.specs.Prelude.{slice_index, slice_set, replicate, take, Option, Some, None}
-use Rattle.atomic_table.specs.Table.{State}
-use Rattle.atomic_table.specs.Seated.{TableId}
+use Rattle.std.specs.Prelude.{◌≡◌, ℕ, ◌<◌, Bool, true, false, if◌then◌else◌, List, [], ◌∷◌, slice_index_or, slice_index, slice_set, replicate, take, Option, Some, None}
+use Rattle.atomic_table.specs.{Table.{State}, Seated.{TableId}}
 use Rattle.area_layout.specs.Layout.{IsLayout, shape_of, total}
-use Rattle.zr_kinds.specs.declared.place.Note.{Note}
-use Rattle.zr_kinds.specs.declared.ring.Rqe.{Rqe}
-use Rattle.board_face.specs.AppEvents.{scrubbed}
-use Rattle.board_face.specs.SlotSteps.{seen_with, side_entry_looked, side_took_note, side_took_linear}
-use Rattle.board_face.specs.declared.views.nic.Judged.TheVariants.{Not}
+use Rattle.zr_kinds.specs.declared.{place.Note.{Note}, ring.Rqe.{Rqe}}
+use Rattle.board_face.specs.{AppEvents.{scrubbed}, SlotSteps.{seen_with, side_entry_looked, side_took_note, side_took_linear}}
+use Rattle.board_face.specs.{declared.views.nic.Judged.TheVariants.{Not}, Opened.{new_nic, new_app}, Steps.{side_user_taken, side_owes_lowered}}
+use Rattle.board_face.specs.declared.views.{parts.Setting.{Setting}, nic.NicSide.{NicSide}, app.AppSide.{AppSide}}
 use Rattle.word_rings.specs.Slots.{entry_body}
-use Rattle.board_face.specs.Opened.{new_nic, new_app}
-use Rattle.board_face.specs.Steps.{side_user_taken, side_owes_lowered}
-use Rattle.board_face.specs.declared.views.parts.Setting.{Setting}
-use Rattle.board_face.specs.declared.views.nic.NicSide.{NicSide}
-use Rattle.board_face.specs.declared.views.app.AppSide.{AppSide}
-use Rattle.ref_words.specs.declared.view.View.{View}
-use Rattle.ref_words.specs.Words.{Words, roles_of, table_of}
-use Rattle.ref_words.specs.Seated.{Seated, times_in, dealt_out, no_role}
-use Rattle.ref_words.specs.Rule.{BoardRule}
+use Rattle.ref_words.specs.{declared.view.View.{View}, Words.{Words, roles_of, table_of}, Seated.{Seated, times_in, dealt_out, no_role}, Rule.{BoardRule}}
 
 -- The sides of all roles, of which each seat has those of its own, and the words that stand to them by the rule.
 pub record IsBoard (setting : Setting) (s : State (Unit {0}) View) : Type 0 where

@@ -1,14 +1,8 @@
 -- What holds of the desk between two calls, and what is known of the roles that went back to it.
 use Rattle.std.specs.Prelude.{◌≡◌, ℕ, ◌<◌, List, [], ◌∷◌, length, map, drop, take, All, AllPairs, Contains}
-use Rattle.board_face.specs.NicCalls.{apps_of}
-use Rattle.board_face.specs.Counts.{pool_count, user_count}
-use Rattle.board_face.specs.Ended.{IsServed}
-use Rattle.board_face.specs.Relay.{IsProper}
-use Rattle.board_face.specs.declared.views.parts.Setting.{Setting}
+use Rattle.board_face.specs.{NicCalls.{apps_of}, Counts.{pool_count, user_count}, Ended.{IsServed}, Relay.{IsProper}, declared.views.parts.Setting.{Setting}}
 use Rattle.board_face.specs.declared.views.nic.NicSide.{NicSide}
-use Rattle.ref_words.specs.declared.view.View.{View}
-use Rattle.ref_words.specs.Seated.{both_sides}
-use Rattle.ref_words.specs.Over.{CardIsOver, AppIsOver}
+use Rattle.ref_words.specs.{declared.view.View.{View}, Seated.{both_sides}, Over.{CardIsOver, AppIsOver}}
 use Rattle.word_board.specs.Board.{TheDesk, card_of}
 
 -- The roles that are back are over: the card ended, and the applications left, and none is in the middle of anything. No role is due.

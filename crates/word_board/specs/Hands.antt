@@ -3,18 +3,10 @@
 use Rattle.std.specs.Prelude.{◌≡◌, ◌≢◌, ℕ, ◌+◌, ◌*◌, ◌%◌, ◌<◌, ◌≤◌, ◌==◌, true, false, List, [], length, filter, All, AllPairs}
 use Rattle.std.specs.Prelude.{replicate, slice_index, Option, Some, None, MatchOption}
 use Rattle.area_layout.specs.Layout.{LiesIn, pool_buffers, total, size_of}
-use Rattle.board_face.specs.NicCalls.{apps_of}
-use Rattle.board_face.specs.Returns.{loans_out}
-use Rattle.board_face.specs.Used.{PicksAreGiven}
-use Rattle.board_face.specs.declared.views.parts.Setting.{Setting}
-use Rattle.board_face.specs.declared.views.nic.NicSide.{NicSide}
-use Rattle.board_face.specs.declared.views.app.AppSide.{AppSide}
-use Rattle.board_face.specs.SlotSteps.{next_slot}
-use Rattle.board_face.specs.declared.views.nic.SentNote.{SentNote}
-use Rattle.board_face.specs.declared.views.parts.Slot.{Slot}
+use Rattle.board_face.specs.{NicCalls.{apps_of}, Returns.{loans_out}, Used.{PicksAreGiven}, declared.views.{parts.Setting.{Setting}, nic.NicSide.{NicSide}}}
+use Rattle.board_face.specs.{declared.views.{app.AppSide.{AppSide}, nic.SentNote.{SentNote}, parts.Slot.{Slot}}, SlotSteps.{next_slot}}
 use Rattle.word_rings.specs.Slots.{note_width, IsBlankFrom}
-use Rattle.ref_words.specs.Rings.{left_for, words_of_note, writes_note_at, takes_note_at, writes_entry_at, takes_entry_at}
-use Rattle.ref_words.specs.Sides.{HasScrubLists}
+use Rattle.ref_words.specs.{Rings.{left_for, words_of_note, writes_note_at, takes_note_at, writes_entry_at, takes_entry_at}, Sides.{HasScrubLists}}
 
 -- ---- the card
 

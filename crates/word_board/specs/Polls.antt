@@ -1,13 +1,8 @@
 -- What an application's look for a note did.
 use Rattle.std.specs.Prelude.{◌≡◌, ℕ, Bool, false, List, take}
-use Rattle.board_face.specs.AppCalls.{Looked}
-use Rattle.board_face.specs.AppEvents.{app_saw, told_end}
-use Rattle.board_face.specs.Sides.{app_at}
-use Rattle.board_face.specs.SlotSteps.{side_took_note, side_took_linear}
-use Rattle.board_face.specs.declared.answers.Polled.{Polled}
-use Rattle.board_face.specs.declared.answers.Polled.TheVariants.{Note as got_note, Linear as got_linear, Empty as got_none, Ended as got_end}
-use Rattle.board_face.specs.declared.views.app.AppLook.TheVariants.{NoNote}
-use Rattle.board_face.specs.declared.views.app.AppSide.{AppSide}
+use Rattle.board_face.specs.{AppCalls.{Looked}, AppEvents.{app_saw, told_end}, Sides.{app_at}, SlotSteps.{side_took_note, side_took_linear}}
+use Rattle.board_face.specs.declared.answers.Polled.{Polled, TheVariants.{Note as got_note, Linear as got_linear, Empty as got_none, Ended as got_end}}
+use Rattle.board_face.specs.declared.views.app.{AppLook.TheVariants.{NoNote}, AppSide.{AppSide}}
 
 -- the side that has seen that the card had ended, or that it hadn't, and is in no look for a note
 abbrev pub end_known : AppSide → Bool → AppSide

@@ -1,12 +1,8 @@
 -- What an application's search for a spare in the free list did.
 use Rattle.std.specs.Prelude.{◌≡◌, ℕ, ◌<◌, false, List, [], Option, Some, None}
 use Rattle.area_layout.specs.Layout.{pool_buffers}
-use Rattle.board_face.specs.AppCalls.{HasNoneIn, GotSpare, AppOnlySaw}
-use Rattle.board_face.specs.AppEvents.{app_saw, got_spare}
-use Rattle.board_face.specs.Steps.{HasSearched, side_picked}
-use Rattle.board_face.specs.NicEvents.{fresh}
-use Rattle.board_face.specs.declared.views.app.AppLook.TheVariants.{NoSpare}
-use Rattle.board_face.specs.declared.views.app.AppSide.{AppSide}
+use Rattle.board_face.specs.{AppCalls.{HasNoneIn, GotSpare, AppOnlySaw}, AppEvents.{app_saw, got_spare}, Steps.{HasSearched, side_picked}, NicEvents.{fresh}}
+use Rattle.board_face.specs.declared.views.app.{AppLook.TheVariants.{NoSpare}, AppSide.{AppSide}}
 
 -- the side with these words seen without a buffer for it
 abbrev pub seen_without : AppSide → List ℕ → AppSide

@@ -1,11 +1,7 @@
 -- When a seat may make a step: whatever the words are and whatever the others did, the rule holds again behind it.
 use Rattle.std.specs.Prelude.{◌≡◌, ℕ, ◌<◌, ◌^◌, List, slice_index, slice_set}
-use Rattle.board_face.specs.Sides.{IsApp}
-use Rattle.board_face.specs.declared.views.parts.Setting.{Setting}
-use Rattle.board_face.specs.declared.views.nic.NicSide.{NicSide}
-use Rattle.board_face.specs.declared.views.app.AppSide.{AppSide}
-use Rattle.ref_words.specs.Words.{Words, table_of}
-use Rattle.ref_words.specs.Rule.{BoardRule}
+use Rattle.board_face.specs.{Sides.{IsApp}, declared.views.{parts.Setting.{Setting}, nic.NicSide.{NicSide}, app.AppSide.{AppSide}}}
+use Rattle.ref_words.specs.{Words.{Words, table_of}, Rule.{BoardRule}}
 use Rattle.word_board.specs.Board.{TheNic, TheApp}
 
 -- What a step on the word i makes of the board, where it leaves m there: words that stand by the rule to the sides.

@@ -1,23 +1,12 @@
 -- What an answer 'not now' tells a role. Each look ties to the word that it loaded: by the rule there is a board with what this role
 -- did, on which the word is so. It is no more than that, since others step before and after the load.
-use Rattle.std.specs.Prelude.{⊤, ◌≡◌, ℕ, ◌+◌, ◌*◌, ◌<◌, ◌≤◌, ◌==◌, ◌⊎◌, false, List, slice_index}
-use Rattle.std.specs.Int.{trailing_zeros, w64}
+use Rattle.std.specs.{Prelude.{⊤, ◌≡◌, ℕ, ◌+◌, ◌*◌, ◌<◌, ◌≤◌, ◌==◌, ◌⊎◌, false, List, slice_index}, Int.{trailing_zeros, w64}}
 use Rattle.area_layout.specs.Layout.{pool_buffers}
-use Rattle.board_face.specs.NicCalls.{free_words_of}
-use Rattle.board_face.specs.NicEvents.{word_bits, nic_gist}
-use Rattle.board_face.specs.AppEvents.{app_gist, reserve_of}
-use Rattle.board_face.specs.Sides.{IsApp}
-use Rattle.board_face.specs.declared.views.parts.Setting.{Setting}
-use Rattle.board_face.specs.declared.views.nic.NicView.{NicView}
-use Rattle.board_face.specs.declared.views.nic.NicSide.{NicSide}
-use Rattle.board_face.specs.declared.views.nic.NicLook.{NicLook}
-use Rattle.board_face.specs.declared.views.nic.NicLook.TheVariants.{RingEmpty, NoteInUse, NotLeft}
-use Rattle.board_face.specs.declared.views.app.AppView.{AppView}
-use Rattle.board_face.specs.declared.views.app.AppSide.{AppSide}
-use Rattle.board_face.specs.declared.views.app.AppLook.{AppLook}
+use Rattle.board_face.specs.{NicCalls.{free_words_of}, NicEvents.{word_bits, nic_gist}, AppEvents.{app_gist, reserve_of}, Sides.{IsApp}}
+use Rattle.board_face.specs.declared.views.{parts.Setting.{Setting}, nic.{NicView.{NicView}, NicSide.{NicSide}, NicLook.{NicLook}}}
+use Rattle.board_face.specs.declared.views.{nic.NicLook.TheVariants.{RingEmpty, NoteInUse, NotLeft}, app.{AppView.{AppView}, AppSide.{AppSide}, AppLook.{AppLook}}}
 use Rattle.board_face.specs.declared.views.app.AppLook.TheVariants.{NoNote, RefillInUse, RawOnItsWay, NoneListed, NoSpare, NotQuiet}
-use Rattle.ref_words.specs.Words.{Words, slot_word, free_of, listed_in, pool_of}
-use Rattle.ref_words.specs.Rings.{IsLastRaw, takes_entry_at, writes_note_at, writes_entry_at, takes_note_at}
+use Rattle.ref_words.specs.{Words.{Words, slot_word, free_of, listed_in, pool_of}, Rings.{IsLastRaw, takes_entry_at, writes_note_at, writes_entry_at, takes_note_at}}
 use Rattle.ref_words.specs.Rule.{BoardRule}
 use Rattle.word_board.specs.Board.{TheBoard}
 

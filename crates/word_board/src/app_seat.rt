@@ -22,8 +22,7 @@ pub struct AppSeat<'a> {
 }
 
 impl<'a> Model for AppSeat<'a> {
-    ghost use Rattle.word_board.specs.Board.{TheApp};
-    ghost use Rattle.word_board.specs.Hands.{AppKeeps};
+    ghost use Rattle.word_board.specs.{Board.{TheApp}, Hands.{AppKeeps}};
 
     ghost Value = { TheApp };
 

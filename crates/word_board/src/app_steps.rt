@@ -1,11 +1,8 @@
 //! An application's seat with the words on which it steps, and its single steps.
 ghost use Rattle.std.specs.Prelude.{◌≡◌, ℕ, ◌+◌, ◌-◌, ◌%◌, ◌^◌, ◌<◌, [], bit_and, bit_or};
-ghost use Rattle.board_face.specs.NicCalls.{apps_of};
-ghost use Rattle.board_face.specs.declared.views.app.AppSide.{AppSide};
-ghost use Rattle.ref_words.specs.Words.{table_words};
-ghost use Rattle.ref_words.specs.Seated.{app_view};
-ghost use Rattle.word_board.specs.Board.{app_of};
-ghost use Rattle.word_board.specs.Steps.{MayApp};
+ghost use Rattle.board_face.specs.{NicCalls.{apps_of}, declared.views.app.AppSide.{AppSide}};
+ghost use Rattle.ref_words.specs.{Words.{table_words}, Seated.{app_view}};
+ghost use Rattle.word_board.specs.{Board.{app_of}, Steps.{MayApp}};
 
 use crate::rule::{After, SharedWords, Turns, WordSeat};
 use ref_words::WordMap;

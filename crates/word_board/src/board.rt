@@ -1,6 +1,5 @@
 ghost use Rattle.std.specs.Prelude.{◌≡◌, ◌+◌, ◌<◌, ◌≤◌, true, false, MatchOption, IfOk};
-ghost use Rattle.board_face.specs.NicCalls.{apps_of};
-ghost use Rattle.board_face.specs.Opened.{new_nic, new_app};
+ghost use Rattle.board_face.specs.{NicCalls.{apps_of}, Opened.{new_nic, new_app}};
 ghost use Rattle.word_board.specs.Board.{new_desk, was_given, gave_role};
 
 use crate::app_seat::AppSeat;

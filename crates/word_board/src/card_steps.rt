@@ -1,10 +1,8 @@
 //! The card's seat with the words on which it steps, and its single steps.
 ghost use Rattle.std.specs.Prelude.{◌≡◌, ℕ, ◌+◌, ◌-◌, ◌%◌, ◌^◌, ◌<◌, [], bit_or};
 ghost use Rattle.board_face.specs.declared.views.nic.NicSide.{NicSide};
-ghost use Rattle.ref_words.specs.Words.{table_words};
-ghost use Rattle.ref_words.specs.Seated.{card_view};
-ghost use Rattle.word_board.specs.Board.{card_of};
-ghost use Rattle.word_board.specs.Steps.{MayCard};
+ghost use Rattle.ref_words.specs.{Words.{table_words}, Seated.{card_view}};
+ghost use Rattle.word_board.specs.{Board.{card_of}, Steps.{MayCard}};
 
 use crate::rule::{After, SharedWords, Turns, WordSeat};
 use ref_words::WordMap;

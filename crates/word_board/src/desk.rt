@@ -1,8 +1,7 @@
 //! The desk, which gives each role's seat once and takes the seats back.
 ghost use Rattle.std.specs.Prelude.{◌≡◌, [], true, IfOk};
 ghost use Rattle.ref_words.specs.Seated.{no_role, card_view, app_view};
-ghost use Rattle.word_board.specs.Board.{new_desk};
-ghost use Rattle.word_board.specs.Desk.{AreOfBoard, AreServed, took_back};
+ghost use Rattle.word_board.specs.{Board.{new_desk}, Desk.{AreOfBoard, AreServed, took_back}};
 
 use crate::app_seat::AppSeat;
 use crate::app_steps::AppStepper;
@@ -37,9 +36,7 @@ impl Model for Desk {
     ghost use Rattle.std.specs.Prelude.{◌≡◌, ℕ, ◌∷◌, ◌<◌, ◌≤◌, [], length, map, is_none, slice_index_or, None, IfSome, vec_capacity};
     ghost use Rattle.area_layout.specs.Layout.{pool_buffers};
     ghost use Rattle.board_face.specs.NicCalls.{apps_of};
-    ghost use Rattle.word_board.specs.Board.{TheDesk, HasDealt};
-    ghost use Rattle.word_board.specs.Desk.{AreOver, cache_back};
-    ghost use Rattle.word_board.specs.Hands.{IsNew};
+    ghost use Rattle.word_board.specs.{Board.{TheDesk, HasDealt}, Desk.{AreOver, cache_back}, Hands.{IsNew}};
 
     ghost Value = { TheDesk };
 

@@ -2,8 +2,7 @@
 ghost use Rattle.std.specs.Prelude.{◌≡◌};
 ghost use Rattle.area_layout.specs.Layout.{pool_buffers};
 ghost use Rattle.board_face.specs.Ended.{IsEachOnce};
-ghost use Rattle.word_board.specs.Board.{card_of};
-ghost use Rattle.word_board.specs.Desk.{AllAreBack, AreServed, HasNoHolders, StandInOrder};
+ghost use Rattle.word_board.specs.{Board.{card_of}, Desk.{AllAreBack, AreServed, HasNoHolders, StandInOrder}};
 
 use crate::board::WordBoard;
 use crate::desk::Desk;

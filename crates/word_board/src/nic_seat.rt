@@ -1,7 +1,6 @@
 //! The card's seat, which is the card's face of this board.
 ghost use Rattle.std.specs.Prelude.{◌≡◌};
-ghost use Rattle.word_board.specs.Board.{IsSetting};
-ghost use Rattle.word_board.specs.Hands.{NicKeeps, KnowsLeft};
+ghost use Rattle.word_board.specs.{Board.{IsSetting}, Hands.{NicKeeps, KnowsLeft}};
 
 use crate::board::WordBoard;
 use crate::card_steps::CardStepper;
@@ -24,8 +23,7 @@ pub struct NicSeat<'a> {
 }
 
 impl<'a> Model for NicSeat<'a> {
-    ghost use Rattle.word_board.specs.Board.{TheNic, IsSetting};
-    ghost use Rattle.word_board.specs.Hands.{NicKeeps, KnowsLeft};
+    ghost use Rattle.word_board.specs.{Board.{TheNic, IsSetting}, Hands.{NicKeeps, KnowsLeft}};
 
     ghost Value = { TheNic };
 

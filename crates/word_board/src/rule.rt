@@ -1,6 +1,5 @@
 ghost use Rattle.std.specs.Prelude.{◌≡◌, ℕ, ◌≤◌};
-ghost use Rattle.ref_words.specs.Words.{table_words};
-ghost use Rattle.ref_words.specs.declared.view.View.{View};
+ghost use Rattle.ref_words.specs.{Words.{table_words}, declared.view.View.{View}};
 
 use atomic_table::{Join, Play, Seat, Split, Table, TableRule};
 use board_face::Setting;

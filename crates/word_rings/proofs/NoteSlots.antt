@@ -1,15 +1,10 @@
 -- A note and its slot.
 use Rattle.std.proofs.Common.{◌≡◌, ℕ, zero, suc, ◌+◌, ◌/◌, ◌%◌, ◌<◌, ◌==◌, Bool, true, false, if◌then◌else◌}
-use Rattle.std.proofs.Common.{List, [], ◌∷◌, ◌++◌, length, take, drop, slice_index, refl, sym, ap, ◌∙◌, arith, ◌≤◌, ◌*◌}
-use Rattle.std.proofs.Common.{◌-◌, replicate}
-use Rattle.std.proofs.Math.Seq.{drop-nil}
-use Rattle.std.proofs.lemmas.List.{append-nil, length-append, length-drop, take-append-le, drop-append-le, drop-drop, drop-replicate}
-use Rattle.std.proofs.lemmas.Grind.{flat_map-append}
-use Rattle.byteorder.specs.Endian.{little_bytes}
-use Rattle.byteorder.specs.Numbers.{length-bytes_low_first}
+use Rattle.std.proofs.{Common.{List, [], ◌∷◌, ◌++◌, length, take, drop, slice_index, refl, sym, ap, ◌∙◌, arith, ◌≤◌, ◌*◌, ◌-◌, replicate}, Math.Seq.{drop-nil}}
+use Rattle.std.proofs.lemmas.{List.{append-nil, length-append, length-drop, take-append-le, drop-append-le, drop-drop, drop-replicate}, Grind.{flat_map-append}}
+use Rattle.byteorder.specs.{Endian.{little_bytes}, Numbers.{length-bytes_low_first}}
 use Rattle.zr_kinds.specs.declared.place.Note.{Note}
-use Rattle.word_rings.specs.Slots.{pair, low_of, high_of, flags_of, words_of, note_width, note_body, note_slot, note_of, linear_of, bytes_of}
-use Rattle.word_rings.specs.Slots.{IsNoteSlot, IsBlankFrom}
+use Rattle.word_rings.specs.Slots.{pair, low_of, high_of, flags_of, words_of, note_width, note_body, note_slot, note_of, linear_of, bytes_of, IsNoteSlot, IsBlankFrom}
 
 -- ---- two numbers in a word
 

@@ -1,14 +1,9 @@
 -- The words of a text, one by one, and its bytes in them.
-use Rattle.std.proofs.Common.{◌≡◌, ℕ, zero, suc, ◌+◌, ◌*◌, ◌/◌, ◌%◌}
-use Rattle.std.proofs.Common.{◌<◌, ◌≤◌, List, ◌++◌, length, drop}
-use Rattle.std.proofs.Common.{slice_index, replicate, refl, sym, ap, ◌∙◌, arith, length-append}
-use Rattle.std.proofs.lemmas.List.{length-replicate, get_or-drop, get_or-take, drop-drop}
-use Rattle.byteorder.specs.Endian.{little_number}
-use Rattle.byteorder.specs.Numbers.{length-bytes_low_first}
+use Rattle.std.proofs.Common.{◌≡◌, ℕ, zero, suc, ◌+◌, ◌*◌, ◌/◌, ◌%◌, ◌<◌, ◌≤◌, List, ◌++◌, length, drop}
+use Rattle.std.proofs.{Common.{slice_index, replicate, refl, sym, ap, ◌∙◌, arith, length-append}, lemmas.List.{length-replicate, get_or-drop, get_or-take, drop-drop}}
+use Rattle.byteorder.specs.{Endian.{little_number}, Numbers.{length-bytes_low_first}}
 use Rattle.area_layout.proofs.Bytes.{little_bytes-number}
-use Rattle.word_rings.specs.Slots.{words_of}
-use Rattle.word_rings.specs.Texts.{text_count, text_words, word_bytes}
-use Rattle.word_rings.proofs.Words.{same_number, same_padded, zero_in, zero_behind}
+use Rattle.word_rings.{specs.{Slots.{words_of}, Texts.{text_count, text_words, word_bytes}}, proofs.Words.{same_number, same_padded, zero_in, zero_behind}}
 
 pub length-words_of : (n : ℕ) (bytes : List ℕ) → length (words_of n bytes) ≡ n
 length-words_of zero bytes = refl

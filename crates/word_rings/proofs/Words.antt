@@ -1,10 +1,8 @@
 -- Lists of bytes as words, and back.
 use Rattle.std.proofs.Common.{◌≡◌, ℕ, zero, suc, ◌+◌, ◌*◌, ◌-◌, ◌^◌, ◌<◌, ◌≤◌, List, [], ◌∷◌, ◌++◌, length}
-use Rattle.std.proofs.Common.{take, drop, slice_index, replicate, sym, ap, ◌∙◌, arith, refl}
-use Rattle.std.proofs.Math.Seq.{take-append_seam}
+use Rattle.std.proofs.{Common.{take, drop, slice_index, replicate, sym, ap, ◌∙◌, arith, refl}, Math.Seq.{take-append_seam}}
 use Rattle.std.proofs.lemmas.List.{get_or-drop, take-append-drop, drop-drop, length-drop, length-append, length-replicate}
-use Rattle.byteorder.specs.Endian.{little_from, little_number}
-use Rattle.byteorder.specs.Numbers.{little_number-reads_back, length-bytes_low_first}
+use Rattle.byteorder.specs.{Endian.{little_from, little_number}, Numbers.{little_number-reads_back, length-bytes_low_first}}
 use Rattle.area_layout.proofs.Bytes.{little_bytes-number, small_behind}
 use Rattle.word_rings.specs.Slots.{words_of, bytes_of}
 

@@ -2,8 +2,6 @@
 #![tactic(auto)]
 
 mod slots;
-#[cfg(test)]
-mod tests;
 mod texts;
 
 pub use slots::{

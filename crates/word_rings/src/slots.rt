@@ -1,7 +1,6 @@
 //! The words of a note slot and of a refill slot.
 ghost use Rattle.std.specs.Prelude.{◌≡◌, ◌≤◌, ◌<◌, ◌+◌, true, false, [], length, take, slice_index};
-ghost use Rattle.word_rings.specs.Slots.{pair, flags_of, note_slot, note_of, linear_of, bytes_of, refill_slot, entry_of, low_of, high_of};
-ghost use Rattle.word_rings.specs.Slots.{IsNoteSlot, SlotsComeBack};
+ghost use Rattle.word_rings.specs.Slots.{pair, flags_of, note_slot, note_of, linear_of, bytes_of, refill_slot, entry_of, low_of, high_of, IsNoteSlot, SlotsComeBack};
 
 use byteorder::{ByteOrder, LittleEndian};
 use zr_kinds::{Note, Place, Rqe};

@@ -1,9 +1,7 @@
 -- The marks of a note, one by one.
 use Rattle.std.proofs.Common.{◌≡◌, ℕ, suc, ◌+◌, ◌-◌, ◌<◌, List, [], ◌∷◌, ◌++◌, map, sym, ap, ◌∙◌, append_assoc, arith}
 use Rattle.app_worker.specs.Marks.{Mark, marks_from}
-use Rattle.worker_runs.specs.declared.plain.frames.PlainMark.{PlainMark}
-use Rattle.worker_runs.specs.Plain.{mark_shown}
-use Rattle.worker_runs.proofs.Placing.{map-push}
+use Rattle.worker_runs.{specs.{declared.plain.frames.PlainMark.{PlainMark}, Plain.{mark_shown}}, proofs.Placing.{map-push}}
 
 pub marks_from-more : (note len place : ℕ) → place < len
     → marks_from note place (len - place) ≡ record { note = note; place = place } ∷ marks_from note (place + 1) (len - (place + 1))

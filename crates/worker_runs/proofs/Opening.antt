@@ -1,11 +1,7 @@
 -- The application of a board that was just opened for one.
 use Rattle.std.proofs.Common.{◌≡◌, ℕ, refl, sym, ap}
 use Rattle.area_layout.specs.Layout.{Shape}
-use Rattle.board_face.specs.AppCalls.{IsHere}
-use Rattle.board_face.specs.Opened.{new_app_view, new_apps}
-use Rattle.board_face.specs.declared.views.parts.Setting.{Setting}
-use Rattle.board_face.specs.declared.views.app.AppView.{AppView}
-use Rattle.board_face.specs.Sides.{side_in}
+use Rattle.board_face.specs.{AppCalls.{IsHere}, Opened.{new_app_view, new_apps}, declared.views.{parts.Setting.{Setting}, app.AppView.{AppView}}, Sides.{side_in}}
 use Rattle.plain_board.specs.Board.{Board, new_board, side_of}
 use Rattle.app_worker.specs.Kept.{IsFresh}
 

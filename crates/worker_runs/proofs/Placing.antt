@@ -1,17 +1,11 @@
 -- A list of marks at positions against the values placed by the definition.
-use Rattle.std.proofs.Common.{◌≡◌, ℕ, suc, ◌+◌, ◌-◌, ◌^◌, ◌<◌, ◌≤◌, List, [], ◌∷◌, ◌++◌, length, take, map}
-use Rattle.std.proofs.Common.{get_or}
+use Rattle.std.proofs.Common.{◌≡◌, ℕ, suc, ◌+◌, ◌-◌, ◌^◌, ◌<◌, ◌≤◌, List, [], ◌∷◌, ◌++◌, length, take, map, get_or}
 use Rattle.std.proofs.Common.{Option, Some, None, Bool, true, false, is_some, find, option_map, if◌then◌else◌, ◌==◌, refl, sym, ap, ◌∙◌}
-use Rattle.std.proofs.Common.{arith, length-take-le, append_assoc}
-use Rattle.std.proofs.lemmas.Bool.{cond-false, ne_eqb}
-use Rattle.std.proofs.lemmas.List.{take_more}
-use Rattle.zr_kinds.specs.CopyingReceiver.{Placed, missing_within, values_from, brought, first_of, front_of}
-use Rattle.zr_kinds.proofs.InOrder.{front_of-steps, first_of-nothing}
+use Rattle.std.proofs.{Common.{arith, length-take-le, append_assoc}, lemmas.{Bool.{cond-false, ne_eqb}, List.{take_more}}}
+use Rattle.zr_kinds.{specs.CopyingReceiver.{Placed, missing_within, values_from, brought, first_of, front_of}, proofs.InOrder.{front_of-steps, first_of-nothing}}
 use Rattle.zr_kinds.proofs.Pushed.{brought-push, same_position}
 use Rattle.app_worker.specs.Marks.{Mark}
-use Rattle.worker_runs.specs.declared.plain.frames.PlainMark.{PlainMark}
-use Rattle.worker_runs.specs.declared.plain.placed.PlacedMark.{PlacedMark}
-use Rattle.worker_runs.specs.Plain.{mark_shown, mark_in}
+use Rattle.worker_runs.specs.{declared.plain.{frames.PlainMark.{PlainMark}, placed.PlacedMark.{PlacedMark}}, Plain.{mark_shown, mark_in}}
 
 -- ---- lists of marks
 

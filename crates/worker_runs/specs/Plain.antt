@@ -1,12 +1,8 @@
 -- What the plain program's values stand for.
 use Rattle.std.specs.Prelude.{ℕ, List, Option, option_map, find, map, ◌==◌}
-use Rattle.zr_kinds.specs.CopyingReceiver.{Placed}
-use Rattle.zr_kinds.specs.declared.place.Note.{Note}
+use Rattle.zr_kinds.specs.{CopyingReceiver.{Placed}, declared.place.Note.{Note}}
 use Rattle.app_worker.specs.Marks.{Mark, Numbered, Frame}
-use Rattle.worker_runs.specs.declared.plain.frames.PlainMark.{PlainMark}
-use Rattle.worker_runs.specs.declared.plain.frames.PlainFrame.{PlainFrame}
-use Rattle.worker_runs.specs.declared.plain.placed.PlacedMark.{PlacedMark}
-use Rattle.worker_runs.specs.declared.plain.placed.PlainPlaced.{PlainPlaced}
+use Rattle.worker_runs.specs.declared.plain.{frames.{PlainMark.{PlainMark}, PlainFrame.{PlainFrame}}, placed.{PlacedMark.{PlacedMark}, PlainPlaced.{PlainPlaced}}}
 
 abbrev pub mark_shown : PlainMark → Mark
 mark_shown m = record { note = m.note; place = m.place }

@@ -1,8 +1,7 @@
 -- The card and one application between two steps.
 use Rattle.std.specs.Prelude.{◌≡◌, Bool, false, true}
 use Rattle.board_face.specs.AppCalls.{IsHere}
-use Rattle.face_table.specs.declared.card.CardHand.{CardHand}
-use Rattle.face_table.specs.CardHand.{IsCardHand}
+use Rattle.face_table.specs.{declared.card.CardHand.{CardHand}, CardHand.{IsCardHand}}
 use Rattle.plain_board.specs.Board.{Board, side_of}
 use Rattle.app_worker.specs.State.{State, AppStands}
 

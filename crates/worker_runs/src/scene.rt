@@ -2,8 +2,7 @@ ghost use Rattle.std.specs.Prelude.{◌≡◌, ◌≢◌, true};
 ghost use Rattle.board_face.specs.AppCalls.{IsHere};
 ghost use Rattle.face_table.specs.CardHand.{IsCardHand};
 ghost use Rattle.plain_board.specs.Board.{side_of};
-ghost use Rattle.app_worker.specs.State.{AppStands};
-ghost use Rattle.app_worker.specs.declared.turn.Turn.TheVariants.{Finished};
+ghost use Rattle.app_worker.specs.{State.{AppStands}, declared.turn.Turn.TheVariants.{Finished}};
 ghost use Rattle.worker_runs.specs.Scene.{IsPlaying};
 
 use crate::{CardMove, Told, card_move};

@@ -1,16 +1,9 @@
 -- A turn keeps the number of its application.
 use Rattle.std.proofs.Common.{◌≡◌, Option, None, Some, refl, ap, ◌∙◌, ⊎_elim}
 use Rattle.zr_kinds.specs.declared.place.Place.{Place}
-use Rattle.board_face.specs.AppCalls.{AppOnlySaw}
-use Rattle.board_face.specs.AppEvents.{gave}
-use Rattle.board_face.specs.declared.views.app.AppLook.TheVariants.{RefillInUse}
-use Rattle.board_face.specs.declared.views.app.AppView.{AppView}
-use Rattle.zc_poll.specs.declared.to_shelf.PollTurn.{PollTurn}
-use Rattle.zc_poll.specs.declared.to_shelf.PollTurn.TheVariants.{Did, Idle, Ended}
-use Rattle.zc_poll.specs.declared.to_shelf.Rests.{Rests}
-use Rattle.zc_poll.specs.declared.to_shelf.Rests.TheVariants.{Stream, RefillFull, NotQuiet, NoNotice}
-use Rattle.zc_forward.specs.Sending.{OutboxState, without_uncarried}
-use Rattle.zc_forward.specs.Turns.{Does, GoesBack, CarriedItem, Idles, Stage, Told, TurnDoes}
+use Rattle.board_face.specs.{AppCalls.{AppOnlySaw}, AppEvents.{gave}, declared.views.app.{AppLook.TheVariants.{RefillInUse}, AppView.{AppView}}}
+use Rattle.zc_poll.specs.declared.to_shelf.{PollTurn.{PollTurn, TheVariants.{Did, Idle, Ended}}, Rests.{Rests, TheVariants.{Stream, RefillFull, NotQuiet, NoNotice}}}
+use Rattle.zc_forward.specs.{Sending.{OutboxState, without_uncarried}, Turns.{Does, GoesBack, CarriedItem, Idles, Stage, Told, TurnDoes}}
 
 back-app : (loan : Place) (z : OutboxState) (old new : AppView) → GoesBack loan z old new → new.app ≡ old.app
 back-app loan z old new back = ⊎_elim

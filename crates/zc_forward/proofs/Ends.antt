@@ -1,28 +1,14 @@
 -- Forwarding comes to its end as pouring does.
 use Rattle.std.proofs.Common.{◌≡◌, ◌≢◌, ℕ, ◌+◌, true, false, List, [], ◌∷◌, length, Option, Some, None, sym, ap, subst, ◌∙◌, arith, ⊎_elim, inl, append-nil}
-use Rattle.std.specs.Prelude.{◌↔◌, IfSome, nat_eq}
-use Rattle.std.specs.List.{IsDistinct}
-use Rattle.std.specs.Map.{keys_of}
+use Rattle.std.specs.{Prelude.{◌↔◌, IfSome, nat_eq}, List.{IsDistinct}, Map.{keys_of}}
 use Rattle.zr_kinds.specs.declared.place.Place.{Place}
 use Rattle.zr_kinds.specs.declared.behaviour.Stopped.TheVariants as stop
-use Rattle.board_face.specs.AppCalls.{HasLoan}
-use Rattle.board_face.specs.AppEvents.{abandoned}
-use Rattle.board_face.specs.declared.views.app.LentPiece.{LentPiece}
-use Rattle.board_face.specs.declared.views.app.AppView.{AppView}
-use Rattle.flow_queues.specs.Core.{total, IsIn}
-use Rattle.flow_queues.specs.Totals.{lent_len}
-use Rattle.zc_poll.specs.Standing.{Desk, StreamStands}
-use Rattle.zc_poll.specs.Items.{HasGiven}
-use Rattle.zc_poll.specs.Pouring.{OnlyDue, PourStands}
-use Rattle.zc_poll.proofs.ItemPoured.{poured-all}
-use Rattle.zc_poll.proofs.EntriesFirst.{first-gone}
-use Rattle.zc_poll.proofs.PourTurns.{same-counts}
-use Rattle.zc_poll.proofs.Pours.{is-no}
-use Rattle.zc_forward.specs.Tags.{Tags}
-use Rattle.zc_forward.specs.Sending.{AreLoans, OutboxState, of_one, of_sent, tags_of, without_uncarried}
-use Rattle.zc_forward.specs.Forwarding.{ForwardStands}
-use Rattle.zc_forward.proofs.Out.{none_out}
-use Rattle.zc_forward.proofs.Live.{IsOut, at-itself, at_place, counted-out, has-out, no-loans, went, went-places, went-many, went-lent}
+use Rattle.board_face.specs.{AppCalls.{HasLoan}, AppEvents.{abandoned}, declared.views.app.{LentPiece.{LentPiece}, AppView.{AppView}}}
+use Rattle.flow_queues.specs.{Core.{total, IsIn}, Totals.{lent_len}}
+use Rattle.zc_poll.{specs.{Standing.{Desk, StreamStands}, Items.{HasGiven}, Pouring.{OnlyDue, PourStands}}, proofs.{ItemPoured.{poured-all}, EntriesFirst.{first-gone}}}
+use Rattle.zc_poll.proofs.{PourTurns.{same-counts}, Pours.{is-no}}
+use Rattle.zc_forward.specs.{Tags.{Tags}, Sending.{AreLoans, OutboxState, of_one, of_sent, tags_of, without_uncarried}, Forwarding.{ForwardStands}}
+use Rattle.zc_forward.proofs.{Out.{none_out}, Live.{IsOut, at-itself, at_place, counted-out, has-out, no-loans, went, went-places, went-many, went-lent}}
 
 -- the loan that wasn't carried is out
 pub aside-out : (w : OutboxState) (loans : List LentPiece) (loan : Place) → AreLoans w loans → w.uncarried ≡ Some loan → IsOut loan loans

@@ -1,39 +1,18 @@
 -- What forwarding keeps goes on: as the carrier tells, as a loan goes back, and as the stream takes steps that give no item.
 use Rattle.std.proofs.Common.{◌≡◌, ◌≢◌, ℕ, ◌+◌, ◌≤◌, true, false, List, [], ◌∷◌, ◌++◌, length, Option, Some, None, refl, sym, ap, subst, ◌∙◌, arith, ⊎_elim, ◌⊎◌, inl, inr, append-nil}
-use Rattle.std.specs.Prelude.{IfNone, nat_eq}
-use Rattle.std.specs.List.{IsDistinct}
-use Rattle.std.specs.Map.{keys_of, remove_entry}
+use Rattle.std.specs.{Prelude.{IfNone, nat_eq}, List.{IsDistinct}, Map.{keys_of, remove_entry}}
 use Rattle.zr_kinds.specs.declared.place.Place.{Place}
 use Rattle.zr_kinds.specs.declared.behaviour.Stopped.TheVariants as stop
-use Rattle.zr_io.specs.Moved.{Rose}
-use Rattle.zr_io.proofs.Moved.{Gained-then, Gained-nothing}
-use Rattle.board_face.specs.AppEvents.{app_saw, gave, entry_of}
-use Rattle.board_face.specs.declared.views.app.AppLook.{AppLook}
-use Rattle.board_face.specs.declared.views.app.LentPiece.{LentPiece}
-use Rattle.board_face.specs.declared.views.app.AppView.{AppView}
-use Rattle.flow_queues.specs.Core.{total, IsIn}
-use Rattle.flow_queues.specs.Totals.{lent_len, loan_entries}
-use Rattle.flow_queues.proofs.Tokens.{in-total}
-use Rattle.zc_poll.specs.declared.to_shelf.PollTurn.{PollTurn}
-use Rattle.zc_poll.specs.declared.to_shelf.PollTurn.TheVariants.{Did, Idle, Ended}
-use Rattle.zc_poll.specs.Counting.{TallyState}
-use Rattle.zc_poll.specs.Standing.{Desk, StreamStands}
-use Rattle.zc_poll.specs.Items.{Given, HasGiven, marks_given}
-use Rattle.zc_poll.specs.Steps.{OnlySteps, Unlent}
-use Rattle.zc_poll.specs.Pouring.{IsPoured, HasPoured}
-use Rattle.flow_queues.specs.Ends.{bytes_in}
-use Rattle.zc_poll.proofs.ItemPoured.{SameCounts, poured-moved, poured-all, same-kept}
-use Rattle.zc_poll.proofs.EntriesFirst.{first-same, first-gave}
-use Rattle.zc_poll.proofs.PouredOn.{sees-still}
-use Rattle.zc_poll.proofs.PourTurns.{same-counts}
-use Rattle.zc_poll.proofs.Pours.{is-no, no-write}
-use Rattle.zc_forward.specs.declared.sent.Sent.{Sent}
-use Rattle.zc_forward.specs.Tags.{FlowsKeep, Tags, TakesTag}
-use Rattle.zc_forward.specs.Sending.{AreLoans, OutboxState, of_one, of_sent, tags_of}
-use Rattle.zc_forward.specs.Forwarding.{ForwardStands}
-use Rattle.zc_forward.specs.Turns.{GivesBack, GoesBack, with_due}
-use Rattle.zc_forward.proofs.Live.{IsOut, counted-out, at_place, at-itself, went, went-places, went-many, went-lent, gave-entry, gave-returned}
-use Rattle.zc_forward.proofs.Sents.{still-once}
+use Rattle.zr_io.{specs.Moved.{Rose}, proofs.Moved.{Gained-then, Gained-nothing}}
+use Rattle.board_face.specs.{AppEvents.{app_saw, gave, entry_of}, declared.views.app.{AppLook.{AppLook}, LentPiece.{LentPiece}, AppView.{AppView}}}
+use Rattle.flow_queues.{specs.{Core.{total, IsIn}, Totals.{lent_len, loan_entries}, Ends.{bytes_in}}, proofs.Tokens.{in-total}}
+use Rattle.zc_poll.specs.{declared.to_shelf.PollTurn.{PollTurn, TheVariants.{Did, Idle, Ended}}, Counting.{TallyState}, Standing.{Desk, StreamStands}}
+use Rattle.zc_poll.specs.{Items.{Given, HasGiven, marks_given}, Steps.{OnlySteps, Unlent}, Pouring.{IsPoured, HasPoured}}
+use Rattle.zc_poll.proofs.{ItemPoured.{SameCounts, poured-moved, poured-all, same-kept}, EntriesFirst.{first-same, first-gave}, PouredOn.{sees-still}}
+use Rattle.zc_poll.proofs.{PourTurns.{same-counts}, Pours.{is-no, no-write}}
+use Rattle.zc_forward.specs.{declared.sent.Sent.{Sent}, Tags.{FlowsKeep, Tags, TakesTag}, Sending.{AreLoans, OutboxState, of_one, of_sent, tags_of}}
+use Rattle.zc_forward.specs.{Forwarding.{ForwardStands}, Turns.{GivesBack, GoesBack, with_due}}
+use Rattle.zc_forward.proofs.{Live.{IsOut, counted-out, at_place, at-itself, went, went-places, went-many, went-lent, gave-entry, gave-returned}, Sents.{still-once}}
 
 -- ---- the carrier told, or had none
 

@@ -1,23 +1,11 @@
 -- What the carrier got is a front of each flow's bytes, and the loans of the tags that are out are out.
-use Rattle.std.proofs.Common.{◌≡◌, ℕ, List, [], ◌∷◌, ◌++◌, length, take, drop, Option, refl, sym, ap, ◌∙◌, append_assoc, inl, inr}
-use Rattle.std.proofs.lemmas.List.{take-append-drop}
+use Rattle.std.proofs.{Common.{◌≡◌, ℕ, List, [], ◌∷◌, ◌++◌, length, take, drop, Option, refl, sym, ap, ◌∙◌, append_assoc, inl, inr}, lemmas.List.{take-append-drop}}
 use Rattle.zr_kinds.specs.declared.behaviour.Stopped.TheVariants as stop
 use Rattle.zr_io.proofs.Moved.{Gained-weaker}
-use Rattle.board_face.specs.AppCalls.{HasLoan}
-use Rattle.board_face.specs.declared.views.app.AppView.{AppView}
-use Rattle.flow_queues.specs.Marks.{Mark, FramesStandTogether, marks_of}
-use Rattle.flow_queues.specs.Core.{Each, IsIn}
-use Rattle.flow_queues.specs.Streams.{HasFronts, IsFront}
-use Rattle.flow_queues.specs.Ends.{bytes_in}
-use Rattle.zc_poll.specs.Standing.{Desk}
-use Rattle.zc_poll.specs.Items.{marks_given}
-use Rattle.zc_poll.specs.Pouring.{IsPoured}
-use Rattle.zc_poll.proofs.Whole.{items-front}
-use Rattle.zc_forward.specs.declared.sent.Sent.{Sent}
-use Rattle.zc_forward.specs.Tags.{Tags}
-use Rattle.zc_forward.specs.Sending.{AreLoans, OutboxState}
-use Rattle.zc_forward.specs.Forwarding.{ForwardStands}
-use Rattle.zc_forward.proofs.Live.{has-out}
+use Rattle.board_face.specs.{AppCalls.{HasLoan}, declared.views.app.AppView.{AppView}}
+use Rattle.flow_queues.specs.{Marks.{Mark, FramesStandTogether, marks_of}, Core.{Each, IsIn}, Streams.{HasFronts, IsFront}, Ends.{bytes_in}}
+use Rattle.zc_poll.{specs.{Standing.{Desk}, Items.{marks_given}, Pouring.{IsPoured}}, proofs.Whole.{items-front}}
+use Rattle.zc_forward.{specs.{declared.sent.Sent.{Sent}, Tags.{Tags}, Sending.{AreLoans, OutboxState}, Forwarding.{ForwardStands}}, proofs.Live.{has-out}}
 use Rattle.zc_forward.proofs.Forwards.{sent-out}
 
 pub front-of : (first got : ℕ → Option (List ℕ)) (losses now : ℕ) (w : OutboxState) (st : Desk) (tags : Tags) (v : AppView)

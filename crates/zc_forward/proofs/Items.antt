@@ -1,45 +1,19 @@
 -- An item went out, or wasn't carried for want of memory, or the carrier failed.
 use Rattle.std.proofs.Common.{◌≡◌, ◌≢◌, ℕ, ◌+◌, ◌-◌, ◌^◌, ◌<◌, ◌≤◌, min, Bool, true, false, vec_capacity, List, [], ◌∷◌, ◌++◌, length, drop, Option, Some, None, refl, sym, ap, subst, ◌∙◌, arith, ⊎_elim, inl, inr, append-nil, length-append}
-use Rattle.std.proofs.Math.Seq.{drop-append_seam}
-use Rattle.std.specs.Prelude.{nat_eq}
-use Rattle.std.specs.Io.KnownBytes.{Keeps}
-use Rattle.std.specs.Map.{lookup}
+use Rattle.std.{proofs.Math.Seq.{drop-append_seam}, specs.{Prelude.{nat_eq}, Io.KnownBytes.{Keeps}, Map.{lookup}}}
 use Rattle.zr_kinds.specs.declared.place.Place.{Place}
 use Rattle.zr_kinds.specs.declared.behaviour.Stopped.TheVariants as stop
-use Rattle.zr_io.specs.Moved.{Gained, Rose}
-use Rattle.zr_io.proofs.Moved.{Rose-earlier}
-use Rattle.board_face.specs.declared.views.app.LentPiece.{LentPiece}
-use Rattle.board_face.specs.declared.views.app.AppView.{AppView}
-use Rattle.flow_queues.specs.Marks.{Mark}
-use Rattle.flow_queues.specs.declared.queues.Lending.{Lending}
-use Rattle.flow_queues.specs.Core.{total, IsIn, lent_piece, OnlyReads, IsReadOf}
-use Rattle.flow_queues.specs.Totals.{lent_len, loan_entries}
-use Rattle.flow_queues.specs.Shelves.{AreOfOneLoan, kept_loans}
-use Rattle.flow_queues.specs.Ends.{bytes_in}
-use Rattle.flow_queues.proofs.Tokens.{loan-some, total-append}
-use Rattle.zc_poll.specs.Counting.{TallyState, AddsTo, item_counted}
-use Rattle.zc_poll.specs.declared.counting.PourTally.{PourTally as Counts}
-use Rattle.zc_poll.specs.TallyOf.{tally_of}
-use Rattle.zc_poll.specs.declared.step.Lent.{Lent}
-use Rattle.zc_poll.specs.Standing.{Desk, StreamStands}
-use Rattle.zc_poll.specs.Items.{Given, HasGiven, marks_given}
-use Rattle.zc_poll.specs.Steps.{OnlySteps, IsItem, given_as}
-use Rattle.zc_poll.specs.Pouring.{HasPoured}
-use Rattle.zc_poll.proofs.Views.{total-one}
-use Rattle.zc_poll.proofs.LoanGone.{drop-all}
-use Rattle.zc_poll.proofs.PouredOn.{SeesOn, read-on}
-use Rattle.zc_poll.proofs.ItemPoured.{Roomy, SameCounts, moved-by, poured-moved, poured-roomy, item-poured, push-length}
-use Rattle.zc_poll.proofs.EntriesFirst.{first-gone, first-same}
-use Rattle.zc_poll.proofs.Appended.{appended, at-flow}
-use Rattle.zc_poll.proofs.Pours.{is-no, no-write, known-at}
-use Rattle.zc_forward.specs.declared.sent.Sent.{Sent}
-use Rattle.zc_forward.specs.Tags.{FlowsKeep, Tags}
-use Rattle.zc_forward.specs.Sending.{OutboxState, most_out, of_one, of_sent, tags_of}
-use Rattle.zc_forward.specs.GivenUp.{GaveUp}
-use Rattle.zc_forward.specs.Forwarding.{ForwardStands}
-use Rattle.zc_forward.proofs.Forwards.{poured-kept}
-use Rattle.zc_forward.proofs.Out.{none_out, one_more}
-use Rattle.zc_forward.proofs.Sents.{tags-push}
+use Rattle.zr_io.{specs.Moved.{Gained, Rose}, proofs.Moved.{Rose-earlier}}
+use Rattle.board_face.specs.declared.views.app.{LentPiece.{LentPiece}, AppView.{AppView}}
+use Rattle.flow_queues.specs.{Marks.{Mark}, declared.queues.Lending.{Lending}, Core.{total, IsIn, lent_piece, OnlyReads, IsReadOf}, Totals.{lent_len, loan_entries}}
+use Rattle.flow_queues.{specs.{Shelves.{AreOfOneLoan, kept_loans}, Ends.{bytes_in}}, proofs.Tokens.{loan-some, total-append}}
+use Rattle.zc_poll.specs.{Counting.{TallyState, AddsTo, item_counted}, declared.{counting.PourTally.{PourTally as Counts}, step.Lent.{Lent}}, TallyOf.{tally_of}}
+use Rattle.zc_poll.specs.{Standing.{Desk, StreamStands}, Items.{Given, HasGiven, marks_given}, Steps.{OnlySteps, IsItem, given_as}, Pouring.{HasPoured}}
+use Rattle.zc_poll.proofs.{Views.{total-one}, LoanGone.{drop-all}, PouredOn.{SeesOn, read-on}}
+use Rattle.zc_poll.proofs.{ItemPoured.{Roomy, SameCounts, moved-by, poured-moved, poured-roomy, item-poured, push-length}, EntriesFirst.{first-gone, first-same}}
+use Rattle.zc_poll.proofs.{Appended.{appended, at-flow}, Pours.{is-no, no-write, known-at}}
+use Rattle.zc_forward.specs.{declared.sent.Sent.{Sent}, Tags.{FlowsKeep, Tags}, Sending.{OutboxState, most_out, of_one, of_sent, tags_of}, GivenUp.{GaveUp}}
+use Rattle.zc_forward.{specs.Forwarding.{ForwardStands}, proofs.{Forwards.{poured-kept}, Out.{none_out, one_more}, Sents.{tags-push}}}
 
 -- ---- all loans were given up
 

@@ -1,22 +1,13 @@
 -- The loans that are kept are out, and go.
 use Rattle.std.proofs.Common.{◌≡◌, ℕ, zero, suc, ◌+◌, ◌<◌, ◌≤◌, true, false, if◌then◌else◌, List, [], ◌∷◌, ◌++◌, length, map, refl, sym, ap, subst, ◌∙◌, arith, ⊎_elim, ◌⊎◌, inl, inr, length-append, append_assoc}
-use Rattle.std.specs.Prelude.{Contains}
-use Rattle.std.proofs.lemmas.Bool.{cases_Bool}
+use Rattle.std.{specs.Prelude.{Contains}, proofs.lemmas.Bool.{cases_Bool}}
 use Rattle.zr_kinds.specs.declared.place.Place.{Place}
-use Rattle.board_face.specs.Lists.{same_place}
-use Rattle.board_face.specs.AppCalls.{HasLoan}
-use Rattle.board_face.specs.AppEvents.{abandoned, gave, entry_of}
-use Rattle.board_face.specs.declared.views.app.LentPiece.{LentPiece}
-use Rattle.board_face.specs.declared.views.app.WrittenEntry.{WrittenEntry}
-use Rattle.board_face.specs.declared.views.app.AppView.{AppView}
-use Rattle.board_face.proofs.ListLemmas.{same_place-refl, same_place-is}
-use Rattle.flow_queues.specs.Core.{total, IsIn, LieApart}
-use Rattle.flow_queues.specs.Totals.{lent_len, loan_entries, raw_entries}
+use Rattle.board_face.specs.{Lists.{same_place}, AppCalls.{HasLoan}, AppEvents.{abandoned, gave, entry_of}, declared.views.app.LentPiece.{LentPiece}}
+use Rattle.board_face.{specs.declared.views.app.{WrittenEntry.{WrittenEntry}, AppView.{AppView}}, proofs.ListLemmas.{same_place-refl, same_place-is}}
+use Rattle.flow_queues.specs.{Core.{total, IsIn, LieApart}, Totals.{lent_len, loan_entries, raw_entries}}
 use Rattle.flow_queues.proofs.Tokens.{total-append, in-left, in-right, in-contains, in-without, is-given, loan-some}
 use Rattle.zc_poll.proofs.Views.{total-one}
-use Rattle.zc_forward.specs.declared.sent.Sent.{Sent}
-use Rattle.zc_forward.specs.Sending.{of_sent}
-use Rattle.zc_forward.specs.GivenUp.{GaveUp}
+use Rattle.zc_forward.specs.{declared.sent.Sent.{Sent}, Sending.{of_sent}, GivenUp.{GaveUp}}
 
 -- ---- a loan that is kept is out
 

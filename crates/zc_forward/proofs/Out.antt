@@ -1,13 +1,8 @@
 -- The tags that are out: one more, and the oldest of them gone.
-use Rattle.std.proofs.Common.{◌≡◌, ℕ, ◌<◌, ◌++◌, [], ◌∷◌, length, get_or, true, false, Some, None, refl, sym, ap, subst, arith, ⊎_elim}
-use Rattle.std.specs.Prelude.{nat_eq}
-use Rattle.std.specs.Cmp.{nat_eq_equiv}
-use Rattle.std.specs.List.{AllByRecursion, IsDistinct, list_any, remove}
-use Rattle.std.specs.Map.{keys_of, lookup}
-use Rattle.std.proofs.lemmas.Bool.{cases_Bool, eq-eqb}
+use Rattle.std.{proofs.Common.{◌≡◌, ℕ, ◌<◌, ◌++◌, [], ◌∷◌, length, get_or, true, false, Some, None, refl, sym, ap, subst, arith, ⊎_elim}, specs.Prelude.{nat_eq}}
+use Rattle.std.{specs.{Cmp.{nat_eq_equiv}, List.{AllByRecursion, IsDistinct, list_any, remove}, Map.{keys_of, lookup}}, proofs.lemmas.Bool.{cases_Bool, eq-eqb}}
 use Rattle.std.proofs.lemmas.Map.Keys.{IsDistinct-head, IsDistinct-push, IsDistinct-tail}
-use Rattle.zc_forward.specs.Tags.{Tags, TakesTag}
-use Rattle.zc_forward.specs.Carriage.{AreOut, Carriage}
+use Rattle.zc_forward.specs.{Tags.{Tags, TakesTag}, Carriage.{AreOut, Carriage}}
 
 pub none_out : (delay : ℕ) → delay < 64 → AreOut delay []
 unfolding IsDistinct

@@ -1,14 +1,10 @@
 -- Loans by their tags: one more, one less, and a tag that is free.
 use Rattle.std.proofs.Common.{◌≡◌, ◌≢◌, ℕ, zero, suc, ◌+◌, ◌<◌, ◌≤◌, ◌==◌, nat_lt, Bool, true, false, if◌then◌else◌, List, [], ◌∷◌, ◌++◌, length, get_or, take, Option, Some, None, refl, sym, ap, subst, ◌∙◌, arith, ⊎_elim, inl, inr}
-use Rattle.std.specs.Prelude.{nat_eq, remove, MatchOption, is_some}
-use Rattle.std.specs.List.{IsDistinct, AllByRecursion}
-use Rattle.std.specs.Map.{keys_of, lookup, remove_entry}
+use Rattle.std.specs.{Prelude.{nat_eq, remove, MatchOption, is_some}, List.{IsDistinct, AllByRecursion}, Map.{keys_of, lookup, remove_entry}}
 use Rattle.std.proofs.lemmas.Bool.{cases_Bool, eq-eqb, lt-ltb, ltb-true, ltb-false, cases_eq, ne_eqb}
 use Rattle.zr_kinds.specs.declared.place.Place.{Place}
 use Rattle.flow_queues.specs.Core.{total, IsIn}
-use Rattle.zc_forward.specs.declared.sent.Sent.{Sent}
-use Rattle.zc_forward.specs.Tags.{Tags}
-use Rattle.zc_forward.specs.Sending.{tags_of, of_sent}
+use Rattle.zc_forward.specs.{declared.sent.Sent.{Sent}, Tags.{Tags}, Sending.{tags_of, of_sent}}
 
 pub tags-push : (out : List Sent) (s : Sent) → tags_of (out ++ s ∷ []) ≡ tags_of out ++ (s.tag, s.flow) ∷ []
 tags-push [] s = refl

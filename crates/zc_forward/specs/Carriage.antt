@@ -1,10 +1,7 @@
 -- What a contract sees of a carrier over a shelf.
-use Rattle.std.specs.Prelude.{◌≡◌, ℕ, ◌<◌, length, nat_eq, nat_le, Bool, true, false, Option, Some, None, ◌∷◌, if◌then◌else◌}
-use Rattle.futures.specs.declared.task.Poll.{Poll}
-use Rattle.futures.specs.declared.task.Poll.TheVariants.{Ready, Pending}
+use Rattle.std.specs.{Prelude.{◌≡◌, ℕ, ◌<◌, length, nat_eq, nat_le, Bool, true, false, Option, Some, None, ◌∷◌, if◌then◌else◌}, List.{IsDistinct}, Map.{keys_of}}
+use Rattle.futures.specs.declared.task.Poll.{Poll, TheVariants.{Ready, Pending}}
 use Rattle.zr_io.specs.Memory.{raised}
-use Rattle.std.specs.List.{IsDistinct}
-use Rattle.std.specs.Map.{keys_of}
 use Rattle.zc_forward.specs.Tags.{Tags}
 
 -- the shelf, how many tags it keeps out, these in the order in which they went out, and how often it had no notice

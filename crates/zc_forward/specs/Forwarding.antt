@@ -1,17 +1,12 @@
 -- What forwarding keeps between two turns, and how that stands to what the face has seen, what the carrier got, and the tags that
 -- are out at it.
-use Rattle.std.specs.Prelude.{◌≡◌, ◌≢◌, ℕ, ◌≤◌, ◌⊎◌, true, false, List, [], length, Option, None, nat_eq}
-use Rattle.std.specs.List.{IsDistinct}
-use Rattle.std.specs.Map.{keys_of}
+use Rattle.std.specs.{Prelude.{◌≡◌, ◌≢◌, ℕ, ◌≤◌, ◌⊎◌, true, false, List, [], length, Option, None, nat_eq}, List.{IsDistinct}, Map.{keys_of}}
 use Rattle.zr_kinds.specs.declared.behaviour.Stopped.TheVariants as stop
 use Rattle.zr_io.specs.Moved.{Rose}
 use Rattle.board_face.specs.declared.views.app.AppView.{AppView}
 use Rattle.flow_queues.specs.Totals.{loan_entries}
-use Rattle.zc_poll.specs.Standing.{Desk, StreamStands}
-use Rattle.zc_poll.specs.Items.{Given}
-use Rattle.zc_poll.specs.Pouring.{HasPoured}
-use Rattle.zc_forward.specs.Tags.{Tags}
-use Rattle.zc_forward.specs.Sending.{AreLoans, OutboxState, most_out, of_one, tags_of}
+use Rattle.zc_poll.specs.{Standing.{Desk, StreamStands}, Items.{Given}, Pouring.{HasPoured}}
+use Rattle.zc_forward.specs.{Tags.{Tags}, Sending.{AreLoans, OutboxState, most_out, of_one, tags_of}}
 
 -- Between two turns. The carrier had got `first` and has `got` now; its count of faults was `losses` and is `losses_now`.
 pub record ForwardStands (first : ℕ → Option (List ℕ)) (losses : ℕ) (w : OutboxState) (st : Desk) (tags : Tags) (got : ℕ → Option (List ℕ))

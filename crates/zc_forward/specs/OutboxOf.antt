@@ -1,7 +1,6 @@
 -- What forwarding keeps, as plain data.
 use Rattle.zc_poll.specs.TallyOf.{tally_of}
-use Rattle.zc_forward.specs.declared.outbox.Outbox.{Outbox as Kept}
-use Rattle.zc_forward.specs.Sending.{OutboxState}
+use Rattle.zc_forward.specs.{declared.outbox.Outbox.{Outbox as Kept}, Sending.{OutboxState}}
 
 abbrev pub outbox_of : Kept → OutboxState
 outbox_of w = record { tally = tally_of w.tally; out = w.out.items; uncarried = w.uncarried; pressed = w.pressed }

@@ -1,15 +1,10 @@
 -- The loans that are out, by their tags, and what forwarding keeps beside its stream and its carrier.
 use Rattle.std.specs.Prelude.{◌≡◌, ℕ, ◌+◌, ◌==◌, ◌||◌, Bool, true, false, List, length, map, Option, Some, None}
 use Rattle.zr_kinds.specs.declared.place.Place.{Place}
-use Rattle.board_face.specs.AppEvents.{abandoned}
-use Rattle.board_face.specs.declared.views.app.LentPiece.{LentPiece}
-use Rattle.board_face.specs.declared.views.app.AppView.{AppView}
+use Rattle.board_face.specs.{AppEvents.{abandoned}, declared.views.app.{LentPiece.{LentPiece}, AppView.{AppView}}}
 use Rattle.flow_queues.specs.Core.{total}
-use Rattle.zc_poll.specs.Counting.{TallyState}
-use Rattle.zc_poll.specs.declared.step.Waits.{Waits}
-use Rattle.zc_poll.specs.declared.step.Waits.TheVariants.{NoNote, ReserveHeld, Enough}
-use Rattle.zc_forward.specs.declared.sent.Sent.{Sent}
-use Rattle.zc_forward.specs.Tags.{Tags}
+use Rattle.zc_poll.specs.{Counting.{TallyState}, declared.step.Waits.{Waits, TheVariants.{NoNote, ReserveHeld, Enough}}}
+use Rattle.zc_forward.specs.{declared.sent.Sent.{Sent}, Tags.{Tags}}
 
 -- their tags, each with its flow
 abbrev pub tags_of : List Sent → Tags

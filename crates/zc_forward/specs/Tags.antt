@@ -1,7 +1,5 @@
 -- The tags that are out.
-use Rattle.std.specs.Prelude.{◌≡◌, ℕ, List, Option, Some, None, IsSome, nat_eq}
-use Rattle.std.specs.Map.{lookup, remove_entry}
-use Rattle.std.specs.Io.KnownBytes.{Keeps}
+use Rattle.std.specs.{Prelude.{◌≡◌, ℕ, List, Option, Some, None, IsSome, nat_eq}, Map.{lookup, remove_entry}, Io.KnownBytes.{Keeps}}
 
 -- each tag with its flow
 abbrev pub Tags : Type 0

@@ -1,38 +1,18 @@
 -- What a turn of forwarding does, and what it ends with.
-use Rattle.std.specs.Prelude.{◌≡◌, ◌≢◌, ◌<◌, ◌⊎◌, ◌↔◌, ℕ, true, false, List, [], ◌∷◌, ◌++◌, length, Option, Some, None, nat_eq}
-use Rattle.std.specs.Ordering.{nat_cmp}
-use Rattle.std.specs.Map.{keys_of, lookup}
-use Rattle.std.specs.List.Sorted.{IsStrictlySortedBy}
-use Rattle.zr_kinds.specs.declared.place.Place.{Place}
-use Rattle.zr_kinds.specs.declared.behaviour.Behaviour.{Behaviour}
+use Rattle.std.specs.{Prelude.{◌≡◌, ◌≢◌, ◌<◌, ◌⊎◌, ◌↔◌, ℕ, true, false, List, [], ◌∷◌, ◌++◌, length, Option, Some, None, nat_eq}, Ordering.{nat_cmp}}
+use Rattle.std.specs.{Map.{keys_of, lookup}, List.Sorted.{IsStrictlySortedBy}}
+use Rattle.zr_kinds.specs.declared.{place.Place.{Place}, behaviour.Behaviour.{Behaviour}}
 use Rattle.zr_kinds.specs.declared.behaviour.Stopped.TheVariants as stop
 use Rattle.zr_io.specs.Moved.{Rose}
-use Rattle.futures.specs.declared.task.Poll.{Poll}
-use Rattle.futures.specs.declared.task.Poll.TheVariants.{Ready, Pending}
-use Rattle.board_face.specs.AppCalls.{AppOnlySaw}
-use Rattle.board_face.specs.AppEvents.{gave}
-use Rattle.board_face.specs.NotNow.{HasWritten, HasWrittenRingful}
-use Rattle.board_face.specs.declared.views.app.AppLook.{AppLook}
-use Rattle.board_face.specs.declared.views.app.AppLook.TheVariants.{RefillInUse, NotQuiet as not_quiet}
-use Rattle.board_face.specs.declared.views.app.AppView.{AppView}
-use Rattle.flow_queues.specs.Core.{Each, IsIn, OnlyReads}
-use Rattle.flow_queues.specs.Ends.{HasLeft}
-use Rattle.flow_queues.specs.Returned.{HasReturned}
-use Rattle.zc_poll.specs.declared.step.Lent.{Lent}
-use Rattle.zc_poll.specs.declared.to_shelf.Rests.{Rests}
-use Rattle.zc_poll.specs.declared.to_shelf.Rests.TheVariants.{Stream, RefillFull, NotQuiet, NoNotice}
-use Rattle.zc_poll.specs.declared.step.Step.TheVariants.{Waiting, Memory, Ended as stream_ended}
-use Rattle.zc_poll.specs.declared.to_shelf.Poured.{Poured}
-use Rattle.zc_poll.specs.declared.to_shelf.PollTurn.{PollTurn}
-use Rattle.zc_poll.specs.declared.to_shelf.PollTurn.TheVariants.{Did, Idle, Ended}
-use Rattle.zc_poll.specs.Fresh.{has_left}
-use Rattle.zc_poll.specs.Standing.{Desk}
-use Rattle.zc_poll.specs.Steps.{OnlySteps, Steps, IsItem}
+use Rattle.futures.specs.declared.task.Poll.{Poll, TheVariants.{Ready, Pending}}
+use Rattle.board_face.specs.{AppCalls.{AppOnlySaw}, AppEvents.{gave}, NotNow.{HasWritten, HasWrittenRingful}, declared.views.app.AppLook.{AppLook}}
+use Rattle.board_face.specs.declared.views.app.{AppLook.TheVariants.{RefillInUse, NotQuiet as not_quiet}, AppView.{AppView}}
+use Rattle.flow_queues.specs.{Core.{Each, IsIn, OnlyReads}, Ends.{HasLeft}, Returned.{HasReturned}}
+use Rattle.zc_poll.specs.declared.{step.Lent.{Lent}, to_shelf.Rests.{Rests, TheVariants.{Stream, RefillFull, NotQuiet, NoNotice}}}
+use Rattle.zc_poll.specs.declared.{step.Step.TheVariants.{Waiting, Memory, Ended as stream_ended}, to_shelf.{Poured.{Poured}, PollTurn.{PollTurn}}}
+use Rattle.zc_poll.specs.{declared.to_shelf.PollTurn.TheVariants.{Did, Idle, Ended}, Fresh.{has_left}, Standing.{Desk}, Steps.{OnlySteps, Steps, IsItem}}
 use Rattle.zc_poll.specs.PourTurns.{IsTold, pour_end}
-use Rattle.zc_forward.specs.declared.sent.Sent.{Sent}
-use Rattle.zc_forward.specs.Tags.{Tags, TakesTag}
-use Rattle.zc_forward.specs.Sending.{OutboxState, is_held, most_out, without_uncarried}
-use Rattle.zc_forward.specs.Forwarding.{ForwardStands}
+use Rattle.zc_forward.specs.{declared.sent.Sent.{Sent}, Tags.{Tags, TakesTag}, Sending.{OutboxState, is_held, most_out, without_uncarried}, Forwarding.{ForwardStands}}
 
 -- what a turn looks at: what is kept, the stream's desk, the tags that are out, how often the carrier had no notice, and the view
 pub record Stage : Type 0 where

@@ -2,8 +2,7 @@
 ghost use Rattle.std.specs.Prelude.{◌≡◌, IfNone, None};
 ghost use Rattle.futures.specs.Task.{Keeps};
 ghost use Rattle.zr_io.specs.Moved.{Rose};
-ghost use Rattle.zc_forward.specs.OutboxOf.{outbox_of};
-ghost use Rattle.zc_forward.specs.Asking.{Asked};
+ghost use Rattle.zc_forward.specs.{OutboxOf.{outbox_of}, Asking.{Asked}};
 
 use crate::carrier::Carrier;
 use crate::outbox::{Outbox, is_urgent};

@@ -1,9 +1,5 @@
-ghost use Rattle.std.specs.Prelude.{◌≡◌, ◌≢◌, ◌<◌, ◌≤◌, ℕ, List, [], ◌∷◌, ◌++◌, Option, length, nat_eq, is_ok, if◌then◌else◌};
-ghost use Rattle.std.specs.Prelude.{IfNone, IfSome, IsSome, None, Some};
-ghost use Rattle.std.specs.Map.{lookup};
-ghost use Rattle.std.specs.Io.KnownBytes.{Keeps as KeepsBytes};
-ghost use Rattle.futures.specs.Poll.{IfReady, OnPending};
-ghost use Rattle.futures.specs.Task.{Covers, Keeps};
+ghost use Rattle.std.specs.{Prelude.{◌≡◌, ◌≢◌, ◌<◌, ◌≤◌, ℕ, List, [], ◌∷◌, ◌++◌, Option, length, nat_eq, is_ok, if◌then◌else◌, IfNone, IfSome, IsSome, None, Some}, Map.{lookup}, Io.KnownBytes.{Keeps as KeepsBytes}};
+ghost use Rattle.futures.specs.{Poll.{IfReady, OnPending}, Task.{Covers, Keeps}};
 ghost use Rattle.zr_io.specs.Moved.{AddsPiece, HasCause, Rose};
 ghost use Rattle.zc_forward.specs.Tags.{FlowsKeep, Tags, TakesTag};
 

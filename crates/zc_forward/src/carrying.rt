@@ -1,20 +1,11 @@
 //! A loan is handed to a carrier, and loans are given up.
-ghost use Rattle.std.specs.Prelude.{◌≡◌, ◌≢◌, ◌<◌, ◌≤◌, ℕ, List, [], ◌∷◌, ◌++◌, length, nat_eq, None, Some, true};
-ghost use Rattle.std.specs.Map.{lookup};
-ghost use Rattle.std.specs.Io.KnownBytes.{Keeps};
-ghost use Rattle.zr_kinds.specs.declared.place.Place.{Place};
-ghost use Rattle.zr_kinds.specs.declared.behaviour.Stopped.TheVariants.{Write};
+ghost use Rattle.std.specs.{Prelude.{◌≡◌, ◌≢◌, ◌<◌, ◌≤◌, ℕ, List, [], ◌∷◌, ◌++◌, length, nat_eq, None, Some, true}, Map.{lookup}, Io.KnownBytes.{Keeps}};
+ghost use Rattle.zr_kinds.specs.declared.{place.Place.{Place}, behaviour.Stopped.TheVariants.{Write}};
 ghost use Rattle.zr_io.specs.Moved.{Gained, Rose};
-ghost use Rattle.board_face.specs.AppCalls.{HasLoan};
-ghost use Rattle.board_face.specs.declared.views.app.LentPiece.{LentPiece};
-ghost use Rattle.board_face.specs.declared.views.app.AppView.{AppView};
-ghost use Rattle.flow_queues.specs.declared.queues.Lending.{Lending};
-ghost use Rattle.flow_queues.specs.Core.{total, IsIn, lent_piece, OnlyReads, IsReadOf};
-ghost use Rattle.zc_poll.specs.Standing.{StreamStands};
-ghost use Rattle.zc_poll.specs.Items.{Given, HasGiven};
-ghost use Rattle.zc_forward.specs.Sending.{of_sent};
-ghost use Rattle.zc_forward.specs.Tags.{FlowsKeep};
-ghost use Rattle.zc_forward.specs.GivenUp.{GaveUp};
+ghost use Rattle.board_face.specs.{AppCalls.{HasLoan}, declared.views.app.{LentPiece.{LentPiece}, AppView.{AppView}}};
+ghost use Rattle.flow_queues.specs.{declared.queues.Lending.{Lending}, Core.{total, IsIn, lent_piece, OnlyReads, IsReadOf}};
+ghost use Rattle.zc_poll.specs.{Standing.{StreamStands}, Items.{Given, HasGiven}};
+ghost use Rattle.zc_forward.specs.{Sending.{of_sent}, Tags.{FlowsKeep}, GivenUp.{GaveUp}};
 
 use crate::carrier::Carrier;
 use crate::outbox::Outbox;

@@ -1,13 +1,9 @@
 //! The loans of a stream go to a carrier, one turn after another.
 ghost use Rattle.std.specs.Prelude.{◌≡◌, ℕ, List, [], Option, true};
-ghost use Rattle.futures.specs.Poll.{OnPending};
-ghost use Rattle.futures.specs.Task.{Covers, Keeps};
+ghost use Rattle.futures.specs.{Poll.{OnPending}, Task.{Covers, Keeps}};
 ghost use Rattle.board_face.specs.AppEvents.{app_gist};
-ghost use Rattle.zc_poll.specs.PourTurns.{IsTold};
-ghost use Rattle.zc_poll.specs.Fresh.{HasDoneNothing, new_desk};
-ghost use Rattle.zc_poll.specs.Standing.{StreamStands};
-ghost use Rattle.zc_forward.specs.Forwarding.{ForwardStands};
-ghost use Rattle.zc_forward.specs.Turns.{ForwardGives, PollDoes, PollForwards, TurnDoes, stage_of};
+ghost use Rattle.zc_poll.specs.{PourTurns.{IsTold}, Fresh.{HasDoneNothing, new_desk}, Standing.{StreamStands}};
+ghost use Rattle.zc_forward.specs.{Forwarding.{ForwardStands}, Turns.{ForwardGives, PollDoes, PollForwards, TurnDoes, stage_of}};
 
 use crate::asking::{ask, poll_ask};
 use crate::carrier::Carrier;
@@ -30,8 +26,7 @@ pub struct Forward<F, C> {
 }
 
 impl<F, C> Model for Forward<F, C> {
-    ghost use Rattle.zc_forward.specs.Turns.{ForwardView};
-    ghost use Rattle.zc_forward.specs.OutboxOf.{outbox_of};
+    ghost use Rattle.zc_forward.specs.{Turns.{ForwardView}, OutboxOf.{outbox_of}};
 
     ghost Value = { ForwardView F C };
 

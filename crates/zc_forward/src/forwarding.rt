@@ -1,20 +1,11 @@
 //! The parts of a turn of forwarding.
 ghost use Rattle.std.specs.Prelude.{◌≡◌, ◌≢◌, ◌+◌, ◌<◌, ◌≤◌, ℕ, List, [], length, Option, Some, None, true, false, vec_capacity, IfSome};
 ghost use Rattle.zr_io.specs.Moved.{Rose};
-ghost use Rattle.board_face.specs.AppCalls.{HasLoan};
-ghost use Rattle.board_face.specs.AppEvents.{app_gist};
+ghost use Rattle.board_face.specs.{AppCalls.{HasLoan}, AppEvents.{app_gist}, declared.views.app.{LentPiece.{LentPiece}, AppView.{AppView}}};
 ghost use Rattle.zr_kinds.specs.declared.place.Place.{Place};
-ghost use Rattle.board_face.specs.declared.views.app.LentPiece.{LentPiece};
-ghost use Rattle.board_face.specs.declared.views.app.AppView.{AppView};
 ghost use Rattle.flow_queues.specs.Core.{total};
-ghost use Rattle.zc_poll.specs.Standing.{Desk, StreamStands};
-ghost use Rattle.zc_poll.specs.Steps.{IsItem, OnlySteps};
-ghost use Rattle.zc_poll.specs.PourTurns.{IsTold};
-ghost use Rattle.zc_forward.specs.Tags.{Tags, TakesTag};
-ghost use Rattle.zc_forward.specs.OutboxOf.{outbox_of};
-ghost use Rattle.zc_forward.specs.Sending.{most_out, of_sent, tags_of, without_uncarried};
-ghost use Rattle.zc_forward.specs.Forwarding.{ForwardStands};
-ghost use Rattle.zc_forward.specs.Turns.{ForwardGives, GivesBack, CarriedItem, Told, TurnDoes, stage_of, with_due};
+ghost use Rattle.zc_poll.specs.{Standing.{Desk, StreamStands}, Steps.{IsItem, OnlySteps}, PourTurns.{IsTold}};
+ghost use Rattle.zc_forward.specs.{Tags.{Tags, TakesTag}, OutboxOf.{outbox_of}, Sending.{most_out, of_sent, tags_of, without_uncarried}, Forwarding.{ForwardStands}, Turns.{ForwardGives, GivesBack, CarriedItem, Told, TurnDoes, stage_of, with_due}};
 
 use crate::carrier::Carrier;
 use crate::carrying::{fail, send};

@@ -1,11 +1,8 @@
 //! What holds of forwarding between any two of its turns. Nothing runs.
 ghost use Rattle.std.specs.Prelude.{◌≡◌, ℕ, List, Option};
 ghost use Rattle.board_face.specs.AppCalls.{HasLoan};
-ghost use Rattle.flow_queues.specs.Core.{Each};
-ghost use Rattle.flow_queues.specs.Marks.{FramesStandTogether};
-ghost use Rattle.flow_queues.specs.Streams.{HasFronts};
-ghost use Rattle.zc_forward.specs.Sending.{tags_of};
-ghost use Rattle.zc_forward.specs.Forwarding.{ForwardStands};
+ghost use Rattle.flow_queues.specs.{Core.{Each}, Marks.{FramesStandTogether}, Streams.{HasFronts}};
+ghost use Rattle.zc_forward.specs.{Sending.{tags_of}, Forwarding.{ForwardStands}};
 
 use crate::carrier::Carrier;
 use crate::forward::Forward;

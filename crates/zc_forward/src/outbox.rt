@@ -1,10 +1,7 @@
 //! What forwarding keeps beside its stream and its carrier.
-ghost use Rattle.std.specs.Prelude.{◌≡◌, ◌≤◌, ◌+◌, ◌==◌, [], length, vec_capacity, OnOk, IsSome};
-ghost use Rattle.std.specs.Ordering.{nat_cmp};
-ghost use Rattle.std.specs.BTreeMap.{get};
+ghost use Rattle.std.specs.{Prelude.{◌≡◌, ◌≤◌, ◌+◌, ◌==◌, [], length, vec_capacity, OnOk, IsSome}, Ordering.{nat_cmp}, BTreeMap.{get}};
 ghost use Rattle.zc_poll.specs.Counting.{AddsTo};
-ghost use Rattle.zc_forward.specs.OutboxOf.{outbox_of};
-ghost use Rattle.zc_forward.specs.Sending.{is_urgent as urgent, most_out};
+ghost use Rattle.zc_forward.specs.{OutboxOf.{outbox_of}, Sending.{is_urgent as urgent, most_out}};
 
 use crate::sent::{MOST, Sent};
 use board_face::Loan;

@@ -1,10 +1,8 @@
 //! Loans whose tags are out.
-ghost use Rattle.std.specs.Prelude.{◌≡◌, ◌<◌, ◌+◌, ℕ, length, nat_eq, remove, slice_index_or, IsSome, None, MatchOption};
-ghost use Rattle.std.specs.Map.{lookup, remove_entry};
+ghost use Rattle.std.specs.{Prelude.{◌≡◌, ◌<◌, ◌+◌, ℕ, length, nat_eq, remove, slice_index_or, IsSome, None, MatchOption}, Map.{lookup, remove_entry}};
 ghost use Rattle.zr_kinds.specs.declared.place.Place.{Place};
 ghost use Rattle.flow_queues.specs.Core.{IsIn};
-ghost use Rattle.zc_forward.specs.declared.sent.Sent.{Sent as Entry};
-ghost use Rattle.zc_forward.specs.Sending.{of_sent, tags_of, most_out};
+ghost use Rattle.zc_forward.specs.{declared.sent.Sent.{Sent as Entry}, Sending.{of_sent, tags_of, most_out}};
 
 use board_face::Loan;
 

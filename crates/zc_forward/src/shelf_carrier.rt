@@ -1,12 +1,7 @@
-ghost use Rattle.std.specs.Prelude.{◌≡◌, ◌≢◌, ◌<◌, ◌≤◌, ℕ, [], ◌∷◌, ◌++◌, length, nat_eq, is_none, Ok};
-ghost use Rattle.std.specs.Prelude.{IfNone, IfSome, IsSome, None, Some};
-ghost use Rattle.std.specs.Map.{lookup};
-ghost use Rattle.std.specs.Io.KnownBytes.{Keeps as KeepsBytes};
-ghost use Rattle.futures.specs.Poll.{IfReady, OnPending};
-ghost use Rattle.futures.specs.Task.{Covers, Keeps};
+ghost use Rattle.std.specs.{Prelude.{◌≡◌, ◌≢◌, ◌<◌, ◌≤◌, ℕ, [], ◌∷◌, ◌++◌, length, nat_eq, is_none, Ok, IfNone, IfSome, IsSome, None, Some}, Map.{lookup}, Io.KnownBytes.{Keeps as KeepsBytes}};
+ghost use Rattle.futures.specs.{Poll.{IfReady, OnPending}, Task.{Covers, Keeps}};
 ghost use Rattle.zr_io.specs.Moved.{AddsPiece, HasCause, Rose};
-ghost use Rattle.zc_forward.specs.Tags.{TakesTag};
-ghost use Rattle.zc_forward.specs.Carriage.{TellsOldest, is_pending, is_waiting};
+ghost use Rattle.zc_forward.specs.{Tags.{TakesTag}, Carriage.{TellsOldest, is_pending, is_waiting}};
 
 use crate::carrier::Carrier;
 use arrayvec::ArrayVec;

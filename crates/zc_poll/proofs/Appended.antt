@@ -1,28 +1,13 @@
 -- Bytes of an item were appended and counted.
 use Rattle.std.proofs.Common.{◌≡◌, ◌≢◌, ℕ, ◌+◌, ◌-◌, ◌^◌, ◌<◌, ◌≤◌, ◌==◌, min, true, false, if◌then◌else◌, List, [], ◌∷◌, ◌++◌, length, take, drop, Option, refl, sym, ap, subst, ◌∙◌, arith, ⊎_elim, length-append, append-nil}
-use Rattle.std.specs.Io.KnownBytes.{Keeps}
-use Rattle.std.proofs.lemmas.Bool.{cases_eq, eq-eqb, ne_eqb}
-use Rattle.std.proofs.Math.Seq.{take-append_seam, drop-append-add, take-append-add}
-use Rattle.zr_io.specs.Moved.{Gained}
-use Rattle.zr_io.proofs.Moved.{Gained-then, Gained-nothing}
+use Rattle.std.{specs.Io.KnownBytes.{Keeps}, proofs.{lemmas.Bool.{cases_eq, eq-eqb, ne_eqb}, Math.Seq.{take-append_seam, drop-append-add, take-append-add}}}
+use Rattle.zr_io.{specs.Moved.{Gained}, proofs.Moved.{Gained-then, Gained-nothing}}
 use Rattle.board_face.specs.declared.views.app.AppView.{AppView}
-use Rattle.flow_queues.specs.declared.queues.Lending.{Lending}
-use Rattle.flow_queues.specs.Marks.{Mark, marks_from}
-use Rattle.flow_queues.specs.Core.{IsIn, lent_piece, marks_of_loan, AreReadAt, IsReadOf, total}
-use Rattle.flow_queues.specs.Totals.{capped, lent_len}
-use Rattle.flow_queues.specs.Shelves.{AreOfOneLoan, kept_loans}
-use Rattle.flow_queues.specs.Ends.{bytes_in, times}
-use Rattle.flow_queues.proofs.Entering.{marks-length, marks-take, marks-drop}
-use Rattle.flow_queues.proofs.ReadLemmas.{read-append}
-use Rattle.flow_queues.proofs.Tokens.{in-left}
-use Rattle.zc_poll.specs.Counting.{TallyState, AddsTo}
-use Rattle.zc_poll.specs.Standing.{Desk}
-use Rattle.zc_poll.specs.Items.{Given, HasGiven, marks_given}
-use Rattle.zc_poll.specs.Pouring.{IsPoured, HasPoured, given_len}
-use Rattle.zc_poll.proofs.Marking.{given-push}
-use Rattle.zc_poll.proofs.PouredOn.{SeesOn, read-on, poured-exact}
-use Rattle.zc_poll.proofs.EntriesFirst.{first-more, first-same}
-use Rattle.zc_poll.proofs.ItemPoured.{push-length, same-kept}
+use Rattle.flow_queues.specs.{declared.queues.Lending.{Lending}, Marks.{Mark, marks_from}, Core.{IsIn, lent_piece, marks_of_loan, AreReadAt, IsReadOf, total}}
+use Rattle.flow_queues.specs.{Totals.{capped, lent_len}, Shelves.{AreOfOneLoan, kept_loans}, Ends.{bytes_in, times}}
+use Rattle.flow_queues.proofs.{Entering.{marks-length, marks-take, marks-drop}, ReadLemmas.{read-append}, Tokens.{in-left}}
+use Rattle.zc_poll.specs.{Counting.{TallyState, AddsTo}, Standing.{Desk}, Items.{Given, HasGiven, marks_given}, Pouring.{IsPoured, HasPoured, given_len}}
+use Rattle.zc_poll.proofs.{Marking.{given-push}, PouredOn.{SeesOn, read-on, poured-exact}, EntriesFirst.{first-more, first-same}, ItemPoured.{push-length, same-kept}}
 
 -- the marks of a flow up to so many of the item behind them
 up-to : (xs : List Mark) (l : Lending) (k : ℕ) → k ≤ l.loan.len → take (length xs + k) (xs ++ marks_of_loan l) ≡ xs ++ marks_from l.note l.at k

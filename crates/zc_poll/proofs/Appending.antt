@@ -1,14 +1,9 @@
 -- One more part of a loan is read and appended.
-use Rattle.std.proofs.Common.{◌≡◌, ℕ, ◌+◌, ◌<◌, ◌≤◌, List, length, take, Option, refl, sym, ap, subst, arith}
-use Rattle.std.specs.Io.KnownBytes.{Appends}
+use Rattle.std.{proofs.Common.{◌≡◌, ℕ, ◌+◌, ◌<◌, ◌≤◌, List, length, take, Option, refl, sym, ap, subst, arith}, specs.Io.KnownBytes.{Appends}}
 use Rattle.zr_kinds.specs.declared.place.Place.{Place}
 use Rattle.zr_io.specs.Moved.{Gained}
-use Rattle.board_face.specs.AppCalls.{ShowsCopy}
-use Rattle.board_face.specs.AppEvents.{has_read, loan_origin}
-use Rattle.board_face.specs.declared.views.app.AppView.{AppView}
-use Rattle.board_face.specs.declared.views.app.TakenNote.{TakenNote}
-use Rattle.flow_queues.specs.declared.queues.Lending.{Lending}
-use Rattle.flow_queues.specs.Core.{IsIn, LieApart, lent_piece, OnlyReads, IsReadOf, most_at_once}
+use Rattle.board_face.specs.{AppCalls.{ShowsCopy}, AppEvents.{has_read, loan_origin}, declared.views.app.{AppView.{AppView}, TakenNote.{TakenNote}}}
+use Rattle.flow_queues.specs.{declared.queues.Lending.{Lending}, Core.{IsIn, LieApart, lent_piece, OnlyReads, IsReadOf, most_at_once}}
 use Rattle.flow_queues.proofs.ReadLemmas.{IsReadTo, one-more, some-more, only-read, only-then}
 
 pub read-more : (u v w : AppView) (loan : Place) (from : ℕ) (text : List ℕ) → OnlyReads u v → w ≡ has_read v loan from text → OnlyReads u w

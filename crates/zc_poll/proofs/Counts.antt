@@ -1,12 +1,7 @@
 -- A flow's count is made, and bytes are added to it.
 use Rattle.std.proofs.Common.{◌≡◌, ◌≢◌, ℕ, ◌+◌, ◌<◌, ◌≤◌, ◌==◌, true, false, if◌then◌else◌, List, [], ◌∷◌, refl, sym, ap, subst, ◌∙◌, arith, ⊎_elim}
-use Rattle.std.specs.Prelude.{Some, None, IsSome}
-use Rattle.std.specs.Ordering.{nat_cmp}
-use Rattle.std.specs.Cmp.{nat_cmp_is}
-use Rattle.std.specs.Map.{lookup, set_value}
-use Rattle.std.specs.BTreeMap.{insert_entry, is_at}
-use Rattle.std.specs.declared.cmp.Ordering.TheVariants.{Less, Equal, Greater}
-use Rattle.std.proofs.lemmas.Bool.{cases_eq, cases_lt, eq-eqb, ne_eqb}
+use Rattle.std.specs.{Prelude.{Some, None, IsSome}, Ordering.{nat_cmp}, Cmp.{nat_cmp_is}, Map.{lookup, set_value}, BTreeMap.{insert_entry, is_at}}
+use Rattle.std.{specs.declared.cmp.Ordering.TheVariants.{Less, Equal, Greater}, proofs.lemmas.Bool.{cases_eq, cases_lt, eq-eqb, ne_eqb}}
 use Rattle.flow_queues.specs.Ends.{bytes_in, times}
 use Rattle.zc_poll.specs.Counting.{AddsTo}
 

@@ -1,17 +1,10 @@
 -- Entries of the first loans that went, as more loans go.
 use Rattle.std.proofs.Common.{◌≡◌, ℕ, ◌+◌, ◌≤◌, Bool, true, false, if◌then◌else◌, List, [], ◌∷◌, ◌++◌, take, length, refl, sym, ap, subst, ◌∙◌, arith}
-use Rattle.std.proofs.Common.{append_assoc, append-nil, length-append, take_all}
-use Rattle.std.proofs.lemmas.List.{take-append-le}
+use Rattle.std.proofs.{Common.{append_assoc, append-nil, length-append, take_all}, lemmas.List.{take-append-le}}
 use Rattle.zr_kinds.specs.declared.ring.Rqe.{Rqe}
-use Rattle.board_face.specs.AppEvents.{entry_of}
-use Rattle.board_face.specs.declared.views.app.LentPiece.{LentPiece}
-use Rattle.board_face.specs.declared.views.app.WrittenEntry.{WrittenEntry}
-use Rattle.board_face.specs.declared.views.app.AppView.{AppView}
-use Rattle.flow_queues.specs.Core.{total}
-use Rattle.flow_queues.specs.Entries.{Gives, AreBlocks, none, loan}
-use Rattle.flow_queues.specs.Totals.{lent_len, loan_entries, raw_entries}
-use Rattle.flow_queues.proofs.GivenBack.{gives-same, gives-gave, fresh_front}
-use Rattle.flow_queues.proofs.Tokens.{total-append}
+use Rattle.board_face.specs.{AppEvents.{entry_of}, declared.views.app.{LentPiece.{LentPiece}, WrittenEntry.{WrittenEntry}, AppView.{AppView}}}
+use Rattle.flow_queues.specs.{Core.{total}, Entries.{Gives, AreBlocks, none, loan}, Totals.{lent_len, loan_entries, raw_entries}}
+use Rattle.flow_queues.proofs.{GivenBack.{gives-same, gives-gave, fresh_front}, Tokens.{total-append}}
 use Rattle.zc_poll.specs.Pouring.{GaveFirst}
 
 -- more bytes are counted

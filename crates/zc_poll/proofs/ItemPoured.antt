@@ -1,28 +1,13 @@
 -- What was poured, step for step.
 use Rattle.std.proofs.Common.{◌≡◌, ◌≢◌, ℕ, ◌+◌, ◌<◌, ◌≤◌, ◌==◌, Bool, true, false, if◌then◌else◌, List, [], ◌∷◌, ◌++◌, length, take, drop, Option, refl, sym, ap, subst, ◌∙◌, arith, ⊎_elim, length-append, append-nil}
-use Rattle.std.proofs.lemmas.Bool.{cases_eq, eq-eqb, ne_eqb}
-use Rattle.std.proofs.lemmas.List.{take-append-le}
+use Rattle.std.proofs.lemmas.{Bool.{cases_eq, eq-eqb, ne_eqb}, List.{take-append-le}}
 use Rattle.zr_io.proofs.Moved.{Gained-weaker}
-use Rattle.board_face.specs.declared.views.app.LentPiece.{LentPiece}
-use Rattle.board_face.specs.declared.views.app.WrittenEntry.{WrittenEntry}
-use Rattle.board_face.specs.declared.views.app.AppView.{AppView}
-use Rattle.flow_queues.specs.Marks.{Mark}
-use Rattle.flow_queues.specs.Core.{total, lent_piece, marks_of_loan, AreReadAt}
-use Rattle.flow_queues.specs.Totals.{capped, lent_len, loan_entries}
-use Rattle.flow_queues.specs.Shelves.{kept_loans}
-use Rattle.flow_queues.specs.Ends.{bytes_in, times}
-use Rattle.flow_queues.proofs.Entering.{marks-length}
-use Rattle.flow_queues.proofs.Tokens.{total-append, loan-some}
-use Rattle.zc_poll.specs.Counting.{TallyState, AddsTo, item_counted}
-use Rattle.zc_poll.specs.declared.step.Lent.{Lent}
-use Rattle.zc_poll.specs.Standing.{Desk, StreamStands}
-use Rattle.zc_poll.specs.Items.{Given, HasGiven, marks_given}
-use Rattle.zc_poll.specs.Steps.{OnlySteps, IsItem, given_as}
-use Rattle.zc_poll.specs.Pouring.{GaveFirst, IsPoured, HasPoured, given_len}
-use Rattle.zc_poll.proofs.Marking.{given-push}
-use Rattle.zc_poll.proofs.PouredOn.{SeesOn, read-on, poured-within, poured-on, poured-exact}
-use Rattle.zc_poll.proofs.EntriesFirst.{first-more, first-same}
-use Rattle.zc_poll.proofs.Views.{total-one}
+use Rattle.board_face.specs.declared.views.app.{LentPiece.{LentPiece}, WrittenEntry.{WrittenEntry}, AppView.{AppView}}
+use Rattle.flow_queues.specs.{Marks.{Mark}, Core.{total, lent_piece, marks_of_loan, AreReadAt}, Totals.{capped, lent_len, loan_entries}, Shelves.{kept_loans}}
+use Rattle.flow_queues.{specs.Ends.{bytes_in, times}, proofs.{Entering.{marks-length}, Tokens.{total-append, loan-some}}}
+use Rattle.zc_poll.specs.{Counting.{TallyState, AddsTo, item_counted}, declared.step.Lent.{Lent}, Standing.{Desk, StreamStands}, Items.{Given, HasGiven, marks_given}}
+use Rattle.zc_poll.{specs.{Steps.{OnlySteps, IsItem, given_as}, Pouring.{GaveFirst, IsPoured, HasPoured, given_len}}, proofs.Marking.{given-push}}
+use Rattle.zc_poll.proofs.{PouredOn.{SeesOn, read-on, poured-within, poured-on, poured-exact}, EntriesFirst.{first-more, first-same}, Views.{total-one}}
 
 -- what it keeps is the same but for what is due and what stopped it
 pub record SameCounts (u w : TallyState) : Type 0 where

@@ -1,25 +1,15 @@
 -- What stands between two steps stands behind the calls that take none.
 use Rattle.std.proofs.Common.{◌≡◌, ℕ, zero, suc, ◌+◌, ◌<◌, ◌≤◌, List, [], ◌∷◌, ◌++◌, length, map, get_or, length-append, refl, sym, ap, subst, ◌∙◌, arith, inl, inr, ⊎_elim}
 use Rattle.std.proofs.lemmas.Bool.{cases_lt}
-use Rattle.zr_kinds.specs.declared.place.Place.{Place}
-use Rattle.board_face.specs.AppCalls.{HasLoan, ShowsCopy}
-use Rattle.board_face.specs.AppEvents.{app_saw, abandoned, gave, has_read, loan_origin}
-use Rattle.board_face.specs.declared.views.app.AppLook.{AppLook}
-use Rattle.board_face.specs.declared.views.app.Reading.{Reading}
-use Rattle.board_face.specs.declared.views.app.LentPiece.{LentPiece}
-use Rattle.board_face.specs.declared.views.app.TakenNote.{TakenNote}
-use Rattle.board_face.specs.declared.views.app.AppView.{AppView}
+use Rattle.zr_kinds.specs.{declared.place.Place.{Place}, CopyingReceiver.{next_missing}}
+use Rattle.board_face.specs.{AppCalls.{HasLoan, ShowsCopy}, AppEvents.{app_saw, abandoned, gave, has_read, loan_origin}, declared.views.app.AppLook.{AppLook}}
+use Rattle.board_face.specs.declared.views.app.{Reading.{Reading}, LentPiece.{LentPiece}, TakenNote.{TakenNote}, AppView.{AppView}}
 use Rattle.flow_queues.specs.declared.queues.Lending.{Lending}
-use Rattle.zr_kinds.specs.CopyingReceiver.{next_missing}
 use Rattle.flow_queues.specs.Core.{total, Each, IsIn, LieApart, lent_piece, over_read, own_notes, placed_of, held_len, unsplit_len, AreReadAt, FlowStands, Stands}
-use Rattle.flow_queues.specs.Marks.{marks_from}
-use Rattle.flow_queues.proofs.Reading.{read-there}
+use Rattle.flow_queues.{specs.Marks.{marks_from}, proofs.Reading.{read-there}}
 use Rattle.flow_queues.proofs.Tokens.{total-append, in-total, is_that_loan, that-loan, is-lent-there, is-given, TokenGiven}
-use Rattle.flow_queues.proofs.Standing.{each-left, each-right, each-join}
-use Rattle.flow_queues.specs.Totals.{taken_len}
-use Rattle.flow_queues.specs.Shelves.{FlowEnds}
-use Rattle.zc_poll.specs.Standing.{Desk, Common, Going, IsWhole, StreamStands}
-use Rattle.zc_poll.proofs.Views.{total-one}
+use Rattle.flow_queues.{proofs.Standing.{each-left, each-right, each-join}, specs.{Totals.{taken_len}, Shelves.{FlowEnds}}}
+use Rattle.zc_poll.{specs.Standing.{Desk, Common, Going, IsWhole, StreamStands}, proofs.Views.{total-one}}
 
 -- these are the loans that are out
 pub record AreLoansOut (taken : List TakenNote) (loans : List LentPiece) (out : List Lending) : Type 0 where

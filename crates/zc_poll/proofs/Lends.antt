@@ -1,48 +1,22 @@
 -- The piece that is next in the stream of a flow is an item.
 use Rattle.std.proofs.Common.{◌≡◌, ◌≢◌, ℕ, ◌+◌, ◌-◌, ◌^◌, ◌<◌, ◌≤◌, Bool, true, false, List, [], ◌∷◌, ◌++◌, IsSome, Some, Option, length, set, get_or, take, drop, refl, sym, ap, subst, ◌∙◌, arith, ⊎_elim, append_assoc, append-nil}
-use Rattle.std.specs.Prelude.{◌==◌, not, if◌then◌else◌, slice_get}
-use Rattle.std.proofs.lemmas.Bool.{eq-eqb}
-use Rattle.board_face.proofs.ListLemmas.{not-eqb}
+use Rattle.std.{specs.Prelude.{◌==◌, not, if◌then◌else◌, slice_get}, proofs.lemmas.Bool.{eq-eqb}}
+use Rattle.board_face.{proofs.ListLemmas.{not-eqb}, specs.{AppEvents.{app_saw, came_to_rest}, declared.views.app.AppLook.TheVariants.{NoSpare as no_spare}}}
+use Rattle.board_face.specs.declared.views.app.{Origin.TheVariants.{Note as of_note, Copied as of_copy}, HeldPiece.{HeldPiece}, LentPiece.{LentPiece}}
+use Rattle.board_face.specs.declared.views.app.{TakenNote.{TakenNote}, AppView.{AppView}}
 use Rattle.zr_kinds.specs.CopyingReceiver.{Placed, nothing_placed, values_from}
-use Rattle.tcp_reorder.specs.Queue.{IsSound, next_of}
-use Rattle.tcp_reorder.specs.Values.{AreSized, Holds}
-use Rattle.tcp_reorder.proofs.Holding.{IsPopped, Holds-popped}
-use Rattle.board_face.specs.AppEvents.{app_saw, came_to_rest}
-use Rattle.board_face.specs.declared.views.app.AppLook.TheVariants.{NoSpare as no_spare}
-use Rattle.board_face.specs.declared.views.app.Origin.TheVariants.{Note as of_note, Copied as of_copy}
-use Rattle.board_face.specs.declared.views.app.HeldPiece.{HeldPiece}
-use Rattle.board_face.specs.declared.views.app.LentPiece.{LentPiece}
-use Rattle.board_face.specs.declared.views.app.TakenNote.{TakenNote}
-use Rattle.board_face.specs.declared.views.app.AppView.{AppView}
-use Rattle.flow_queues.specs.declared.queues.Lending.{Lending}
-use Rattle.flow_queues.specs.declared.queues.FlowQueue.{FlowQueue}
-use Rattle.flow_queues.specs.Marks.{Mark, FramesStandTogether, marks_of}
+use Rattle.tcp_reorder.{specs.{Queue.{IsSound, next_of}, Values.{AreSized, Holds}}, proofs.Holding.{IsPopped, Holds-popped}}
+use Rattle.flow_queues.specs.{declared.queues.{Lending.{Lending}, FlowQueue.{FlowQueue}}, Marks.{Mark, FramesStandTogether, marks_of}}
 use Rattle.flow_queues.specs.Core.{total, Each, many, IsIn, lent_piece, is_copy, one_copy, origin_in, over_waiting, held_len, short_len, over_kept, over_read, short_bytes, unsplit_len, own_notes, BeginAt, received_notes}
-use Rattle.flow_queues.specs.Core.{placed_of, marks_of_waiting, marks_of_loan, IsOfNote, FlowStands, Stands}
-use Rattle.flow_queues.specs.Lent.{LentNext, SawNoSpare, spares_of}
-use Rattle.flow_queues.specs.declared.queues.Waiting.{Waiting}
-use Rattle.flow_queues.specs.declared.queues.Waiting.TheVariants.{InArea, Copied}
-use Rattle.flow_queues.proofs.Tokens.{total-append, in-contains, that-loan, is_that_loan, is-lent-there, loan-some}
-use Rattle.flow_queues.proofs.Lends.{over-first, short-first, each-first}
-use Rattle.flow_queues.proofs.Entering.{marks-length}
-use Rattle.flow_queues.proofs.Placing.{values-length, values-split}
-use Rattle.flow_queues.proofs.NotesStay.{note-there}
+use Rattle.flow_queues.specs.{Core.{placed_of, marks_of_waiting, marks_of_loan, IsOfNote, FlowStands, Stands}, Lent.{LentNext, SawNoSpare, spares_of}}
+use Rattle.flow_queues.specs.declared.queues.Waiting.{Waiting, TheVariants.{InArea, Copied}}
+use Rattle.flow_queues.proofs.{Tokens.{total-append, in-contains, that-loan, is_that_loan, is-lent-there, loan-some}, Lends.{over-first, short-first, each-first}}
+use Rattle.flow_queues.proofs.{Entering.{marks-length}, Placing.{values-length, values-split}, NotesStay.{note-there}}
 use Rattle.flow_queues.proofs.Standing.{At, split-at, flow-out, each-right, each-changed, is_number, number-is, total-changed, many-same}
-use Rattle.flow_queues.proofs.Resting.{rest-none, rest-set, rest-too}
-use Rattle.flow_queues.proofs.Indexing.{index-set}
-use Rattle.flow_queues.proofs.Fronts.{front-of-flow}
-use Rattle.zc_poll.specs.declared.step.Lent.{Lent}
-use Rattle.zc_poll.specs.declared.step.Step.TheVariants.{Item, Waiting as waiting}
-use Rattle.zc_poll.specs.declared.step.Waits.TheVariants.{ReserveHeld}
-use Rattle.flow_queues.specs.Totals.{taken_len}
-use Rattle.zc_poll.specs.Standing.{Desk, Common, Going, StreamStands, NoneInOrder}
-use Rattle.zc_poll.specs.Items.{Given, HasGiven, marks_given, IsAt}
-use Rattle.zc_poll.specs.Steps.{Stepped, counted_on}
-use Rattle.zc_poll.proofs.Marking.{IsGivenOf, given-push}
-use Rattle.zc_poll.proofs.Noted.{found-of}
-use Rattle.zc_poll.proofs.Released.{all-popped}
-use Rattle.zc_poll.proofs.Views.{is-with, only-saw, total-one}
-use Rattle.zc_poll.proofs.Keeping.{saw-stands}
+use Rattle.flow_queues.{proofs.{Resting.{rest-none, rest-set, rest-too}, Indexing.{index-set}, Fronts.{front-of-flow}}, specs.Totals.{taken_len}}
+use Rattle.zc_poll.specs.declared.step.{Lent.{Lent}, Step.TheVariants.{Item, Waiting as waiting}, Waits.TheVariants.{ReserveHeld}}
+use Rattle.zc_poll.specs.{Standing.{Desk, Common, Going, StreamStands, NoneInOrder}, Items.{Given, HasGiven, marks_given, IsAt}, Steps.{Stepped, counted_on}}
+use Rattle.zc_poll.proofs.{Marking.{IsGivenOf, given-push}, Noted.{found-of}, Released.{all-popped}, Views.{is-with, only-saw, total-one}, Keeping.{saw-stands}}
 use Rattle.zc_poll.proofs.Passing.{unlent-none}
 
 copied-is : (split b : Bool) (note at : ℕ) (bytes : List ℕ) → one_copy (if split then of_note note at else of_copy bytes) ≡ (if b then 1 else 0)

@@ -2,14 +2,8 @@
 use Rattle.std.proofs.Common.{◌≡◌, ℕ, ◌+◌, true, if◌then◌else◌, List, [], ◌∷◌, ◌++◌, length, drop, refl, sym, ap, subst, ◌∙◌, arith, inl, inr, length-append}
 use Rattle.std.proofs.Math.Seq.{drop-append_seam}
 use Rattle.zr_kinds.specs.declared.place.Place.{Place}
-use Rattle.board_face.specs.AppEvents.{abandoned, gave, entry_of}
-use Rattle.board_face.specs.declared.views.app.LentPiece.{LentPiece}
-use Rattle.board_face.specs.declared.views.app.WrittenEntry.{WrittenEntry}
-use Rattle.board_face.specs.declared.views.app.AppView.{AppView}
-use Rattle.flow_queues.specs.Core.{total, IsIn, LieApart}
-use Rattle.flow_queues.specs.Totals.{lent_len, loan_entries}
-use Rattle.flow_queues.specs.Shelves.{kept_loans}
-use Rattle.flow_queues.proofs.Tokens.{total-append, is-given}
+use Rattle.board_face.specs.{AppEvents.{abandoned, gave, entry_of}, declared.views.app.{LentPiece.{LentPiece}, WrittenEntry.{WrittenEntry}, AppView.{AppView}}}
+use Rattle.flow_queues.{specs.{Core.{total, IsIn, LieApart}, Totals.{lent_len, loan_entries}, Shelves.{kept_loans}}, proofs.Tokens.{total-append, is-given}}
 use Rattle.zc_poll.proofs.Views.{total-one}
 
 -- there is one, and it is this

@@ -1,20 +1,13 @@
 -- What was given of each flow, as notes are taken, an item is given, and pieces are given up.
 use Rattle.std.proofs.Common.{◌≡◌, ◌≢◌, ℕ, ◌<◌, List, [], ◌∷◌, ◌++◌, IsSome, map, refl, sym, ap, subst, ◌∙◌, arith, ⊎_elim, append_assoc, append-nil}
-use Rattle.std.specs.Prelude.{◌==◌, if◌then◌else◌}
-use Rattle.std.proofs.lemmas.Bool.{cases_eq}
+use Rattle.std.{specs.Prelude.{◌==◌, if◌then◌else◌}, proofs.lemmas.Bool.{cases_eq}}
 use Rattle.zr_kinds.specs.CopyingReceiver.{Placed, nothing_placed, values_from}
 use Rattle.tcp_reorder.specs.Queue.{Queue}
 use Rattle.board_face.specs.declared.views.app.TakenNote.{TakenNote}
-use Rattle.flow_queues.specs.declared.queues.Waiting.{Waiting}
-use Rattle.flow_queues.specs.declared.queues.FlowQueue.{FlowQueue}
-use Rattle.flow_queues.specs.Marks.{Mark, Numbered}
-use Rattle.flow_queues.specs.Core.{Each, many, own_notes, BeginAt, placed_of, received_notes, marks_of_loan}
-use Rattle.flow_queues.specs.Flows.{FlowFacts, facts_of, fresh_flow}
-use Rattle.flow_queues.proofs.Placing.{own-notes-other, own-notes-here, next_note, begin-push, values-stay, some_of, still-there}
-use Rattle.flow_queues.proofs.Standing.{each-map}
-use Rattle.flow_queues.proofs.Releasing.{each-facts, total-facts}
-use Rattle.flow_queues.proofs.Fronts.{is-some, placed-here, placed-other}
-use Rattle.flow_queues.proofs.Choosing.{Chosen, each-noted, many-noted}
+use Rattle.flow_queues.specs.{declared.queues.{Waiting.{Waiting}, FlowQueue.{FlowQueue}}, Marks.{Mark, Numbered}}
+use Rattle.flow_queues.specs.{Core.{Each, many, own_notes, BeginAt, placed_of, received_notes, marks_of_loan}, Flows.{FlowFacts, facts_of, fresh_flow}}
+use Rattle.flow_queues.proofs.{Placing.{own-notes-other, own-notes-here, next_note, begin-push, values-stay, some_of, still-there}, Standing.{each-map}}
+use Rattle.flow_queues.proofs.{Releasing.{each-facts, total-facts}, Fronts.{is-some, placed-here, placed-other}, Choosing.{Chosen, each-noted, many-noted}}
 use Rattle.flow_queues.specs.Shelves.{FlowEnds}
 use Rattle.zc_poll.specs.Items.{Given, HasGiven, marks_given}
 

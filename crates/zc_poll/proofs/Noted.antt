@@ -1,32 +1,17 @@
 -- A note was taken.
 use Rattle.std.proofs.Common.{◌≡◌, ℕ, ◌+◌, ◌≤◌, true, false, List, [], ◌∷◌, ◌++◌, length, set, take, refl, sym, ap, subst, ◌∙◌, arith, inl, inr, ⊎_elim, length-append}
-use Rattle.zr_kinds.specs.declared.place.Note.{Note}
-use Rattle.zr_kinds.specs.declared.place.Place.{Place}
-use Rattle.board_face.specs.AppCalls.{HasHeld, TookNote, TookLinear}
-use Rattle.board_face.specs.AppEvents.{released}
-use Rattle.board_face.specs.declared.views.app.HeldPiece.{HeldPiece}
-use Rattle.board_face.specs.declared.views.app.TakenNote.{TakenNote}
+use Rattle.zr_kinds.specs.declared.place.{Note.{Note}, Place.{Place}}
+use Rattle.board_face.specs.{AppCalls.{HasHeld, TookNote, TookLinear}, AppEvents.{released}, declared.views.app.{HeldPiece.{HeldPiece}, TakenNote.{TakenNote}}}
 use Rattle.board_face.specs.declared.views.app.AppView.{AppView}
-use Rattle.flow_queues.specs.declared.queues.Lending.{Lending}
-use Rattle.flow_queues.specs.declared.queues.FlowQueue.{FlowQueue}
+use Rattle.flow_queues.specs.declared.queues.{Lending.{Lending}, FlowQueue.{FlowQueue}}
 use Rattle.flow_queues.specs.Core.{total, Each, many, IsIn, LieApart, held_piece, held_len, short_bytes, unsplit_len, Stands, HasTokens, FlowStands}
-use Rattle.flow_queues.specs.Flows.{IsAtRest, RestBut, IsIndex, fresh_flow, IsChosen}
-use Rattle.flow_queues.specs.Pieces.{whole_piece}
-use Rattle.flow_queues.specs.Taking.{Changes, TakesPiece, LosesPiece, TakesPayload, LosesPayload}
-use Rattle.flow_queues.proofs.Tokens.{total-append, in-contains, is-released}
-use Rattle.flow_queues.proofs.NoteComes.{piece-lost as lost-piece, payload-lost as lost-payload}
-use Rattle.flow_queues.proofs.Standing.{each-map}
-use Rattle.flow_queues.proofs.Took.{Took, is-took, taken_note, set-last}
-use Rattle.flow_queues.proofs.Indexing.{index-set}
-use Rattle.flow_queues.proofs.Resting.{rest-all, rest-set, rest-push}
-use Rattle.flow_queues.proofs.Choosing.{Chosen, is-chosen, total-noted, many-noted}
-use Rattle.flow_queues.specs.Totals.{taken_len}
-use Rattle.flow_queues.specs.Shelves.{FlowEnds}
-use Rattle.zc_poll.specs.Standing.{Desk, Common, Going, StreamStands, NoneInOrder}
-use Rattle.zc_poll.specs.Items.{Given, HasGiven}
-use Rattle.zc_poll.specs.Steps.{Unlent, Passed, Wants}
-use Rattle.zc_poll.proofs.Marking.{found-past, items-past, found-noted, items-noted, the_found}
-use Rattle.zc_poll.proofs.Views.{only-noted}
+use Rattle.flow_queues.specs.{Flows.{IsAtRest, RestBut, IsIndex, fresh_flow, IsChosen}, Pieces.{whole_piece}}
+use Rattle.flow_queues.{specs.Taking.{Changes, TakesPiece, LosesPiece, TakesPayload, LosesPayload}, proofs.Tokens.{total-append, in-contains, is-released}}
+use Rattle.flow_queues.proofs.{NoteComes.{piece-lost as lost-piece, payload-lost as lost-payload}, Standing.{each-map}, Took.{Took, is-took, taken_note, set-last}}
+use Rattle.flow_queues.proofs.{Indexing.{index-set}, Resting.{rest-all, rest-set, rest-push}, Choosing.{Chosen, is-chosen, total-noted, many-noted}}
+use Rattle.flow_queues.specs.{Totals.{taken_len}, Shelves.{FlowEnds}}
+use Rattle.zc_poll.specs.{Standing.{Desk, Common, Going, StreamStands, NoneInOrder}, Items.{Given, HasGiven}, Steps.{Unlent, Passed, Wants}}
+use Rattle.zc_poll.proofs.{Marking.{found-past, items-past, found-noted, items-noted, the_found}, Views.{only-noted}}
 
 -- what a flow gave is found where it stands
 pub found-of : (taken : List TakenNote) (flows : List FlowQueue) → Each (FlowStands taken []) flows → Each (FlowEnds taken) flows

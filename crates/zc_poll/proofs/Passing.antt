@@ -1,18 +1,10 @@
 -- A step is made of notes that were taken, and of what came then.
 use Rattle.std.proofs.Common.{◌≡◌, ℕ, ◌+◌, false, refl, sym, ap, subst, ◌∙◌, arith}
-use Rattle.board_face.specs.AppCalls.{AppOnlySaw}
-use Rattle.board_face.specs.declared.views.app.AppLook.TheVariants.{NoNote as no_note, NoSpare as no_spare}
-use Rattle.board_face.specs.declared.views.app.AppView.{AppView}
-use Rattle.zc_poll.specs.declared.step.Step.{Step}
-use Rattle.zc_poll.specs.declared.step.Step.TheVariants.{Item, Waiting, Memory, Ended}
-use Rattle.zc_poll.specs.declared.step.Waits.TheVariants.{NoNote, ReserveHeld, Enough}
+use Rattle.board_face.specs.{AppCalls.{AppOnlySaw}, declared.views.app.{AppLook.TheVariants.{NoNote as no_note, NoSpare as no_spare}, AppView.{AppView}}}
+use Rattle.zc_poll.specs.declared.step.{Step.{Step, TheVariants.{Item, Waiting, Memory, Ended}}, Waits.TheVariants.{NoNote, ReserveHeld, Enough}}
+use Rattle.zc_poll.specs.{Standing.{Desk, StreamStands, NoneInOrder}, Items.{HasGiven}, Steps.{OnlySteps, Unlent, IsItem, Passed, Stepped, IsShort}}
+use Rattle.zc_poll.proofs.{Views.{only-then, only-saw, rose-then}, Keeping.{saw-stands}, Released.{unlent-then}}
 use Rattle.flow_queues.specs.Core.{total}
-use Rattle.zc_poll.specs.Standing.{Desk, StreamStands, NoneInOrder}
-use Rattle.zc_poll.specs.Items.{HasGiven}
-use Rattle.zc_poll.specs.Steps.{OnlySteps, Unlent, IsItem, Passed, Stepped, IsShort}
-use Rattle.zc_poll.proofs.Views.{only-then, only-saw, rose-then}
-use Rattle.zc_poll.proofs.Keeping.{saw-stands}
-use Rattle.zc_poll.proofs.Released.{unlent-then}
 
 pub unlent-none : (st : Desk) (old new : AppView) → new.loans ≡ old.loans → new.spares ≡ old.spares → new.taken ≡ old.taken → Unlent st st old new
 unlent-none st old new loans spares taken = record { loans = loans; spares = spares; items = λ items given. subst (HasGiven items st.flows) (sym taken) given }

@@ -1,35 +1,17 @@
 -- What pouring leaves is what any application owes that isn't to quit.
 use Rattle.std.proofs.Common.{◌≡◌, ◌≢◌, ℕ, ◌*◌, ◌<◌, ◌≤◌, ◌==◌, true, if◌then◌else◌, List, [], ◌∷◌, ◌++◌, length, take, drop, Option, None, refl, sym, ap, subst, ◌∙◌, arith, inl, inr, append_assoc, take_all}
-use Rattle.std.proofs.lemmas.Bool.{eq-eqb}
-use Rattle.std.proofs.lemmas.List.{take-append-drop, take-append-le}
+use Rattle.std.proofs.lemmas.{Bool.{eq-eqb}, List.{take-append-drop, take-append-le}}
 use Rattle.zr_kinds.specs.declared.behaviour.Behaviour.{Behaviour}
 use Rattle.zr_kinds.specs.declared.behaviour.Stopped.TheVariants as stop
-use Rattle.zr_io.specs.Moved.{Gained}
-use Rattle.zr_io.proofs.Moved.{Gained-weaker}
-use Rattle.board_face.specs.AppEvents.{reserve_of}
-use Rattle.board_face.specs.declared.views.app.AppView.{AppView}
-use Rattle.flow_queues.specs.Marks.{Mark, FramesStandTogether, marks_of}
-use Rattle.flow_queues.specs.Core.{total, Each, IsIn, own_notes, BeginAt, AreReadAt}
-use Rattle.flow_queues.specs.Totals.{Quits, capped, lent_len, loan_entries}
-use Rattle.flow_queues.specs.Shelves.{FlowEnds, AreOfOneLoan}
-use Rattle.flow_queues.specs.Streams.{IsFront}
-use Rattle.flow_queues.specs.Ends.{AppEnd, HasLeft, IsCounted, IsTorn, bytes_in, times}
-use Rattle.flow_queues.specs.Entries.{AreBlocks, WasLive, lies_in}
-use Rattle.flow_queues.specs.Returned.{AreKeptBack, HasReturned}
-use Rattle.flow_queues.proofs.Fronts.{pick}
-use Rattle.flow_queues.proofs.Tokens.{in-total}
-use Rattle.zc_poll.specs.Counting.{TallyState, with_bytes}
-use Rattle.zc_poll.specs.Fresh.{has_left}
-use Rattle.zc_poll.specs.Standing.{Desk}
-use Rattle.zc_poll.specs.Items.{marks_given}
-use Rattle.zc_poll.specs.Pouring.{IsPoured, OnlyDue, PourStands, given_len}
-use Rattle.zc_poll.proofs.PouredOn.{poured-within}
-use Rattle.zc_poll.proofs.EntriesFirst.{loans-alone}
-use Rattle.zc_poll.proofs.LoanGone.{drop-all}
-use Rattle.zc_poll.proofs.Pours.{no-write}
-use Rattle.zc_poll.proofs.Shown.{shown-total, shown-times, shown-bytes, shown-each}
-use Rattle.zc_poll.proofs.ItemPoured.{none-at}
-use Rattle.zc_poll.proofs.Whole.{items-front, items-whole}
+use Rattle.zr_io.{specs.Moved.{Gained}, proofs.Moved.{Gained-weaker}}
+use Rattle.board_face.specs.{AppEvents.{reserve_of}, declared.views.app.AppView.{AppView}}
+use Rattle.flow_queues.specs.{Marks.{Mark, FramesStandTogether, marks_of}, Core.{total, Each, IsIn, own_notes, BeginAt, AreReadAt}}
+use Rattle.flow_queues.specs.{Totals.{Quits, capped, lent_len, loan_entries}, Shelves.{FlowEnds, AreOfOneLoan}, Streams.{IsFront}}
+use Rattle.flow_queues.specs.{Ends.{AppEnd, HasLeft, IsCounted, IsTorn, bytes_in, times}, Entries.{AreBlocks, WasLive, lies_in}, Returned.{AreKeptBack, HasReturned}}
+use Rattle.flow_queues.proofs.{Fronts.{pick}, Tokens.{in-total}}
+use Rattle.zc_poll.specs.{Counting.{TallyState, with_bytes}, Fresh.{has_left}, Standing.{Desk}, Items.{marks_given}, Pouring.{IsPoured, OnlyDue, PourStands, given_len}}
+use Rattle.zc_poll.proofs.{PouredOn.{poured-within}, EntriesFirst.{loans-alone}, LoanGone.{drop-all}, Pours.{no-write}}
+use Rattle.zc_poll.proofs.{Shown.{shown-total, shown-times, shown-bytes, shown-each}, ItemPoured.{none-at}, Whole.{items-front, items-whole}}
 
 each-of : {A : Type 0} (P : A → Type 0) (xs : List A) → ((x : A) → IsIn x xs → P x) → Each P xs
 each-of P [] all = tt

@@ -1,18 +1,11 @@
 -- Nothing was poured yet.
-use Rattle.std.proofs.Common.{◌≡◌, ℕ, if◌then◌else◌, List, [], length, Option, None, refl, sym, ap, arith}
-use Rattle.std.proofs.KnownBytes.{Keeps-refl}
+use Rattle.std.proofs.{Common.{◌≡◌, ℕ, if◌then◌else◌, List, [], length, Option, None, refl, sym, ap, arith}, KnownBytes.{Keeps-refl}}
 use Rattle.zr_kinds.specs.declared.behaviour.Stopped.TheVariants as stop
 use Rattle.zr_io.proofs.Moved.{Gained-nothing}
-use Rattle.board_face.specs.declared.views.app.WrittenEntry.{WrittenEntry}
-use Rattle.board_face.specs.declared.views.app.AppView.{AppView}
-use Rattle.flow_queues.specs.Core.{total}
-use Rattle.flow_queues.specs.Totals.{capped, lent_len, loan_entries}
-use Rattle.zc_poll.specs.Counting.{TallyState}
-use Rattle.zc_poll.specs.Fresh.{HasDoneNothing, new_desk}
-use Rattle.zc_poll.specs.Standing.{StreamStands}
-use Rattle.zc_poll.specs.Pouring.{IsPoured, HasPoured, PourStands}
-use Rattle.zc_poll.proofs.EntriesFirst.{first-none}
-use Rattle.zc_poll.proofs.ItemPoured.{none-at}
+use Rattle.board_face.specs.declared.views.app.{WrittenEntry.{WrittenEntry}, AppView.{AppView}}
+use Rattle.flow_queues.specs.{Core.{total}, Totals.{capped, lent_len, loan_entries}}
+use Rattle.zc_poll.specs.{Counting.{TallyState}, Fresh.{HasDoneNothing, new_desk}, Standing.{StreamStands}, Pouring.{IsPoured, HasPoured, PourStands}}
+use Rattle.zc_poll.proofs.{EntriesFirst.{first-none}, ItemPoured.{none-at}}
 
 -- nothing is kept
 abbrev pub new_tally : ℕ → TallyState

@@ -2,28 +2,14 @@
 use Rattle.std.proofs.Common.{◌≡◌, ◌≢◌, ℕ, ◌+◌, true, false, List, [], ◌∷◌, ◌++◌, length, Option, Some, None, refl, sym, ap, subst, ◌∙◌, arith, ⊎_elim, ◌⊎◌, inl, inr, append-nil}
 use Rattle.zr_kinds.specs.declared.place.Place.{Place}
 use Rattle.zr_kinds.specs.declared.behaviour.Stopped.TheVariants as stop
-use Rattle.board_face.specs.AppCalls.{AppOnlySaw, HasLoan}
-use Rattle.board_face.specs.AppEvents.{app_saw, entry_of, gave}
-use Rattle.board_face.specs.declared.views.app.AppLook.{AppLook}
-use Rattle.board_face.specs.declared.views.app.AppLook.TheVariants.{RefillInUse}
-use Rattle.board_face.specs.declared.views.app.LentPiece.{LentPiece}
-use Rattle.board_face.specs.declared.views.app.AppView.{AppView}
-use Rattle.flow_queues.specs.Core.{OnlyReads, total}
-use Rattle.flow_queues.specs.Totals.{lent_len, loan_entries}
-use Rattle.zc_poll.specs.Counting.{TallyState}
-use Rattle.zc_poll.specs.Standing.{Desk, StreamStands}
-use Rattle.zc_poll.specs.Items.{HasGiven}
-use Rattle.zc_poll.specs.declared.step.Lent.{Lent}
-use Rattle.zc_poll.specs.declared.to_shelf.PollTurn.{PollTurn}
-use Rattle.zc_poll.specs.declared.to_shelf.PollTurn.TheVariants.{Did, Idle, Ended}
-use Rattle.zc_poll.specs.declared.to_shelf.Rests.TheVariants.{Stream, RefillFull, NotQuiet, NoNotice}
-use Rattle.zc_poll.specs.Steps.{OnlySteps, Unlent, IsItem}
-use Rattle.zc_poll.specs.Pouring.{HasPoured, OnlyDue, PourStands}
-use Rattle.zc_poll.specs.PourTurns.{HadItem, IsRead, TurnDoes}
-use Rattle.zc_poll.proofs.ItemPoured.{SameCounts, poured-moved, poured-all, same-kept}
-use Rattle.zc_poll.proofs.EntriesFirst.{first-gave, first-same}
-use Rattle.zc_poll.proofs.LoanGone.{gone-loans, gone-returned, gone-many, gone-lent, gave-entries}
-use Rattle.zc_poll.proofs.Pours.{is-no, no-write}
+use Rattle.board_face.specs.{AppCalls.{AppOnlySaw, HasLoan}, AppEvents.{app_saw, entry_of, gave}, declared.views.app.AppLook.{AppLook, TheVariants.{RefillInUse}}}
+use Rattle.board_face.specs.declared.views.app.{LentPiece.{LentPiece}, AppView.{AppView}}
+use Rattle.flow_queues.specs.{Core.{OnlyReads, total}, Totals.{lent_len, loan_entries}}
+use Rattle.zc_poll.specs.{Counting.{TallyState}, Standing.{Desk, StreamStands}, Items.{HasGiven}, declared.{step.Lent.{Lent}, to_shelf.PollTurn.{PollTurn}}}
+use Rattle.zc_poll.specs.declared.to_shelf.{PollTurn.TheVariants.{Did, Idle, Ended}, Rests.TheVariants.{Stream, RefillFull, NotQuiet, NoNotice}}
+use Rattle.zc_poll.specs.{Steps.{OnlySteps, Unlent, IsItem}, Pouring.{HasPoured, OnlyDue, PourStands}, PourTurns.{HadItem, IsRead, TurnDoes}}
+use Rattle.zc_poll.proofs.{ItemPoured.{SameCounts, poured-moved, poured-all, same-kept}, EntriesFirst.{first-gave, first-same}}
+use Rattle.zc_poll.proofs.{LoanGone.{gone-loans, gone-returned, gone-many, gone-lent, gave-entries}, Pours.{is-no, no-write}}
 
 pub same-counts : (u : TallyState) → SameCounts u u
 same-counts u = record { counts = refl; written = refl; loans = refl; copied = refl; flows = refl; room = refl }

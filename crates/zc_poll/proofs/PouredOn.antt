@@ -1,14 +1,7 @@
 -- What was poured stays so as notes come, bytes are read, and loans go.
-use Rattle.std.proofs.Common.{◌≡◌, ℕ, ◌+◌, ◌≤◌, List, [], ◌∷◌, ◌++◌, length, take, drop, sym, subst, arith}
-use Rattle.std.proofs.Common.{append_assoc, append-nil, length-append, length-take}
-use Rattle.board_face.specs.declared.views.app.LentPiece.{LentPiece}
-use Rattle.board_face.specs.declared.views.app.Reading.{Reading}
-use Rattle.board_face.specs.declared.views.app.TakenNote.{TakenNote}
-use Rattle.board_face.specs.declared.views.app.AppView.{AppView}
-use Rattle.flow_queues.specs.Marks.{Mark}
-use Rattle.flow_queues.specs.Core.{IsIn, AreReadAt}
-use Rattle.flow_queues.specs.Shelves.{AreOfOneLoan, kept_loans}
-use Rattle.flow_queues.proofs.NotesStay.{lent-still}
+use Rattle.std.proofs.Common.{◌≡◌, ℕ, ◌+◌, ◌≤◌, List, [], ◌∷◌, ◌++◌, length, take, drop, sym, subst, arith, append_assoc, append-nil, length-append, length-take}
+use Rattle.board_face.specs.declared.views.app.{LentPiece.{LentPiece}, Reading.{Reading}, TakenNote.{TakenNote}, AppView.{AppView}}
+use Rattle.flow_queues.{specs.{Marks.{Mark}, Core.{IsIn, AreReadAt}, Shelves.{AreOfOneLoan, kept_loans}}, proofs.NotesStay.{lent-still}}
 use Rattle.flow_queues.proofs.ReadLemmas.{all-grow, all-noted, are-many}
 use Rattle.zc_poll.specs.Pouring.{IsPoured}
 

@@ -1,33 +1,15 @@
 -- An item was written, or it was given up and the stream stopped.
 use Rattle.std.proofs.Common.{◌≡◌, ◌≢◌, ℕ, zero, suc, ◌+◌, ◌-◌, ◌^◌, ◌<◌, ◌≤◌, min, true, false, List, [], ◌∷◌, ◌++◌, length, Option, Some, None, refl, sym, ap, subst, ◌∙◌, arith, ⊎_elim, ◌⊎◌, inl, inr, append-nil}
-use Rattle.std.specs.Io.KnownBytes.{Keeps}
-use Rattle.std.specs.List.{slice_get}
-use Rattle.zr_kinds.specs.declared.place.Place.{Place}
-use Rattle.zr_kinds.specs.declared.behaviour.Stopped.{Stopped}
+use Rattle.std.specs.{Io.KnownBytes.{Keeps}, List.{slice_get}}
+use Rattle.zr_kinds.specs.declared.{place.Place.{Place}, behaviour.Stopped.{Stopped}}
 use Rattle.zr_kinds.specs.declared.behaviour.Stopped.TheVariants as stop
-use Rattle.zr_io.specs.Moved.{Gained, Rose}
-use Rattle.zr_io.proofs.Moved.{Rose-earlier}
-use Rattle.board_face.specs.AppEvents.{abandoned}
-use Rattle.board_face.specs.declared.views.app.LentPiece.{LentPiece}
-use Rattle.board_face.specs.declared.views.app.TakenNote.{TakenNote}
-use Rattle.board_face.specs.declared.views.app.AppView.{AppView}
-use Rattle.flow_queues.specs.declared.queues.Lending.{Lending}
-use Rattle.flow_queues.specs.Core.{total, IsIn, LieApart, lent_piece, OnlyReads, IsReadOf}
-use Rattle.flow_queues.specs.Totals.{lent_len, loan_entries}
-use Rattle.flow_queues.specs.Shelves.{kept_loans}
-use Rattle.flow_queues.specs.Ends.{bytes_in}
-use Rattle.flow_queues.proofs.Tokens.{loan-some}
-use Rattle.zc_poll.specs.Counting.{TallyState, AddsTo, item_counted}
-use Rattle.zc_poll.specs.declared.step.Lent.{Lent}
-use Rattle.zc_poll.specs.Standing.{Desk, StreamStands}
-use Rattle.zc_poll.specs.Items.{Given, HasGiven, marks_given}
-use Rattle.zc_poll.specs.Steps.{OnlySteps, IsItem, given_as}
-use Rattle.zc_poll.specs.Pouring.{HasPoured, OnlyDue, PourStands}
-use Rattle.zc_poll.proofs.Views.{total-one}
-use Rattle.zc_poll.proofs.PouredOn.{sees-still}
-use Rattle.zc_poll.proofs.EntriesFirst.{first-gone}
-use Rattle.zc_poll.proofs.ItemPoured.{Roomy, poured-moved, poured-roomy, item-poured, push-length}
-use Rattle.zc_poll.proofs.Appended.{appended, at-flow}
+use Rattle.zr_io.{specs.Moved.{Gained, Rose}, proofs.Moved.{Rose-earlier}}
+use Rattle.board_face.specs.{AppEvents.{abandoned}, declared.views.app.{LentPiece.{LentPiece}, TakenNote.{TakenNote}, AppView.{AppView}}}
+use Rattle.flow_queues.specs.{declared.queues.Lending.{Lending}, Core.{total, IsIn, LieApart, lent_piece, OnlyReads, IsReadOf}, Totals.{lent_len, loan_entries}}
+use Rattle.flow_queues.{specs.{Shelves.{kept_loans}, Ends.{bytes_in}}, proofs.Tokens.{loan-some}}
+use Rattle.zc_poll.specs.{Counting.{TallyState, AddsTo, item_counted}, declared.step.Lent.{Lent}, Standing.{Desk, StreamStands}, Items.{Given, HasGiven, marks_given}}
+use Rattle.zc_poll.{specs.{Steps.{OnlySteps, IsItem, given_as}, Pouring.{HasPoured, OnlyDue, PourStands}}, proofs.{Views.{total-one}, PouredOn.{sees-still}}}
+use Rattle.zc_poll.proofs.{EntriesFirst.{first-gone}, ItemPoured.{Roomy, poured-moved, poured-roomy, item-poured, push-length}, Appended.{appended, at-flow}}
 use Rattle.zc_poll.proofs.LoanGone.{one-loan, gone-loans, gone-returned, gone-many, gone-lent, gone-kept}
 
 pub is-no : (s : Stopped) → (s ≡ stop.No) ⊎ (s ≢ stop.No)

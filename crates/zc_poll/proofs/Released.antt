@@ -1,23 +1,13 @@
 -- All pieces were given up.
 use Rattle.std.proofs.Common.{◌≡◌, ℕ, true, false, List, [], ◌∷◌, ◌-◌, map, length, refl, sym, ap, subst, ◌∙◌, arith}
 use Rattle.zr_kinds.specs.CopyingReceiver.{next_missing, nothing_placed}
-use Rattle.board_face.specs.declared.views.app.TakenNote.{TakenNote}
-use Rattle.board_face.specs.declared.views.app.AppView.{AppView}
-use Rattle.flow_queues.specs.declared.queues.FlowQueue.{FlowQueue}
-use Rattle.flow_queues.specs.Core.{total, Each, LieApart, own_notes, placed_of, received_notes, FlowStands, marks_of_waiting}
-use Rattle.flow_queues.specs.Flows.{FlowFacts, facts_of, IsAtRest}
-use Rattle.flow_queues.proofs.Releasing.{each-facts}
-use Rattle.flow_queues.proofs.Placing.{values-length}
+use Rattle.board_face.specs.{declared.views.app.{TakenNote.{TakenNote}, AppView.{AppView}}, AppCalls.{ToldEnd}}
+use Rattle.flow_queues.specs.{declared.queues.FlowQueue.{FlowQueue}, Core.{total, Each, LieApart, own_notes, placed_of, received_notes, FlowStands, marks_of_waiting}}
+use Rattle.flow_queues.{specs.{Flows.{FlowFacts, facts_of, IsAtRest}, Totals.{taken_len}, Shelves.{FlowEnds}}, proofs.{Releasing.{each-facts}, Placing.{values-length}}}
 use Rattle.tcp_reorder.proofs.Holding.{next_missing-held}
-use Rattle.flow_queues.specs.Totals.{taken_len}
-use Rattle.flow_queues.specs.Shelves.{FlowEnds}
-use Rattle.zc_poll.specs.Standing.{Desk, Common, Going, IsWhole, StreamStands, CanStop, MayRelease, IsStopped, NoneInOrder}
-use Rattle.zc_poll.specs.Items.{HasGiven}
-use Rattle.zc_poll.specs.Steps.{Unlent, Stepped, Wants}
-use Rattle.board_face.specs.AppCalls.{ToldEnd}
-use Rattle.zc_poll.specs.declared.step.Step.TheVariants.{Memory, Ended}
-use Rattle.zc_poll.proofs.Marking.{many-released, found-released, items-released}
-use Rattle.zc_poll.proofs.Views.{only-then, only-released, only-ended}
+use Rattle.zc_poll.specs.{Standing.{Desk, Common, Going, IsWhole, StreamStands, CanStop, MayRelease, IsStopped, NoneInOrder}, Items.{HasGiven}}
+use Rattle.zc_poll.specs.{Steps.{Unlent, Stepped, Wants}, declared.step.Step.TheVariants.{Memory, Ended}}
+use Rattle.zc_poll.proofs.{Marking.{many-released, found-released, items-released}, Views.{only-then, only-released, only-ended}}
 
 -- what stands may be given up
 pub may-release : (st : Desk) (v : AppView) → StreamStands st v → MayRelease st v

@@ -1,13 +1,8 @@
 -- What is told of the flows' counts: those of which bytes were written.
 use Rattle.std.proofs.Common.{◌≡◌, ◌≢◌, ℕ, zero, suc, ◌+◌, ◌<◌, ◌≤◌, ◌==◌, true, false, List, [], ◌∷◌, length, nat_lt, refl, ap, ◌∙◌, arith, ⊎_elim}
-use Rattle.std.specs.List.{AllByRecursion}
-use Rattle.std.specs.Map.{keys_of}
-use Rattle.std.specs.Ordering.{nat_cmp}
-use Rattle.std.specs.List.Sorted.{IsStrictlySortedBy}
-use Rattle.std.specs.declared.cmp.Ordering.TheVariants.{Less}
+use Rattle.std.specs.{List.{AllByRecursion, Sorted.{IsStrictlySortedBy}}, Map.{keys_of}, Ordering.{nat_cmp}, declared.cmp.Ordering.TheVariants.{Less}}
 use Rattle.std.proofs.lemmas.Bool.{cases_eq, eq-eqb, lt-ltb, ne_eqb}
-use Rattle.flow_queues.specs.Core.{total, Each}
-use Rattle.flow_queues.specs.Ends.{bytes_in, times}
+use Rattle.flow_queues.specs.{Core.{total, Each}, Ends.{bytes_in, times}}
 use Rattle.zc_poll.specs.Counting.{with_bytes}
 
 some-pass : (k : ℕ) → nat_lt 0 (suc k) ≡ true

@@ -2,8 +2,7 @@
 use Rattle.std.proofs.Common.{◌≡◌, ℕ, [], length, refl, sym, ap, subst, arith}
 use Rattle.board_face.specs.declared.views.app.AppView.{AppView}
 use Rattle.flow_queues.specs.Core.{total, LieApart, own_notes, has_at, is_odd, held_len}
-use Rattle.zc_poll.specs.Standing.{Desk, StreamStands}
-use Rattle.zc_poll.specs.Fresh.{HasDoneNothing, new_desk}
+use Rattle.zc_poll.specs.{Standing.{Desk, StreamStands}, Fresh.{HasDoneNothing, new_desk}}
 
 module _ (app : ℕ) (v : AppView) (new : HasDoneNothing app v) where
   apart : LieApart v

@@ -1,13 +1,8 @@
 -- What steps do to a view, one after another.
 use Rattle.std.proofs.Common.{◌≡◌, List, [], ◌∷◌, length, ◌++◌, refl, sym, ap, subst, ◌∙◌, arith, append_assoc, append-nil}
-use Rattle.board_face.specs.AppEvents.{app_saw, told_end}
-use Rattle.board_face.specs.Looks.{AppLooksStay, AppRose}
-use Rattle.board_face.specs.declared.views.app.AppLook.{AppLook}
-use Rattle.board_face.specs.declared.views.app.AppLook.TheVariants.{CardEnded}
-use Rattle.board_face.specs.declared.views.app.TakenNote.{TakenNote}
-use Rattle.board_face.specs.declared.views.app.AppView.{AppView}
-use Rattle.flow_queues.specs.Core.{total}
-use Rattle.flow_queues.proofs.Looks.{looks-same, looks-more}
+use Rattle.board_face.specs.{AppEvents.{app_saw, told_end}, Looks.{AppLooksStay, AppRose}, declared.views.app.AppLook.{AppLook, TheVariants.{CardEnded}}}
+use Rattle.board_face.specs.declared.views.app.{TakenNote.{TakenNote}, AppView.{AppView}}
+use Rattle.flow_queues.{specs.Core.{total}, proofs.Looks.{looks-same, looks-more}}
 use Rattle.zc_poll.specs.Steps.{OnlySteps}
 
 pub total-one : {A : Type 0} (xs : List A) → total (λ _. 1) xs ≡ length xs

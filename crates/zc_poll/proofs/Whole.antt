@@ -1,16 +1,10 @@
 -- The items of a flow are of the first of its marks, and in the end of all of them.
 use Rattle.std.proofs.Common.{◌≡◌, ℕ, List, ◌++◌, sym, ap, subst, ◌∙◌}
-use Rattle.board_face.specs.declared.views.app.TakenNote.{TakenNote}
-use Rattle.board_face.specs.declared.views.app.AppView.{AppView}
-use Rattle.flow_queues.specs.declared.queues.FlowQueue.{FlowQueue}
-use Rattle.flow_queues.specs.Marks.{Mark, FramesStandTogether, marks_of}
-use Rattle.flow_queues.specs.Core.{Each, placed_of}
+use Rattle.board_face.specs.declared.views.app.{TakenNote.{TakenNote}, AppView.{AppView}}
+use Rattle.flow_queues.specs.{declared.queues.FlowQueue.{FlowQueue}, Marks.{Mark, FramesStandTogether, marks_of}, Core.{Each, placed_of}}
+use Rattle.flow_queues.{proofs.Fronts.{front-of-flow, all-of-flow, pick, no-marks}, specs.Shelves.{FlowEnds}}
 use Rattle.zr_kinds.specs.CopyingReceiver.{next_missing}
-use Rattle.flow_queues.proofs.Fronts.{front-of-flow, all-of-flow, pick, no-marks}
-use Rattle.flow_queues.specs.Shelves.{FlowEnds}
-use Rattle.zc_poll.specs.Standing.{Desk, IsWhole}
-use Rattle.zc_poll.specs.Items.{Given, HasGiven, marks_given}
-use Rattle.zc_poll.proofs.Marking.{IsGivenOf, each-two}
+use Rattle.zc_poll.{specs.{Standing.{Desk, IsWhole}, Items.{Given, HasGiven, marks_given}}, proofs.Marking.{IsGivenOf, each-two}}
 
 pub items-front : (flows : List FlowQueue) (taken : List TakenNote) (items : List Given) → Each (FlowEnds taken) flows → HasGiven items flows taken
     → FramesStandTogether taken → (flow : ℕ) → (rest : List Mark) × (marks_of flow taken ≡ marks_given flow items ++ rest)

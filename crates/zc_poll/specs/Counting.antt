@@ -1,10 +1,7 @@
 -- Loans are counted, and bytes by flow.
 use Rattle.std.specs.Prelude.{◌≡◌, ◌≢◌, ℕ, ◌+◌, ◌≤◌, ◌==◌, Bool, if◌then◌else◌, List, filter, nat_lt, Option}
-use Rattle.zr_kinds.specs.declared.place.Place.{Place}
-use Rattle.zr_kinds.specs.declared.behaviour.Stopped.{Stopped}
-use Rattle.flow_queues.specs.Core.{total}
-use Rattle.flow_queues.specs.Totals.{capped}
-use Rattle.flow_queues.specs.Ends.{bytes_in, times}
+use Rattle.zr_kinds.specs.declared.{place.Place.{Place}, behaviour.Stopped.{Stopped}}
+use Rattle.flow_queues.specs.{Core.{total}, Totals.{capped}, Ends.{bytes_in, times}}
 
 -- what pouring keeps beside its stream and its shelf
 pub record TallyState : Type 0 where

@@ -1,6 +1,5 @@
 -- What a stream keeps beside its face, as plain data.
-use Rattle.zc_poll.specs.declared.queues.Queues.{Queues}
-use Rattle.zc_poll.specs.Standing.{Desk}
+use Rattle.zc_poll.specs.{declared.queues.Queues.{Queues}, Standing.{Desk}}
 
 abbrev pub desk_of : Queues → Desk
 desk_of q = record {

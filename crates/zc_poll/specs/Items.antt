@@ -2,10 +2,7 @@
 use Rattle.std.specs.Prelude.{◌≡◌, ℕ, ◌==◌, if◌then◌else◌, List, [], ◌∷◌, ◌++◌, length}
 use Rattle.zr_kinds.specs.CopyingReceiver.{values_from}
 use Rattle.board_face.specs.declared.views.app.TakenNote.{TakenNote}
-use Rattle.flow_queues.specs.declared.queues.FlowQueue.{FlowQueue}
-use Rattle.flow_queues.specs.declared.queues.Lending.{Lending}
-use Rattle.flow_queues.specs.Marks.{Mark}
-use Rattle.flow_queues.specs.Core.{Each, many, marks_of_loan, placed_of}
+use Rattle.flow_queues.specs.{declared.queues.{FlowQueue.{FlowQueue}, Lending.{Lending}}, Marks.{Mark}, Core.{Each, many, marks_of_loan, placed_of}}
 
 -- an item: its flow, and its loan with the note and the place in it from which its bytes come
 pub record Given : Type 0 where

@@ -1,35 +1,16 @@
 -- What a turn of pouring does, and what it ends with.
-use Rattle.std.specs.Prelude.{◌≡◌, ◌≢◌, ◌<◌, ◌⊎◌, ◌↔◌, ℕ, true, false, List, [], Option, Some, None}
-use Rattle.std.specs.Ordering.{nat_cmp}
-use Rattle.std.specs.Map.{keys_of}
+use Rattle.std.specs.{Prelude.{◌≡◌, ◌≢◌, ◌<◌, ◌⊎◌, ◌↔◌, ℕ, true, false, List, [], Option, Some, None}, Ordering.{nat_cmp}, Map.{keys_of}}
 use Rattle.std.specs.List.Sorted.{IsStrictlySortedBy}
-use Rattle.zr_kinds.specs.declared.place.Place.{Place}
-use Rattle.zr_kinds.specs.declared.behaviour.Behaviour.{Behaviour}
+use Rattle.zr_kinds.specs.declared.{place.Place.{Place}, behaviour.Behaviour.{Behaviour}}
 use Rattle.zr_kinds.specs.declared.behaviour.Stopped.TheVariants as stop
-use Rattle.futures.specs.declared.task.Poll.{Poll}
-use Rattle.futures.specs.declared.task.Poll.TheVariants.{Ready, Pending}
-use Rattle.board_face.specs.AppCalls.{AppOnlySaw}
-use Rattle.board_face.specs.AppEvents.{abandoned, gave}
-use Rattle.board_face.specs.NotNow.{HasWritten, HasWrittenRingful}
-use Rattle.board_face.specs.declared.views.app.AppLook.{AppLook}
-use Rattle.board_face.specs.declared.views.app.AppLook.TheVariants.{NoNote as no_note, NoSpare as no_spare, RefillInUse, NotQuiet as not_quiet}
-use Rattle.board_face.specs.declared.views.app.AppView.{AppView}
-use Rattle.flow_queues.specs.Core.{Each, OnlyReads}
-use Rattle.flow_queues.specs.Ends.{AppEnd, HasLeft}
-use Rattle.flow_queues.specs.Returned.{HasReturned}
-use Rattle.zc_poll.specs.Counting.{TallyState}
-use Rattle.zc_poll.specs.declared.step.Lent.{Lent}
-use Rattle.zc_poll.specs.declared.step.Waits.TheVariants.{NoNote, ReserveHeld, Enough}
-use Rattle.zc_poll.specs.declared.step.Step.TheVariants.{Waiting, Memory, Ended as stream_ended}
-use Rattle.zc_poll.specs.declared.to_shelf.Poured.{Poured}
-use Rattle.zc_poll.specs.declared.to_shelf.PollTurn.{PollTurn}
-use Rattle.zc_poll.specs.declared.to_shelf.PollTurn.TheVariants.{Did, Idle, Ended}
-use Rattle.zc_poll.specs.declared.to_shelf.Rests.{Rests}
-use Rattle.zc_poll.specs.declared.to_shelf.Rests.TheVariants.{Stream, RefillFull, NotQuiet, NoNotice}
-use Rattle.zc_poll.specs.Fresh.{has_left}
-use Rattle.zc_poll.specs.Standing.{Desk}
-use Rattle.zc_poll.specs.Steps.{Steps, IsItem}
-use Rattle.zc_poll.specs.Pouring.{PourStands}
+use Rattle.futures.specs.declared.task.Poll.{Poll, TheVariants.{Ready, Pending}}
+use Rattle.board_face.specs.{AppCalls.{AppOnlySaw}, AppEvents.{abandoned, gave}, NotNow.{HasWritten, HasWrittenRingful}, declared.views.app.AppLook.{AppLook}}
+use Rattle.board_face.specs.declared.views.app.{AppLook.TheVariants.{NoNote as no_note, NoSpare as no_spare, RefillInUse, NotQuiet as not_quiet}, AppView.{AppView}}
+use Rattle.flow_queues.specs.{Core.{Each, OnlyReads}, Ends.{AppEnd, HasLeft}, Returned.{HasReturned}}
+use Rattle.zc_poll.specs.{Counting.{TallyState}, declared.step.{Lent.{Lent}, Waits.TheVariants.{NoNote, ReserveHeld, Enough}}}
+use Rattle.zc_poll.specs.declared.{step.Step.TheVariants.{Waiting, Memory, Ended as stream_ended}, to_shelf.{Poured.{Poured}, PollTurn.{PollTurn}}}
+use Rattle.zc_poll.specs.declared.to_shelf.{PollTurn.TheVariants.{Did, Idle, Ended}, Rests.{Rests, TheVariants.{Stream, RefillFull, NotQuiet, NoNotice}}}
+use Rattle.zc_poll.specs.{Fresh.{has_left}, Standing.{Desk}, Steps.{Steps, IsItem}, Pouring.{PourStands}}
 
 -- Bytes of an item's loan were read. It is to be given back then, or it was given up and the stream stopped.
 abbrev pub IsRead : Place → Desk → Desk → AppView → AppView → Option Place → Type 0

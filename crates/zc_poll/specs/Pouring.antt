@@ -3,17 +3,10 @@ use Rattle.std.specs.Prelude.{◌≡◌, ◌≢◌, ℕ, ◌+◌, ◌<◌, ◌�
 use Rattle.zr_kinds.specs.declared.place.Place.{Place}
 use Rattle.zr_kinds.specs.declared.behaviour.Stopped.TheVariants as stop
 use Rattle.zr_io.specs.Moved.{Gained, Rose}
-use Rattle.board_face.specs.declared.views.app.LentPiece.{LentPiece}
-use Rattle.board_face.specs.declared.views.app.AppView.{AppView}
-use Rattle.flow_queues.specs.Marks.{Mark}
-use Rattle.flow_queues.specs.Core.{total, AreReadAt, most_at_once}
-use Rattle.flow_queues.specs.Totals.{capped, lent_len, loan_entries, raw_entries}
-use Rattle.flow_queues.specs.Shelves.{AreOfOneLoan, kept_loans}
-use Rattle.flow_queues.specs.Entries.{Gives}
-use Rattle.flow_queues.specs.Ends.{bytes_in, times}
-use Rattle.zc_poll.specs.Counting.{TallyState}
-use Rattle.zc_poll.specs.Standing.{Desk, StreamStands}
-use Rattle.zc_poll.specs.Items.{Given, HasGiven, marks_given}
+use Rattle.board_face.specs.declared.views.app.{LentPiece.{LentPiece}, AppView.{AppView}}
+use Rattle.flow_queues.specs.{Marks.{Mark}, Core.{total, AreReadAt, most_at_once}, Totals.{capped, lent_len, loan_entries, raw_entries}}
+use Rattle.flow_queues.specs.{Shelves.{AreOfOneLoan, kept_loans}, Entries.{Gives}, Ends.{bytes_in, times}}
+use Rattle.zc_poll.specs.{Counting.{TallyState}, Standing.{Desk, StreamStands}, Items.{Given, HasGiven, marks_given}}
 
 -- how many bytes an item has
 abbrev pub given_len : Given → ℕ

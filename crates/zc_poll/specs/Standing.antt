@@ -1,14 +1,10 @@
 -- What a stream keeps beside its face, as plain data, and how that stands to what the face has seen.
 use Rattle.std.specs.Prelude.{◌≡◌, ℕ, ◌+◌, ◌≤◌, ◌⊎◌, Bool, true, false, List, [], length, map}
 use Rattle.zr_kinds.specs.CopyingReceiver.{next_missing}
-use Rattle.board_face.specs.declared.views.app.HeldPiece.{HeldPiece}
-use Rattle.board_face.specs.declared.views.app.AppView.{AppView}
-use Rattle.flow_queues.specs.declared.queues.FlowQueue.{FlowQueue}
-use Rattle.flow_queues.specs.declared.queues.Lending.{Lending}
+use Rattle.board_face.specs.declared.views.app.{HeldPiece.{HeldPiece}, AppView.{AppView}}
+use Rattle.flow_queues.specs.declared.queues.{FlowQueue.{FlowQueue}, Lending.{Lending}}
 use Rattle.flow_queues.specs.Core.{total, Each, many, LieApart, own_notes, placed_of, over_kept, held_len, short_bytes, unsplit_len, Stands}
-use Rattle.flow_queues.specs.Flows.{IsAtRest, RestBut, IsIndex, facts_of}
-use Rattle.flow_queues.specs.Shelves.{FlowEnds}
-use Rattle.flow_queues.specs.Totals.{taken_len}
+use Rattle.flow_queues.specs.{Flows.{IsAtRest, RestBut, IsIndex, facts_of}, Shelves.{FlowEnds}, Totals.{taken_len}}
 
 pub record Desk : Type 0 where
   pub app : ℕ

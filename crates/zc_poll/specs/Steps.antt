@@ -1,27 +1,14 @@
 -- What a step does.
 use Rattle.std.specs.Prelude.{◌≡◌, ℕ, ◌+◌, ◌-◌, ◌^◌, ◌<◌, min, true, false, not, if◌then◌else◌, List, [], ◌∷◌, ◌++◌, length}
-use Rattle.std.specs.Prelude.{Option, Some, None, slice_get, Result, Ok, Err}
-use Rattle.std.specs.declared.alloc.AllocError.{AllocError}
-use Rattle.futures.specs.declared.task.Poll.{Poll}
-use Rattle.futures.specs.declared.task.Poll.TheVariants.{Ready, Pending}
-use Rattle.board_face.specs.AppCalls.{AppOnlySaw, HasLoan, ToldEnd}
-use Rattle.board_face.specs.Looks.{AppRose, AppLooksStay}
-use Rattle.board_face.specs.declared.views.app.AppLook.TheVariants.{NoNote as no_note, NoSpare as no_spare}
-use Rattle.board_face.specs.declared.views.app.LentPiece.{LentPiece}
-use Rattle.board_face.specs.declared.views.app.TakenNote.{TakenNote}
+use Rattle.std.specs.{Prelude.{Option, Some, None, slice_get, Result, Ok, Err}, declared.alloc.AllocError.{AllocError}}
+use Rattle.futures.specs.declared.task.Poll.{Poll, TheVariants.{Ready, Pending}}
+use Rattle.board_face.specs.{AppCalls.{AppOnlySaw, HasLoan, ToldEnd}, Looks.{AppRose, AppLooksStay}}
+use Rattle.board_face.specs.declared.views.app.{AppLook.TheVariants.{NoNote as no_note, NoSpare as no_spare}, LentPiece.{LentPiece}, TakenNote.{TakenNote}}
 use Rattle.board_face.specs.declared.views.app.AppView.{AppView}
-use Rattle.flow_queues.specs.declared.queues.Lending.{Lending}
-use Rattle.flow_queues.specs.Marks.{FramesStandTogether, marks_of}
-use Rattle.flow_queues.specs.Core.{total, IsIn, lent_piece, marks_of_loan}
-use Rattle.zc_poll.specs.declared.step.Lent.{Lent}
-use Rattle.zc_poll.specs.declared.step.Waits.{Waits}
-use Rattle.zc_poll.specs.declared.step.Waits.TheVariants.{NoNote, ReserveHeld, Enough}
-use Rattle.zc_poll.specs.declared.step.Step.{Step}
-use Rattle.zc_poll.specs.declared.step.Step.TheVariants.{Item, Waiting, Memory, Ended}
-use Rattle.zc_poll.specs.declared.taking.Taken.{Taken}
-use Rattle.zc_poll.specs.declared.taking.Taken.TheVariants.{Did as took_one, NoNote as saw_none, Ended as told_end, Memory as had_no_memory}
-use Rattle.zc_poll.specs.Standing.{Desk, Common, StreamStands, NoneInOrder, CanStop}
-use Rattle.zc_poll.specs.Items.{Given, HasGiven, marks_given, IsAt}
+use Rattle.flow_queues.specs.{declared.queues.Lending.{Lending}, Marks.{FramesStandTogether, marks_of}, Core.{total, IsIn, lent_piece, marks_of_loan}}
+use Rattle.zc_poll.specs.declared.step.{Lent.{Lent}, Waits.{Waits, TheVariants.{NoNote, ReserveHeld, Enough}}, Step.{Step, TheVariants.{Item, Waiting, Memory, Ended}}}
+use Rattle.zc_poll.specs.declared.taking.Taken.{Taken, TheVariants.{Did as took_one, NoNote as saw_none, Ended as told_end, Memory as had_no_memory}}
+use Rattle.zc_poll.specs.{Standing.{Desk, Common, StreamStands, NoneInOrder, CanStop}, Items.{Given, HasGiven, marks_given, IsAt}}
 
 -- a count of bytes, with so many more: it stays at 2^64 - 1
 abbrev pub counted_on : ℕ → ℕ → ℕ

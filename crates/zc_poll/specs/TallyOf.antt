@@ -1,7 +1,6 @@
 -- What pouring keeps beside its stream and its shelf, as plain data.
 use Rattle.std.specs.Prelude.{vec_capacity}
-use Rattle.zc_poll.specs.declared.counting.PourTally.{PourTally as Kept}
-use Rattle.zc_poll.specs.Counting.{TallyState}
+use Rattle.zc_poll.specs.{declared.counting.PourTally.{PourTally as Kept}, Counting.{TallyState}}
 
 abbrev pub tally_of : Kept → TallyState
 tally_of w = record {

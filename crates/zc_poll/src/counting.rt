@@ -1,10 +1,7 @@
 //! What pouring keeps beside its stream and its shelf.
-ghost use Rattle.std.specs.Prelude.{◌≡◌, ◌+◌, ◌-◌, ◌^◌, ◌<◌, ◌≤◌, min, [], length, vec_capacity, OnOk, OnErr, IsSome};
-ghost use Rattle.std.specs.Ordering.{nat_cmp};
-ghost use Rattle.std.specs.BTreeMap.{get};
+ghost use Rattle.std.specs.{Prelude.{◌≡◌, ◌+◌, ◌-◌, ◌^◌, ◌<◌, ◌≤◌, min, [], length, vec_capacity, OnOk, OnErr, IsSome}, Ordering.{nat_cmp}, BTreeMap.{get}};
 ghost use Rattle.flow_queues.specs.Ends.{bytes_in};
-ghost use Rattle.zc_poll.specs.Counting.{AddsTo, item_counted};
-ghost use Rattle.zc_poll.specs.TallyOf.{tally_of};
+ghost use Rattle.zc_poll.specs.{Counting.{AddsTo, item_counted}, TallyOf.{tally_of}};
 
 use board_face::Loan;
 use std::alloc::AllocError;

@@ -1,8 +1,7 @@
 //! What the items of a stream are, all together. Nothing runs.
 ghost use Rattle.std.specs.Prelude.{◌≡◌, ℕ, ◌++◌, List, true, false};
 ghost use Rattle.flow_queues.specs.Marks.{Mark, FramesStandTogether, marks_of};
-ghost use Rattle.zc_poll.specs.Items.{Given, HasGiven, marks_given};
-ghost use Rattle.zc_poll.specs.Standing.{StreamStands};
+ghost use Rattle.zc_poll.specs.{Items.{Given, HasGiven, marks_given}, Standing.{StreamStands}};
 
 use crate::stream::LoanStream;
 use board_face::AppFace;

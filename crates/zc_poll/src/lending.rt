@@ -1,14 +1,8 @@
 //! What is next in the stream of a flow is an item.
 ghost use Rattle.std.specs.Prelude.{◌≡◌, ◌≢◌, false, Some, None, Option};
 ghost use Rattle.tcp_reorder.specs.Queue.{IsSound};
-ghost use Rattle.board_face.specs.AppEvents.{app_gist};
-ghost use Rattle.board_face.specs.declared.views.app.AppLook.TheVariants.{NoSpare};
-ghost use Rattle.zc_poll.specs.Standing.{StreamStands};
-ghost use Rattle.zc_poll.specs.Steps.{Offers};
-ghost use Rattle.zc_poll.specs.Steps.{counted_on};
-ghost use Rattle.zc_poll.specs.DeskOf.{desk_of};
-ghost use Rattle.zc_poll.specs.declared.step.Step.TheVariants.{Waiting};
-ghost use Rattle.zc_poll.specs.declared.step.Waits.TheVariants.{NoNote, ReserveHeld};
+ghost use Rattle.board_face.specs.{AppEvents.{app_gist}, declared.views.app.AppLook.TheVariants.{NoSpare}};
+ghost use Rattle.zc_poll.specs.{Standing.{StreamStands}, Steps.{Offers, counted_on}, DeskOf.{desk_of}, declared.step.{Step.TheVariants.{Waiting}, Waits.TheVariants.{NoNote, ReserveHeld}}};
 
 use crate::queues::Queues;
 use crate::step::{Lent, Step, Waits};

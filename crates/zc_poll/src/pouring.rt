@@ -1,18 +1,9 @@
 //! An item's loan is read and appended to a flow of a shelf, and counted.
-ghost use Rattle.std.specs.Prelude.{◌≡◌, ◌≢◌, ℕ, ◌+◌, ◌<◌, ◌≤◌, List, [], length, Option, None, vec_capacity, true};
-ghost use Rattle.std.specs.Io.KnownBytes.{Keeps};
+ghost use Rattle.std.specs.{Prelude.{◌≡◌, ◌≢◌, ℕ, ◌+◌, ◌<◌, ◌≤◌, List, [], length, Option, None, vec_capacity, true}, Io.KnownBytes.{Keeps}};
 ghost use Rattle.zr_io.specs.Moved.{Gained, Rose};
-ghost use Rattle.board_face.specs.AppCalls.{HasLoan};
-ghost use Rattle.board_face.specs.AppEvents.{abandoned};
-ghost use Rattle.board_face.specs.declared.views.app.AppView.{AppView};
-ghost use Rattle.flow_queues.specs.declared.queues.Lending.{Lending};
-ghost use Rattle.flow_queues.specs.Core.{IsIn, lent_piece, OnlyReads, IsReadOf};
-ghost use Rattle.zc_poll.specs.Standing.{Desk, StreamStands};
-ghost use Rattle.zc_poll.specs.Items.{Given, HasGiven};
-ghost use Rattle.zc_poll.specs.Steps.{IsItem, OnlySteps};
-ghost use Rattle.zc_poll.specs.Pouring.{PourStands};
-ghost use Rattle.zc_poll.specs.PourTurns.{IsRead};
-ghost use Rattle.zc_poll.specs.TallyOf.{tally_of};
+ghost use Rattle.board_face.specs.{AppCalls.{HasLoan}, AppEvents.{abandoned}, declared.views.app.AppView.{AppView}};
+ghost use Rattle.flow_queues.specs.{declared.queues.Lending.{Lending}, Core.{IsIn, lent_piece, OnlyReads, IsReadOf}};
+ghost use Rattle.zc_poll.specs.{Standing.{Desk, StreamStands}, Items.{Given, HasGiven}, Steps.{IsItem, OnlySteps}, Pouring.{PourStands}, PourTurns.{IsRead}, TallyOf.{tally_of}};
 
 use crate::counting::{PourTally, count, count_item, make_room};
 use crate::step::Lent;

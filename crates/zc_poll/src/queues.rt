@@ -1,8 +1,7 @@
 //! What a stream keeps beside its face.
 ghost use Rattle.std.specs.Prelude.{◌≡◌};
 ghost use Rattle.board_face.specs.AppCalls.{IsHere};
-ghost use Rattle.zc_poll.specs.Standing.{IsReleased, IsStopped, MayRelease};
-ghost use Rattle.zc_poll.specs.DeskOf.{desk_of};
+ghost use Rattle.zc_poll.specs.{Standing.{IsReleased, IsStopped, MayRelease}, DeskOf.{desk_of}};
 
 use board_face::AppFace;
 use flow_queues::{FlowQueue, release_all};

@@ -1,21 +1,8 @@
 ghost use Rattle.std.specs.Prelude.{◌≡◌, ◌+◌, ◌<◌, ◌≤◌, [], List, length, Ok, Err, Some, None, true, false, IfErr, MatchBool, MatchResult, OnSome};
-ghost use Rattle.futures.specs.Poll.{IfReady, OnPending};
-ghost use Rattle.futures.specs.Task.{Covers, Keeps};
-ghost use Rattle.futures.specs.declared.task.Poll.TheVariants.{Ready};
-ghost use Rattle.board_face.specs.Looks.{AppTold};
-ghost use Rattle.board_face.specs.NotNow.{HasWritten, HasWrittenRingful};
-ghost use Rattle.board_face.specs.AppCalls.{HasLoan, AppOnlySaw, ShowsCopy};
-ghost use Rattle.board_face.specs.AppEvents.{app_gist, has_read, loan_origin, gave, abandoned};
-ghost use Rattle.board_face.specs.declared.views.app.AppLook.TheVariants.{NoNote as no_note, NoSpare as no_spare, RefillInUse, NotQuiet};
-ghost use Rattle.flow_queues.specs.declared.queues.Lending.{Lending};
-ghost use Rattle.flow_queues.specs.Marks.{marks_from};
-ghost use Rattle.flow_queues.specs.Core.{IsIn, lent_piece, AreReadAt};
-ghost use Rattle.zc_poll.specs.Standing.{StreamStands};
-ghost use Rattle.zc_poll.specs.Items.{Given, HasGiven};
-ghost use Rattle.zc_poll.specs.Steps.{Steps, OnlySteps, PollGives};
-ghost use Rattle.zc_poll.specs.Fresh.{HasDoneNothing, new_desk, has_left};
-ghost use Rattle.zc_poll.specs.declared.step.Step.TheVariants.{Waiting, Ended};
-ghost use Rattle.zc_poll.specs.declared.step.Waits.TheVariants.{NoNote, ReserveHeld};
+ghost use Rattle.futures.specs.{Poll.{IfReady, OnPending}, Task.{Covers, Keeps}, declared.task.Poll.TheVariants.{Ready}};
+ghost use Rattle.board_face.specs.{Looks.{AppTold}, NotNow.{HasWritten, HasWrittenRingful}, AppCalls.{HasLoan, AppOnlySaw, ShowsCopy}, AppEvents.{app_gist, has_read, loan_origin, gave, abandoned}, declared.views.app.AppLook.TheVariants.{NoNote as no_note, NoSpare as no_spare, RefillInUse, NotQuiet}};
+ghost use Rattle.flow_queues.specs.{declared.queues.Lending.{Lending}, Marks.{marks_from}, Core.{IsIn, lent_piece, AreReadAt}};
+ghost use Rattle.zc_poll.specs.{Standing.{StreamStands}, Items.{Given, HasGiven}, Steps.{Steps, OnlySteps, PollGives}, Fresh.{HasDoneNothing, new_desk, has_left}, declared.step.{Step.TheVariants.{Waiting, Ended}, Waits.TheVariants.{NoNote, ReserveHeld}}};
 
 use crate::lending::offer;
 use crate::queues::{Queues, stop};
@@ -36,8 +23,7 @@ pub struct LoanStream<F> {
 }
 
 impl<F> Model for LoanStream<F> {
-    ghost use Rattle.zc_poll.specs.DeskOf.{desk_of};
-    ghost use Rattle.zc_poll.specs.Streaming.{Streaming};
+    ghost use Rattle.zc_poll.specs.{DeskOf.{desk_of}, Streaming.{Streaming}};
 
     ghost Value = { Streaming F };
 

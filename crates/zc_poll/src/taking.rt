@@ -1,14 +1,7 @@
 //! A note is taken: into the queue of its flow, or past it where the stream is stopped.
 ghost use Rattle.std.specs.Prelude.{◌≡◌, ◌≢◌, ◌⊎◌, false, true, ◌≤◌, length, Some, None, Option};
-ghost use Rattle.board_face.specs.AppCalls.{IsHere, TookNote, TookLinear};
-ghost use Rattle.board_face.specs.AppEvents.{app_gist};
-ghost use Rattle.board_face.specs.declared.views.app.AppView.{AppView};
-ghost use Rattle.board_face.specs.declared.views.app.AppLook.TheVariants.{NoNote as no_note};
-ghost use Rattle.zc_poll.specs.Standing.{StreamStands, NoneInOrder};
-ghost use Rattle.zc_poll.specs.Steps.{Takes, LooksFor};
-ghost use Rattle.zc_poll.specs.DeskOf.{desk_of};
-ghost use Rattle.zc_poll.specs.declared.step.Step.TheVariants.{Waiting};
-ghost use Rattle.zc_poll.specs.declared.step.Waits.TheVariants.{NoNote, ReserveHeld};
+ghost use Rattle.board_face.specs.{AppCalls.{IsHere, TookNote, TookLinear}, AppEvents.{app_gist}, declared.views.app.{AppView.{AppView}, AppLook.TheVariants.{NoNote as no_note}}};
+ghost use Rattle.zc_poll.specs.{Standing.{StreamStands, NoneInOrder}, Steps.{Takes, LooksFor}, DeskOf.{desk_of}, declared.step.{Step.TheVariants.{Waiting}, Waits.TheVariants.{NoNote, ReserveHeld}}};
 
 use crate::queues::{Queues, release, stop};
 use crate::step::{Step, Waits};

@@ -1,21 +1,9 @@
 //! The items of a stream are written to a shelf, one turn after another.
-ghost use Rattle.std.specs.Prelude.{◌≡◌, ◌<◌, ◌≤◌, ℕ, List, [], length, Option, Some, None, true, false, vec_capacity};
-ghost use Rattle.board_face.specs.AppCalls.{HasLoan};
-ghost use Rattle.board_face.specs.AppEvents.{app_gist};
-ghost use Rattle.board_face.specs.declared.views.app.AppView.{AppView};
-ghost use Rattle.std.specs.Ordering.{nat_cmp};
-ghost use Rattle.std.specs.Map.{keys_of};
-ghost use Rattle.std.specs.List.Sorted.{IsStrictlySortedBy};
+ghost use Rattle.std.specs.{Prelude.{◌≡◌, ◌<◌, ◌≤◌, ℕ, List, [], length, Option, Some, None, true, false, vec_capacity}, Ordering.{nat_cmp}, Map.{keys_of}, List.Sorted.{IsStrictlySortedBy}};
+ghost use Rattle.board_face.specs.{AppCalls.{HasLoan}, AppEvents.{app_gist}, declared.views.app.AppView.{AppView}};
 ghost use Rattle.flow_queues.specs.Core.{Each};
-ghost use Rattle.zc_poll.specs.Counting.{with_bytes};
-ghost use Rattle.zc_poll.specs.Standing.{Desk, StreamStands};
-ghost use Rattle.zc_poll.specs.Fresh.{HasDoneNothing, new_desk};
-ghost use Rattle.zc_poll.specs.Pouring.{PourStands};
-ghost use Rattle.zc_poll.specs.PourTurns.{HadItem, IsTold, PourGives, TurnDoes, PollPours, PollDoes};
-ghost use Rattle.zc_poll.specs.Steps.{IsItem, OnlySteps};
-ghost use Rattle.futures.specs.Poll.{OnPending};
-ghost use Rattle.futures.specs.Task.{Covers, Keeps};
-ghost use Rattle.zc_poll.specs.TallyOf.{tally_of};
+ghost use Rattle.zc_poll.specs.{Counting.{with_bytes}, Standing.{Desk, StreamStands}, Fresh.{HasDoneNothing, new_desk}, Pouring.{PourStands}, PourTurns.{HadItem, IsTold, PourGives, TurnDoes, PollPours, PollDoes}, Steps.{IsItem, OnlySteps}, TallyOf.{tally_of}};
+ghost use Rattle.futures.specs.{Poll.{OnPending}, Task.{Covers, Keeps}};
 
 use crate::counting::PourTally;
 use crate::pouring::pour;
@@ -235,8 +223,7 @@ pub struct ToShelf<F, T> {
 }
 
 impl<F, T> Model for ToShelf<F, T> {
-    ghost use Rattle.zc_poll.specs.PourTurns.{PourView};
-    ghost use Rattle.zc_poll.specs.TallyOf.{tally_of};
+    ghost use Rattle.zc_poll.specs.{PourTurns.{PourView}, TallyOf.{tally_of}};
 
     ghost Value = { PourView F T };
 

@@ -1,7 +1,5 @@
 //! A source whose bytes are looked at on their way, for people to be told of them.
-ghost use Rattle.std.specs.Prelude.{◌<◌, length};
-ghost use Rattle.std.specs.Io.{ReadsAtMost};
-ghost use Rattle.std.specs.Io.KnownBytes.{ReadConsumes};
+ghost use Rattle.std.specs.{Prelude.{◌<◌, length}, Io.{ReadsAtMost, KnownBytes.{ReadConsumes}}};
 ghost use Rattle.zr_io.specs.Moved.{HasCause};
 
 use crate::progress::Progress;

@@ -1,13 +1,9 @@
 -- How a shelf over memory keeps the bytes of its flows.
 use Rattle.std.proofs.Common.{◌≡◌, ℕ, ◌+◌, ◌-◌, ◌<◌, ◌≤◌, ◌↔◌, ◌⊎◌, nat_lt, List, [], ◌∷◌, ◌++◌, length, get_or}
-use Rattle.std.proofs.Common.{set, take, Option, None, Some, Result, Ok, Err, MatchResult, IsErr, IsSome, if◌then◌else◌, refl, sym, ap, ◌∙◌, inl}
-use Rattle.std.proofs.Common.{arith, rules}
-use Rattle.std.proofs.lemmas.List.{get_or-map, get_or-set_same, get_or_past, map-set, set_past, length-map, nil_from_length, take_all}
-use Rattle.std.proofs.lemmas.Grind.{common_steps}
+use Rattle.std.proofs.Common.{set, take, Option, None, Some, Result, Ok, Err, MatchResult, IsErr, IsSome, if◌then◌else◌, refl, sym, ap, ◌∙◌, inl, arith, rules}
+use Rattle.std.proofs.lemmas.{List.{get_or-map, get_or-set_same, get_or_past, map-set, set_past, length-map, nil_from_length, take_all}, Grind.{common_steps}}
 use Rattle.std.specs.Global.{Vec}
-use Rattle.zr_io.specs.Moved.{AddsPiece}
-use Rattle.zr_io.specs.Memory.{front_out}
-use Rattle.zr_io.specs.Reserved.{bytes_of}
+use Rattle.zr_io.specs.{Moved.{AddsPiece}, Memory.{front_out}, Reserved.{bytes_of}}
 
 held_at : (flows : List (Vec ℕ)) (flow : ℕ) (old : Vec ℕ) → old ≡ get_or flows flow old → flow < length flows
     → get_or (bytes_of flows) flow [] ≡ old.items

@@ -1,10 +1,6 @@
 -- How far a loop has sent a piece.
-use Rattle.std.proofs.Common.{◌≡◌, ℕ, ◌+◌, ◌-◌, ◌≤◌, List, ◌++◌, length, take, drop, Option, sym, ap, subst, ◌∙◌, arith}
-use Rattle.std.proofs.Common.{length-drop, length-take-le, take-append-drop}
-use Rattle.std.proofs.lemmas.List.{drop-drop, take_rest}
-use Rattle.std.proofs.Math.Seq.{take-append-add}
-use Rattle.std.proofs.KnownBytes.{Appends-trans}
-use Rattle.std.specs.Io.KnownBytes.{Appends}
+use Rattle.std.proofs.Common.{◌≡◌, ℕ, ◌+◌, ◌-◌, ◌≤◌, List, ◌++◌, length, take, drop, Option, sym, ap, subst, ◌∙◌, arith, length-drop, length-take-le, take-append-drop}
+use Rattle.std.{proofs.{lemmas.List.{drop-drop, take_rest}, Math.Seq.{take-append-add}, KnownBytes.{Appends-trans}}, specs.Io.KnownBytes.{Appends}}
 
 -- the rest is still to be sent, and what stands before it in the piece went out
 pub record IsSending (old new : Option (List ℕ)) (piece rest : List ℕ) : Type 0 where

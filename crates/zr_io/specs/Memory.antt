@@ -1,6 +1,5 @@
 -- What the sources, sinks and shelves over memory hold, as their callers see it.
-use Rattle.std.specs.Prelude.{ℕ, ◌+◌, ◌-◌, ◌^◌, min, nat_eq, nat_lt, List, [], ◌++◌, length, take, slice_index_or, slice_set, Option, None}
-use Rattle.std.specs.Prelude.{Some, if◌then◌else◌}
+use Rattle.std.specs.Prelude.{ℕ, ◌+◌, ◌-◌, ◌^◌, min, nat_eq, nat_lt, List, [], ◌++◌, length, take, slice_index_or, slice_set, Option, None, Some, if◌then◌else◌}
 use Rattle.std.specs.Map.{lookup}
 
 -- a count that is one higher, or stands still at the end of its type

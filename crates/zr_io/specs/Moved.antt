@@ -1,7 +1,5 @@
 -- What moved through a source, a sink or a shelf, where it tells its bytes, and why a call may fail.
-use Rattle.std.specs.Prelude.{◌≡◌, ℕ, ◌+◌, ◌-◌, ◌^◌, ◌≤◌, min, List, ◌++◌, take, Option, None, Some, Result, OnOk, OnErr}
-use Rattle.std.specs.Prelude.{MatchResult}
-use Rattle.std.specs.Io.KnownBytes.{Appends}
+use Rattle.std.specs.{Prelude.{◌≡◌, ℕ, ◌+◌, ◌-◌, ◌^◌, ◌≤◌, min, List, ◌++◌, take, Option, None, Some, Result, OnOk, OnErr, MatchResult}, Io.KnownBytes.{Appends}}
 
 -- A count of faults rose; it stands still at the end of its type.
 abbrev pub Rose : ℕ → ℕ → Type 0

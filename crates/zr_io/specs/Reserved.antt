@@ -1,7 +1,5 @@
 -- The lists in which a shelf over memory keeps its flows.
-use Rattle.std.specs.Prelude.{ℕ, ◌≤◌, List, map, length, All}
-use Rattle.std.specs.Vec.{vec_capacity}
-use Rattle.std.specs.Global.{Vec}
+use Rattle.std.specs.{Prelude.{ℕ, ◌≤◌, List, map, length, All}, Vec.{vec_capacity}, Global.{Vec}}
 
 -- each list is within the room, and has the memory for it
 abbrev pub AreReserved : ℕ → List (Vec ℕ) → Type 0

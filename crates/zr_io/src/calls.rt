@@ -1,7 +1,5 @@
 //! The numbered calls of what stands over memory, and how they go.
-ghost use Rattle.std.specs.Prelude.{◌≡◌, ◌≤◌, ◌<◌, ◌+◌, ◌-◌, ◌++◌, ◌⊎◌, ◌↔◌, nat_eq, length};
-ghost use Rattle.std.specs.Prelude.{IsErr, IsSome, MatchResult, vec_capacity};
-ghost use Rattle.std.specs.Map.{lookup};
+ghost use Rattle.std.specs.{Prelude.{◌≡◌, ◌≤◌, ◌<◌, ◌+◌, ◌-◌, ◌++◌, ◌⊎◌, ◌↔◌, nat_eq, length, IsErr, IsSome, MatchResult, vec_capacity}, Map.{lookup}};
 ghost use Rattle.zr_io.specs.Memory.{raised, front_out};
 
 use crate::traits::Failed;

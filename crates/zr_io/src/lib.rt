@@ -11,8 +11,6 @@ mod send;
 mod std_sink;
 mod std_source;
 mod sure_source;
-#[cfg(test)]
-mod tests;
 mod traits;
 
 pub use mem_shelf::MemShelf;

@@ -1,10 +1,6 @@
 //! A shelf over memory.
-ghost use Rattle.std.specs.Prelude.{◌≡◌, ℕ, ◌<◌, ◌+◌, ◌-◌, ◌++◌, ◌≢◌, ◌⊎◌, ◌↔◌, [], Some, length};
-ghost use Rattle.std.specs.Prelude.{replicate, nat_lt, slice_index_or, slice_set, IsErr, IsSome, IfOk, MatchResult, if◌then◌else◌};
-ghost use Rattle.std.specs.Io.KnownBytes.{Keeps};
-ghost use Rattle.zr_io.specs.Moved.{AddsPiece, HasCause};
-ghost use Rattle.zr_io.specs.Memory.{raised, next_entry, front_out, kept_of, room_of, flows_with};
-ghost use Rattle.zr_io.specs.Reserved.{AreReserved, bytes_of};
+ghost use Rattle.std.specs.{Prelude.{◌≡◌, ℕ, ◌<◌, ◌+◌, ◌-◌, ◌++◌, ◌≢◌, ◌⊎◌, ◌↔◌, [], Some, length, replicate, nat_lt, slice_index_or, slice_set, IsErr, IsSome, IfOk, MatchResult, if◌then◌else◌}, Io.KnownBytes.{Keeps}};
+ghost use Rattle.zr_io.specs.{Moved.{AddsPiece, HasCause}, Memory.{raised, next_entry, front_out, kept_of, room_of, flows_with}, Reserved.{AreReserved, bytes_of}};
 
 use crate::calls::{entry_for, raise, receive};
 use crate::traits::{Failed, Shelf};
@@ -22,8 +18,7 @@ pub struct MemShelf {
 }
 
 impl Model for MemShelf {
-    ghost use Rattle.zr_io.specs.Memory.{Rack};
-    ghost use Rattle.zr_io.specs.Reserved.{AreReserved, bytes_of};
+    ghost use Rattle.zr_io.specs.{Memory.{Rack}, Reserved.{AreReserved, bytes_of}};
 
     ghost Value = { Rack };
 

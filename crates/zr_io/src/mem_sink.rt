@@ -1,7 +1,6 @@
 //! A sink over memory.
 ghost use Rattle.std.specs.Prelude.{◌≡◌, ◌<◌, ◌+◌, ◌-◌, ◌++◌, ◌⊎◌, ◌↔◌, [], Some, length, IsErr, IsSome, IfOk, MatchResult};
-ghost use Rattle.zr_io.specs.Moved.{AddsPiece, HasCause};
-ghost use Rattle.zr_io.specs.Memory.{raised, next_entry, front_out};
+ghost use Rattle.zr_io.specs.{Moved.{AddsPiece, HasCause}, Memory.{raised, next_entry, front_out}};
 
 use crate::calls::{entry_for, raise, receive};
 use crate::traits::{Failed, Sink};

@@ -1,9 +1,6 @@
 //! A source over memory.
-ghost use Rattle.std.specs.Prelude.{◌≡◌, ◌≤◌, ◌<◌, ◌↔◌, Some, length, min, drop, Contains, IsErr, IfOk, MatchResult};
-ghost use Rattle.std.specs.Io.{ReadsAtMost};
-ghost use Rattle.std.specs.Io.KnownBytes.{ReadConsumes};
-ghost use Rattle.zr_io.specs.Moved.{HasCause};
-ghost use Rattle.zr_io.specs.Memory.{raised};
+ghost use Rattle.std.specs.{Prelude.{◌≡◌, ◌≤◌, ◌<◌, ◌↔◌, Some, length, min, drop, Contains, IsErr, IfOk, MatchResult}, Io.{ReadsAtMost, KnownBytes.{ReadConsumes}}};
+ghost use Rattle.zr_io.specs.{Moved.{HasCause}, Memory.{raised}};
 
 use crate::traits::{Failed, Source};
 use std::marker::Model;

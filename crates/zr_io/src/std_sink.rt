@@ -1,7 +1,6 @@
 //! A sink over a writer of the system.
 ghost use Rattle.std.specs.Prelude.{◌≡◌, MatchResult};
-ghost use Rattle.zr_io.specs.Moved.{AddsPiece, HasCause};
-ghost use Rattle.zr_io.specs.Memory.{raised};
+ghost use Rattle.zr_io.specs.{Moved.{AddsPiece, HasCause}, Memory.{raised}};
 
 use crate::calls::raise;
 use crate::send::send;

@@ -1,9 +1,6 @@
 //! A source over a reader of the system.
-ghost use Rattle.std.specs.Prelude.{◌≡◌, ◌<◌, length, MatchResult};
-ghost use Rattle.std.specs.Io.{ReadsAtMost};
-ghost use Rattle.std.specs.Io.KnownBytes.{ReadConsumes};
-ghost use Rattle.zr_io.specs.Moved.{HasCause};
-ghost use Rattle.zr_io.specs.Memory.{raised};
+ghost use Rattle.std.specs.{Prelude.{◌≡◌, ◌<◌, length, MatchResult}, Io.{ReadsAtMost, KnownBytes.{ReadConsumes}}};
+ghost use Rattle.zr_io.specs.{Moved.{HasCause}, Memory.{raised}};
 
 use crate::calls::raise;
 use crate::traits::{Failed, Source};

@@ -1,7 +1,5 @@
 //! A source over memory that never fails.
-ghost use Rattle.std.specs.Prelude.{◌≡◌, ◌<◌, Some, length, min, drop, IsOk, IfOk};
-ghost use Rattle.std.specs.Io.{ReadsAtMost};
-ghost use Rattle.std.specs.Io.KnownBytes.{ReadConsumes};
+ghost use Rattle.std.specs.{Prelude.{◌≡◌, ◌<◌, Some, length, min, drop, IsOk, IfOk}, Io.{ReadsAtMost, KnownBytes.{ReadConsumes}}};
 ghost use Rattle.zr_io.specs.Moved.{HasCause};
 
 use crate::traits::{Failed, Source};

@@ -1,6 +1,4 @@
-ghost use Rattle.std.specs.Prelude.{◌≢◌, ℕ, ◌<◌, List, Option, length};
-ghost use Rattle.std.specs.Io.{ReadsAtMost};
-ghost use Rattle.std.specs.Io.KnownBytes.{Keeps, ReadConsumes};
+ghost use Rattle.std.specs.{Prelude.{◌≢◌, ℕ, ◌<◌, List, Option, length}, Io.{ReadsAtMost, KnownBytes.{Keeps, ReadConsumes}}};
 ghost use Rattle.zr_io.specs.Moved.{AddsPiece, HasCause};
 
 /// A call of a source, a sink or a shelf failed.

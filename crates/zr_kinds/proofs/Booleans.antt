@@ -1,6 +1,5 @@
 -- Tests, and numbers that stand where a test holds.
-use Rattle.std.proofs.Common.{◌≡◌, ℕ, ◌≤◌, Bool, true, false, refl, arith}
-use Rattle.std.specs.Prelude.{◌&&◌, if◌then◌else◌}
+use Rattle.std.{proofs.Common.{◌≡◌, ℕ, ◌≤◌, Bool, true, false, refl, arith}, specs.Prelude.{◌&&◌, if◌then◌else◌}}
 
 pub and-true : (c d : Bool) → d ≡ true → (c && d) ≡ c
 and-true true d e = e

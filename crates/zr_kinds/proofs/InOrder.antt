@@ -1,12 +1,9 @@
 -- The copying receiver where everything comes in order: the placed values are then a list, and what comes at its end
 -- is appended. And what holds in any order: the values at its front never change.
 use Rattle.std.proofs.Common.{◌≡◌, ℕ, zero, suc, ◌+◌, ◌-◌, ◌^◌, ◌≤◌, List, [], ◌∷◌, ◌++◌, length, nat_lt}
-use Rattle.std.proofs.Common.{if◌then◌else◌, Bool, true, false, Option, Some, None, refl, sym, ap, ◌∙◌, ◌⊎◌, ⊎_elim, inl, inr, arith}
-use Rattle.std.proofs.Common.{add-zero}
-use Rattle.std.proofs.lemmas.Bool.{le-ltb, cond_both}
-use Rattle.std.proofs.lemmas.Bool.Decides.{nat_tests}
-use Rattle.zr_kinds.specs.CopyingReceiver.{Placed, missing_within, next_missing, lead, accepts, value_at, brought, first_of, filled, received}
-use Rattle.zr_kinds.specs.CopyingReceiver.{values_from, front_of}
+use Rattle.std.proofs.Common.{if◌then◌else◌, Bool, true, false, Option, Some, None, refl, sym, ap, ◌∙◌, ◌⊎◌, ⊎_elim, inl, inr, arith, add-zero}
+use Rattle.std.proofs.lemmas.Bool.{le-ltb, cond_both, Decides.{nat_tests}}
+use Rattle.zr_kinds.specs.CopyingReceiver.{Placed, missing_within, next_missing, lead, accepts, value_at, brought, first_of, filled, received, values_from, front_of}
 
 -- the placed values are those of the list, and no other
 pub record IsInOrder {A : Type 0} (placed : Placed A) (out : List A) : Type 0 where

@@ -1,10 +1,8 @@
 -- The proof that `next_missing` is the least position where none stands: from the top on none ever does.
 use Rattle.std.proofs.Common.{◌≡◌, ℕ, zero, suc, ◌+◌, ◌-◌, ◌^◌, ◌<◌, ◌≤◌, List, [], ◌∷◌, length, nat_lt, Option, Some, None}
-use Rattle.std.proofs.Common.{IsSome, is_some, refl, sym, ap, ◌∙◌, ⊎_elim, arith, add-zero}
-use Rattle.std.proofs.lemmas.Bool.{cond_both, cases_eq, cases_order, both_ways}
+use Rattle.std.proofs.{Common.{IsSome, is_some, refl, sym, ap, ◌∙◌, ⊎_elim, arith, add-zero}, lemmas.Bool.{cond_both, cases_eq, cases_order, both_ways}}
 use Rattle.zr_kinds.specs.CopyingReceiver.{Placed, nothing_placed, missing_within, next_missing, lead, accepts, value_at, brought, filled, received}
-use Rattle.zr_kinds.specs.ReceiverLaws.{received_in_turn, IsLeastMissing, NextMissingIsLeast}
-use Rattle.zr_kinds.proofs.InOrder.{cases_Option}
+use Rattle.zr_kinds.{specs.ReceiverLaws.{received_in_turn, IsLeastMissing, NextMissingIsLeast}, proofs.InOrder.{cases_Option}}
 
 -- from the top on none stands
 pub record IsBounded {A : Type 0} (placed : Placed A) : Type 0 where

@@ -1,11 +1,8 @@
 -- The copying receiver looks at no value: if each value is mapped, what it has is mapped.
 use Rattle.std.proofs.Common.{◌≡◌, ℕ, zero, suc, ◌+◌, ◌-◌, ◌^◌, List, [], ◌∷◌, length, map, Bool, true, false, nat_lt}
-use Rattle.std.proofs.Common.{if◌then◌else◌, Option, Some, None, is_some, option_map, refl, sym, ap, ◌∙◌, ⊎_elim}
-use Rattle.std.proofs.lemmas.List.{length-map}
-use Rattle.zr_kinds.specs.CopyingReceiver.{Placed, nothing_placed, next_missing, lead, accepts, value_at, brought, first_of, filled, received, values_from}
-use Rattle.zr_kinds.specs.CopyingReceiver.{front_of}
-use Rattle.zr_kinds.specs.ReceiverLaws.{received_in_turn, mapped_pieces, IsMapped, LooksAtNoValue}
-use Rattle.zr_kinds.proofs.InOrder.{cases_Option}
+use Rattle.std.proofs.{Common.{if◌then◌else◌, Option, Some, None, is_some, option_map, refl, sym, ap, ◌∙◌, ⊎_elim}, lemmas.List.{length-map}}
+use Rattle.zr_kinds.specs.CopyingReceiver.{Placed, nothing_placed, next_missing, lead, accepts, value_at, brought, first_of, filled, received, values_from, front_of}
+use Rattle.zr_kinds.{specs.ReceiverLaws.{received_in_turn, mapped_pieces, IsMapped, LooksAtNoValue}, proofs.InOrder.{cases_Option}}
 use Rattle.zr_kinds.proofs.LeastMissing.{IsBounded, IsBounded-nothing, IsBounded-received, next_missing-least, same_least}
 
 module _ {A B : Type 0} (f : A → B) where

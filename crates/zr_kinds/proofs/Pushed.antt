@@ -1,8 +1,6 @@
 -- Values that are brought, with one more at the end, and where they come.
 use Rattle.std.proofs.Common.{◌≡◌, ℕ, zero, suc, ◌+◌, ◌-◌, ◌^◌, ◌<◌, ◌≤◌, List, [], ◌∷◌, ◌++◌, length, refl, ap, sym, ◌∙◌, arith, ⊎_elim}
-use Rattle.std.specs.Prelude.{◌==◌, if◌then◌else◌, Some, None}
-use Rattle.std.proofs.lemmas.Bool.{cases_lt, cond-false, le-ltb, lt-ltb, ne_eqb}
-use Rattle.std.proofs.lemmas.Bool.Decides.{nat_tests}
+use Rattle.std.{specs.Prelude.{◌==◌, if◌then◌else◌, Some, None}, proofs.lemmas.Bool.{cases_lt, cond-false, le-ltb, lt-ltb, ne_eqb, Decides.{nat_tests}}}
 use Rattle.zr_kinds.specs.CopyingReceiver.{value_at, brought, first_of}
 
 eqb-suc : (a b : ℕ) → (suc a == suc b) ≡ (a == b)

@@ -1,11 +1,7 @@
 -- The proof that `lead` less 2^31 is the signed distance.
-use Rattle.std.proofs.Common.{◌≡◌, ℕ, ◌+◌, ◌-◌, ◌%◌, ◌^◌, ◌<◌, ◌≤◌, pos, ◌+ℤ◌, arith, w32, ap, ◌∙◌, ⊎_elim, ltb}
-use Rattle.std.proofs.Common.{false}
-use Rattle.std.specs.Int.{cast_signed}
-use Rattle.std.proofs.lemmas.Int.{ints}
+use Rattle.std.{proofs.{Common.{◌≡◌, ℕ, ◌+◌, ◌-◌, ◌%◌, ◌^◌, ◌<◌, ◌≤◌, pos, ◌+ℤ◌, arith, w32, ap, ◌∙◌, ⊎_elim, ltb, false}, lemmas.Int.{ints}}, specs.Int.{cast_signed}}
 use Rattle.std.proofs.lemmas.Bool.{cases_lt, le-ltb}
-use Rattle.zr_kinds.specs.CopyingReceiver.{lead}
-use Rattle.zr_kinds.specs.ReceiverLaws.{LeadIsSignedDistance}
+use Rattle.zr_kinds.specs.{CopyingReceiver.{lead}, ReceiverLaws.{LeadIsSignedDistance}}
 
 -- a distance that reads as a positive number, and one that reads as a negative number
 ahead : (d : ℕ) → d < 2 ^ 31 → pos (d + 2 ^ 31) ≡ cast_signed w32 d +ℤ pos (2 ^ 31)

@@ -1,8 +1,6 @@
 -- The values from a position on: in two parts, how many they are, and that they stay where the same stands.
-use Rattle.std.proofs.Common.{◌≡◌, ℕ, zero, suc, ◌+◌, ◌<◌, ◌≤◌, ◌∷◌, ◌++◌, length, Option, Some, None, IsSome, refl, ap}
-use Rattle.std.proofs.Common.{◌∙◌, ⊎_elim, arith}
-use Rattle.zr_kinds.specs.CopyingReceiver.{first_of, values_from}
-use Rattle.zr_kinds.proofs.InOrder.{cases_Option}
+use Rattle.std.proofs.Common.{◌≡◌, ℕ, zero, suc, ◌+◌, ◌<◌, ◌≤◌, ◌∷◌, ◌++◌, length, Option, Some, None, IsSome, refl, ap, ◌∙◌, ⊎_elim, arith}
+use Rattle.zr_kinds.{specs.CopyingReceiver.{first_of, values_from}, proofs.InOrder.{cases_Option}}
 
 pub some_of : {A : Type 0} (found : Option A) → IsSome found → (value : A) × (found ≡ Some value)
 some_of None is = absurd (cc)

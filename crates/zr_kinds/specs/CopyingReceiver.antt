@@ -1,8 +1,7 @@
 -- The copying receiver, the measure of all streams: a base, values at positions, and the least position n where none
 -- stands. Sequence numbers are those of RFC 9293, 3.4: they count modulo 2^32, and the distance from the base's n-th
 -- place is read as a signed 32-bit number. What is received first counts at each position.
-use Rattle.std.specs.Prelude.{ℕ, zero, suc, ◌+◌, ◌-◌, ◌%◌, ◌^◌, max, List, [], ◌∷◌, length, nat_lt, nat_le, if◌then◌else◌, Bool}
-use Rattle.std.specs.Prelude.{◌&&◌, Option, Some, None}
+use Rattle.std.specs.Prelude.{ℕ, zero, suc, ◌+◌, ◌-◌, ◌%◌, ◌^◌, max, List, [], ◌∷◌, length, nat_lt, nat_le, if◌then◌else◌, Bool, ◌&&◌, Option, Some, None}
 
 -- values at positions; from top on none stands
 pub record Placed (A : Type 0) : Type 0 where

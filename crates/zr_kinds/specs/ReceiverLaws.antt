@@ -1,6 +1,5 @@
 -- What the definition of the copying receiver says, in the field's own words.
-use Rattle.std.specs.Prelude.{◌≡◌, ℕ, ◌+◌, ◌-◌, ◌%◌, ◌^◌, ◌<◌, pos, ◌+ℤ◌, List, [], ◌∷◌, map, None, IsSome, option_map}
-use Rattle.std.specs.Int.{cast_signed}
+use Rattle.std.specs.{Prelude.{◌≡◌, ℕ, ◌+◌, ◌-◌, ◌%◌, ◌^◌, ◌<◌, pos, ◌+ℤ◌, List, [], ◌∷◌, map, None, IsSome, option_map}, Int.{cast_signed}}
 use mir.Syntax.{w32}
 use Rattle.zr_kinds.specs.CopyingReceiver.{Placed, nothing_placed, next_missing, lead, received, front_of}
 

@@ -16,6 +16,3 @@ pub use outcome::{AppLine, Ended, FlowEnd, FlowLine, PoolStats, Tally};
 pub use place::{Note, Place};
 pub use receiver::{lead_is_signed_distance, next_missing_is_least, receiver_looks_at_no_value};
 pub use ring::{Completion, Rqe};
-
-#[cfg(test)]
-mod tests;

@@ -1,5 +1,4 @@
-ghost use Rattle.board_face.specs.Used.{UnusedAreCached};
-ghost use Rattle.board_face.specs.Laws.{TakeLaw, SweepLaw, PlaceLaw, SendLaw, ShutLaw, HonourLaw, StrayLaw, CardKeeps};
+ghost use Rattle.board_face.specs.{Used.{UnusedAreCached}, Laws.{TakeLaw, SweepLaw, PlaceLaw, SendLaw, ShutLaw, HonourLaw, StrayLaw, CardKeeps}};
 
 /// `take`: its buffer has one holder more, and leaves the cache.
 pub fn take_law()

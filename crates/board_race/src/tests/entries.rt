@@ -1,7 +1,6 @@
 //! Entries over one area and two: strays where nothing is owed, and the entry of a loan in the second area.
 ghost use Rattle.std.specs.Prelude.{◌≡◌};
-ghost use Rattle.face_table.specs.CardHand.{IsCardHand};
-ghost use Rattle.face_table.specs.AppHand.{IsAppHand};
+ghost use Rattle.face_table.specs.{CardHand.{IsCardHand}, AppHand.{IsAppHand}};
 ghost use Rattle.plain_board.specs.Board.{side_of};
 
 use super::free_over;

@@ -1,6 +1,4 @@
-ghost use Rattle.event_log.specs.AppLaws.{TookNoteLaw, CutLaw, ReleasedLaw, LentLaw, BackLaw, GotSpareLaw, LentOwnLaw, AppUnloggedLaw};
-ghost use Rattle.event_log.specs.Fills.{FillsLaw};
-ghost use Rattle.event_log.specs.ScrubLaw.{ScrubbedLaw};
+ghost use Rattle.event_log.specs.{AppLaws.{TookNoteLaw, CutLaw, ReleasedLaw, LentLaw, BackLaw, GotSpareLaw, LentOwnLaw, AppUnloggedLaw}, Fills.{FillsLaw}, ScrubLaw.{ScrubbedLaw}};
 
 /// An application took the note of a piece: `Held`.
 pub fn took_note()

@@ -1,9 +1,4 @@
-ghost use Rattle.event_log.specs.Logs.{FirstEventsLaw};
-ghost use Rattle.event_log.specs.Settings.{SettingLaw};
-ghost use Rattle.event_log.specs.SideLaw.{OneSideLaw};
-ghost use Rattle.event_log.specs.SoundLaw.{SoundLaw};
-ghost use Rattle.event_log.specs.RunLaws.{OpenedLaw, EndedLaw};
-ghost use Rattle.event_log.specs.ToldLaw.{ToldLaw};
+ghost use Rattle.event_log.specs.{Logs.{FirstEventsLaw}, Settings.{SettingLaw}, SideLaw.{OneSideLaw}, SoundLaw.{SoundLaw}, RunLaws.{OpenedLaw, EndedLaw}, ToldLaw.{ToldLaw}};
 
 /// A log that takes the events of a board one after another has the first of them that it has room for, and is whole where
 /// these are all.

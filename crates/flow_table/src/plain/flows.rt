@@ -1,7 +1,6 @@
 ghost use Rattle.std.specs.Prelude.{◌≡◌, map, option_map, IfOk, OnOk};
 ghost use Rattle.frame_headers.specs.Seen.{shown};
-ghost use Rattle.flow_table.specs.Flows.{key_of, same_addr, same_key, newest, begins_anew, number_of_flow, new_flow, seen_by, flows_with, flows_of, of_flow};
-ghost use Rattle.flow_table.specs.Plain.{steered_shown, flow_shown, found_shown};
+ghost use Rattle.flow_table.specs.{Flows.{key_of, same_addr, same_key, newest, begins_anew, number_of_flow, new_flow, seen_by, flows_with, flows_of, of_flow}, Plain.{steered_shown, flow_shown, found_shown}};
 
 use super::steered::SteeredSegment;
 use crate::close::Close;

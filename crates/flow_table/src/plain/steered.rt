@@ -1,7 +1,6 @@
 ghost use Rattle.std.specs.Prelude.{◌≡◌, ◌<◌, ◌^◌, length, map, option_map, IfOk};
 ghost use Rattle.frame_headers.specs.Seen.{segment_seen};
-ghost use Rattle.flow_table.specs.Steered.{steer, steered_of};
-ghost use Rattle.flow_table.specs.Plain.{steered_shown};
+ghost use Rattle.flow_table.specs.{Steered.{steer, steered_of}, Plain.{steered_shown}};
 
 use crate::segment::app_of;
 use frame_headers::{Seen, Segment};

@@ -1,6 +1,5 @@
 ghost use Rattle.std.specs.Prelude.{◌≡◌, ℕ, ◌<◌, ◌≤◌, [], ◌∷◌, false, IsTrue};
-ghost use Rattle.board_face.specs.AppCalls.{IsHere};
-ghost use Rattle.board_face.specs.NicCalls.{IsOpen, HasNoToken, apps_of};
+ghost use Rattle.board_face.specs.{AppCalls.{IsHere}, NicCalls.{IsOpen, HasNoToken, apps_of}};
 ghost use Rattle.face_callers.specs.Reader.{HasNothing};
 ghost use Rattle.plain_board.specs.Board.{side_of};
 

@@ -1,5 +1,4 @@
-ghost use Rattle.ref_words.specs.Runs.{RunsKeepTheRule};
-ghost use Rattle.ref_words.specs.Middle.{IsInhabited};
+ghost use Rattle.ref_words.specs.{Runs.{RunsKeepTheRule}, Middle.{IsInhabited}};
 
 use crate::laws::area::{k11, k12};
 use crate::laws::free::{k18, k19, k20, k21};

@@ -1,5 +1,4 @@
-ghost use Rattle.ref_words.specs.SlotLaws.{WriterLooksLaw, FreeSlotLaw, RawSlotLaw, StoreLaw, PublishLaw, PublishNoteLaw};
-ghost use Rattle.ref_words.specs.SlotLaws.{ReaderLooksLaw, LoadLaw, FreeLaw, TakeNoteLaw};
+ghost use Rattle.ref_words.specs.SlotLaws.{WriterLooksLaw, FreeSlotLaw, RawSlotLaw, StoreLaw, PublishLaw, PublishNoteLaw, ReaderLooksLaw, LoadLaw, FreeLaw, TakeNoteLaw};
 
 /// The writer of a ring looks at the flag of its next slot.
 pub fn k13()

@@ -1,10 +1,6 @@
 ghost use Rattle.std.specs.Prelude.{◌≡◌, ◌+◌, ◌^◌, ◌<◌, true, map, slice_index, Contains};
 ghost use Rattle.area_layout.specs.Layout.{total};
-ghost use Rattle.board_face.specs.AppCalls.{IsHere, HasHeld, HasNoneIn};
-ghost use Rattle.board_face.specs.AppEvents.{cut, reserve_of};
-ghost use Rattle.board_face.specs.Sides.{app_at};
-ghost use Rattle.board_face.specs.Texts.{unsplit_bytes};
-ghost use Rattle.board_face.specs.Steps.{HasSearched, side_released, side_spare_begun, side_owes_lowered};
+ghost use Rattle.board_face.specs.{AppCalls.{IsHere, HasHeld, HasNoneIn}, AppEvents.{cut, reserve_of}, Sides.{app_at}, Texts.{unsplit_bytes}, Steps.{HasSearched, side_released, side_spare_begun, side_owes_lowered}};
 
 use crate::app_steps::AppStepper;
 use ref_words::laws;

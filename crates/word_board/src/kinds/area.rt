@@ -1,11 +1,7 @@
 ghost use Rattle.std.specs.Prelude.{◌≡◌, ◌+◌, ◌*◌, ◌<◌, ◌≤◌, length};
 ghost use Rattle.area_layout.specs.Layout.{LiesIn, first_word};
-ghost use Rattle.board_face.specs.AppCalls.{HasSpare};
-ghost use Rattle.board_face.specs.AppEvents.{begin_place};
-ghost use Rattle.board_face.specs.NicCalls.{HasOwn};
-ghost use Rattle.board_face.specs.Tokens.{filled_by, next_place};
-ghost use Rattle.ref_words.specs.AreaLaws.{IsMadeAt, IsMadeThere, IsLastWord};
-ghost use Rattle.ref_words.specs.AreaSteps.{made_words, side_piece_stored, side_piece_placed, side_spare_stored, side_spare_filled};
+ghost use Rattle.board_face.specs.{AppCalls.{HasSpare}, AppEvents.{begin_place}, NicCalls.{HasOwn}, Tokens.{filled_by, next_place}};
+ghost use Rattle.ref_words.specs.{AreaLaws.{IsMadeAt, IsMadeThere, IsLastWord}, AreaSteps.{made_words, side_piece_stored, side_piece_placed, side_spare_stored, side_spare_filled}};
 
 use crate::app_steps::AppStepper;
 use crate::card_steps::CardStepper;

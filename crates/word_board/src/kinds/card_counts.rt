@@ -1,10 +1,6 @@
 ghost use Rattle.std.specs.Prelude.{◌≡◌, ◌+◌, ◌<◌, ◌≤◌, [], ◌∷◌, ◌++◌, None, Some};
 ghost use Rattle.area_layout.specs.Layout.{total};
-ghost use Rattle.board_face.specs.NicCalls.{IsOpen, HasOwn, HasNothingIn};
-ghost use Rattle.board_face.specs.NicEvents.{took};
-ghost use Rattle.board_face.specs.Sides.{nic_at};
-ghost use Rattle.board_face.specs.Steps.{side_begun, side_shut, side_both_lowered};
-ghost use Rattle.board_face.specs.declared.views.nic.Judged.TheVariants.{UserLowered};
+ghost use Rattle.board_face.specs.{NicCalls.{IsOpen, HasOwn, HasNothingIn}, NicEvents.{took}, Sides.{nic_at}, Steps.{side_begun, side_shut, side_both_lowered}, declared.views.nic.Judged.TheVariants.{UserLowered}};
 
 use crate::card_steps::CardStepper;
 use board_face::Filling;

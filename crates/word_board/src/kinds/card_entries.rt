@@ -1,15 +1,9 @@
 ghost use Rattle.std.specs.Prelude.{◌≡◌, ◌+◌, ◌<◌, [], ◌∷◌, ◌++◌, true, false, None, Some, length, IfNone};
 ghost use Rattle.area_layout.specs.Layout.{judged};
-ghost use Rattle.board_face.specs.NicCalls.{apps_of};
-ghost use Rattle.board_face.specs.SlotSteps.{next_slot, side_entry_looked, side_entry_loaded, side_in_hand, side_dealt};
-ghost use Rattle.board_face.specs.declared.views.nic.Fate.TheVariants.{Honoured, Stray};
-ghost use Rattle.board_face.specs.declared.views.nic.Judged.TheVariants.{Not, Stray as judged_stray, BothLowered};
+ghost use Rattle.board_face.specs.{NicCalls.{apps_of}, SlotSteps.{next_slot, side_entry_looked, side_entry_loaded, side_in_hand, side_dealt}, declared.views.nic.{Fate.TheVariants.{Honoured, Stray}, Judged.TheVariants.{Not, Stray as judged_stray, BothLowered}}, NicEvents.{nic_gist}};
 ghost use Rattle.word_rings.specs.Slots.{refill_width, entry_of};
-ghost use Rattle.ref_words.specs.Rings.{takes_entry_at};
-ghost use Rattle.ref_words.specs.SlotLaws.{refill_words_at};
-ghost use Rattle.word_board.specs.Board.{side_entry_taken};
-ghost use Rattle.board_face.specs.NicEvents.{nic_gist};
-ghost use Rattle.word_board.specs.Told.{SawRingEmpty};
+ghost use Rattle.ref_words.specs.{Rings.{takes_entry_at}, SlotLaws.{refill_words_at}};
+ghost use Rattle.word_board.specs.{Board.{side_entry_taken}, Told.{SawRingEmpty}};
 
 use crate::card_steps::CardStepper;
 use ref_words::laws;

@@ -1,13 +1,6 @@
 ghost use Rattle.std.specs.Prelude.{◌≡◌, ◌<◌, [], ◌∷◌, true, length, nat_lt, if◌then◌else◌, Some};
 ghost use Rattle.area_layout.specs.Layout.{total, pool_buffers};
-ghost use Rattle.board_face.specs.AppCalls.{HasHeld};
-ghost use Rattle.board_face.specs.AppEvents.{released};
-ghost use Rattle.board_face.specs.NicCalls.{HasOwn, apps_of};
-ghost use Rattle.board_face.specs.NicEvents.{cache_room, shut, gave_up};
-ghost use Rattle.board_face.specs.Sides.{nic_at, app_at};
-ghost use Rattle.board_face.specs.SlotSteps.{next_slot, side_dealt};
-ghost use Rattle.board_face.specs.declared.views.nic.Fate.TheVariants.{Honoured};
-ghost use Rattle.board_face.specs.declared.views.nic.Judged.TheVariants.{Owed};
+ghost use Rattle.board_face.specs.{AppCalls.{HasHeld}, AppEvents.{released}, NicCalls.{HasOwn, apps_of}, NicEvents.{cache_room, shut, gave_up}, Sides.{nic_at, app_at}, SlotSteps.{next_slot, side_dealt}, declared.views.nic.{Fate.TheVariants.{Honoured}, Judged.TheVariants.{Owed}}};
 ghost use Rattle.ref_words.specs.Rings.{takes_entry_at};
 
 use crate::app_steps::AppStepper;

@@ -1,11 +1,7 @@
 ghost use Rattle.std.specs.Prelude.{◌≡◌, ◌<◌, [], true, None, Some, ◌≢◌};
 ghost use Rattle.area_layout.specs.Layout.{total, pool_buffers, judged};
-ghost use Rattle.board_face.specs.NicCalls.{DealtWith, apps_of};
-ghost use Rattle.board_face.specs.SlotSteps.{next_slot};
-ghost use Rattle.board_face.specs.declared.views.nic.Judged.TheVariants.{Not};
+ghost use Rattle.board_face.specs.{NicCalls.{DealtWith, apps_of}, SlotSteps.{next_slot}, declared.{views.nic.Judged.TheVariants.{Not}, answers.Entry.TheVariants.{Empty as got_none}}, NicEvents.{nic_gist}};
 ghost use Rattle.ref_words.specs.Rings.{takes_entry_at};
-ghost use Rattle.board_face.specs.NicEvents.{nic_gist};
-ghost use Rattle.board_face.specs.declared.answers.Entry.TheVariants.{Empty as got_none};
 ghost use Rattle.word_board.specs.Told.{SawRingEmpty};
 
 use crate::card_steps::CardStepper;

@@ -1,8 +1,7 @@
 //! Loads by which the desk learns what the rule says of the roles that are back.
 ghost use Rattle.std.specs.Prelude.{◌≡◌, ℕ, ◌<◌, ◌≤◌, if◌then◌else◌, nat_eq, count_by, length};
 ghost use Rattle.area_layout.specs.Layout.{pool_buffers};
-ghost use Rattle.word_board.specs.Board.{card_of};
-ghost use Rattle.word_board.specs.Desk.{AreOfBoard, AreOver, AreServed, AllAreBack, HasNoHolders};
+ghost use Rattle.word_board.specs.{Board.{card_of}, Desk.{AreOfBoard, AreOver, AreServed, AllAreBack, HasNoHolders}};
 
 use crate::kinds::WORD_BITS;
 use crate::rule::{SharedWords, WordSeat};

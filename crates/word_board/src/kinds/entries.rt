@@ -1,10 +1,7 @@
 ghost use Rattle.std.specs.Prelude.{◌≡◌, ◌+◌, ◌<◌, true, false, length, if◌then◌else◌};
-ghost use Rattle.board_face.specs.AppCalls.{HasLoan, NamesNoLoan};
-ghost use Rattle.board_face.specs.AppEvents.{entry_of};
-ghost use Rattle.board_face.specs.SlotSteps.{seen_with, at_refill, side_refill_looked, side_refill_stored, side_gave, side_pushed};
+ghost use Rattle.board_face.specs.{AppCalls.{HasLoan, NamesNoLoan}, AppEvents.{entry_of, app_gist}, SlotSteps.{seen_with, at_refill, side_refill_looked, side_refill_stored, side_gave, side_pushed}};
 ghost use Rattle.word_rings.specs.Slots.{refill_width, entry_body};
 ghost use Rattle.ref_words.specs.Rings.{EntryFits, writes_entry_at};
-ghost use Rattle.board_face.specs.AppEvents.{app_gist};
 ghost use Rattle.word_board.specs.Told.{SawRefillInUse};
 
 use crate::app_steps::AppStepper;

@@ -1,12 +1,7 @@
 ghost use Rattle.std.specs.Prelude.{◌≡◌, ◌/◌, ◌<◌, ◌==◌, true, length, Contains, false};
 ghost use Rattle.area_layout.specs.Layout.{pool_buffers};
-ghost use Rattle.board_face.specs.AppCalls.{MaySpare};
-ghost use Rattle.board_face.specs.NicCalls.{free_words_of};
-ghost use Rattle.board_face.specs.NicEvents.{word_bits};
-ghost use Rattle.board_face.specs.Used.{PicksAreGiven};
-ghost use Rattle.ref_words.specs.FreeLaws.{IsSwept};
-ghost use Rattle.ref_words.specs.FreeSteps.{side_swept, side_nic_listed, side_app_listed, side_word_looked, side_bit_cleared};
-ghost use Rattle.board_face.specs.AppEvents.{app_gist};
+ghost use Rattle.board_face.specs.{AppCalls.{MaySpare}, NicCalls.{free_words_of}, NicEvents.{word_bits}, Used.{PicksAreGiven}, AppEvents.{app_gist}};
+ghost use Rattle.ref_words.specs.{FreeLaws.{IsSwept}, FreeSteps.{side_swept, side_nic_listed, side_app_listed, side_word_looked, side_bit_cleared}};
 ghost use Rattle.word_board.specs.Told.{SawFree, SawUnlisted};
 
 use crate::app_steps::AppStepper;

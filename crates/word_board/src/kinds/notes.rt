@@ -1,15 +1,8 @@
 ghost use Rattle.std.specs.Prelude.{◌≡◌, ◌+◌, ◌<◌, ◌≤◌, [], true, false, length, take, drop, if◌then◌else◌, All};
 ghost use Rattle.area_layout.specs.Layout.{area_of_buffer, pool_buffers};
-ghost use Rattle.board_face.specs.NicCalls.{apps_of, IsOpen, HasPiece};
-ghost use Rattle.board_face.specs.NicEvents.{text_at};
-ghost use Rattle.board_face.specs.Texts.{IsSplitNote, IsLinearNote};
-ghost use Rattle.board_face.specs.SlotSteps.{next_slot, seen_with, at_note, side_note_looked, side_note_stored};
-ghost use Rattle.board_face.specs.SlotSteps.{side_sent, side_sent_linear};
-ghost use Rattle.word_rings.specs.Slots.{note_width, note_body, IsBlankFrom};
-ghost use Rattle.word_rings.specs.Texts.{text_count};
-ghost use Rattle.ref_words.specs.Rings.{NoteFits, writes_note_at, left_in_note, note_so_far};
-ghost use Rattle.ref_words.specs.SlotLaws.{note_words_at};
-ghost use Rattle.board_face.specs.NicEvents.{nic_gist};
+ghost use Rattle.board_face.specs.{NicCalls.{apps_of, IsOpen, HasPiece}, NicEvents.{text_at, nic_gist}, Texts.{IsSplitNote, IsLinearNote}, SlotSteps.{next_slot, seen_with, at_note, side_note_looked, side_note_stored, side_sent, side_sent_linear}};
+ghost use Rattle.word_rings.specs.{Slots.{note_width, note_body, IsBlankFrom}, Texts.{text_count}};
+ghost use Rattle.ref_words.specs.{Rings.{NoteFits, writes_note_at, left_in_note, note_so_far}, SlotLaws.{note_words_at}};
 ghost use Rattle.word_board.specs.Told.{SawNoteInUse};
 
 use crate::card_steps::CardStepper;

@@ -1,16 +1,7 @@
 ghost use Rattle.std.specs.Prelude.{◌≡◌, ◌<◌, true, false, None, MatchBool};
 ghost use Rattle.area_layout.specs.Layout.{total};
-ghost use Rattle.board_face.specs.NicCalls.{HasNoToken, NicOnlySaw, apps_of};
-ghost use Rattle.board_face.specs.NicEvents.{saw_leave};
-ghost use Rattle.board_face.specs.AppCalls.{HasLoan, CanLeave};
-ghost use Rattle.board_face.specs.AppEvents.{reserve_of};
-ghost use Rattle.board_face.specs.Steps.{HasSearched};
-ghost use Rattle.board_face.specs.declared.views.nic.NicLook.TheVariants.{NotLeft};
-ghost use Rattle.ref_words.specs.PhaseSteps.{side_ended, side_leave_looked, side_left, side_end_looked, side_note_sought};
-ghost use Rattle.ref_words.specs.PhaseSteps.{side_reserve_looked, side_abandoned};
-ghost use Rattle.ref_words.specs.Rings.{takes_note_at};
-ghost use Rattle.board_face.specs.NicEvents.{nic_gist};
-ghost use Rattle.board_face.specs.AppEvents.{app_gist};
+ghost use Rattle.board_face.specs.{NicCalls.{HasNoToken, NicOnlySaw, apps_of}, NicEvents.{saw_leave, nic_gist}, AppCalls.{HasLoan, CanLeave}, AppEvents.{reserve_of, app_gist}, Steps.{HasSearched}, declared.views.nic.NicLook.TheVariants.{NotLeft}};
+ghost use Rattle.ref_words.specs.{PhaseSteps.{side_ended, side_leave_looked, side_left, side_end_looked, side_note_sought, side_reserve_looked, side_abandoned}, Rings.{takes_note_at}};
 ghost use Rattle.word_board.specs.Told.{SawNotLeft, SawNotEnded, SawNoNote, SawReserveHeld};
 
 use crate::app_steps::AppStepper;

@@ -1,10 +1,7 @@
 ghost use Rattle.std.specs.Prelude.{◌≡◌, ◌+◌, ◌%◌, ◌<◌, ◌≤◌, ◌++◌, length};
 ghost use Rattle.area_layout.specs.Layout.{LiesIn, first_word};
-ghost use Rattle.board_face.specs.AppCalls.{HasLoan, ShowsCopy};
-ghost use Rattle.board_face.specs.AppEvents.{loan_origin, has_read};
-ghost use Rattle.board_face.specs.Sides.{app_at};
-ghost use Rattle.ref_words.specs.AreaLaws.{part_of};
-ghost use Rattle.ref_words.specs.AreaSteps.{side_loaded};
+ghost use Rattle.board_face.specs.{AppCalls.{HasLoan, ShowsCopy}, AppEvents.{loan_origin, has_read}, Sides.{app_at}};
+ghost use Rattle.ref_words.specs.{AreaLaws.{part_of}, AreaSteps.{side_loaded}};
 ghost use Rattle.word_board.specs.Reads.{HasReadSoFar};
 
 use crate::app_steps::AppStepper;

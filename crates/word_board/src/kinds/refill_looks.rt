@@ -1,8 +1,6 @@
 ghost use Rattle.std.specs.Prelude.{◌≡◌, ℕ, ◌<◌, ◌∷◌, true, if◌then◌else◌, Some, None, MatchOption, Contains, false};
-ghost use Rattle.board_face.specs.AppEvents.{app_saw, fell_quiet};
-ghost use Rattle.board_face.specs.declared.views.app.AppLook.TheVariants.{NotQuiet};
+ghost use Rattle.board_face.specs.{AppEvents.{app_saw, fell_quiet, app_gist}, declared.views.app.AppLook.TheVariants.{NotQuiet}};
 ghost use Rattle.ref_words.specs.RestSteps.{side_raw_looked, side_any_looked, side_last_looked};
-ghost use Rattle.board_face.specs.AppEvents.{app_gist};
 ghost use Rattle.word_board.specs.Told.{IsToldToApp, IsRawInUse, IsOneInUse};
 
 use crate::app_steps::AppStepper;

@@ -1,8 +1,6 @@
 ghost use Rattle.std.specs.Prelude.{◌≡◌, ◌<◌, Some};
 ghost use Rattle.area_layout.specs.Layout.{total};
-ghost use Rattle.board_face.specs.NicCalls.{apps_of};
-ghost use Rattle.board_face.specs.Steps.{side_both_lowered};
-ghost use Rattle.board_face.specs.declared.views.nic.Judged.TheVariants.{Owed};
+ghost use Rattle.board_face.specs.{NicCalls.{apps_of}, Steps.{side_both_lowered}, declared.views.nic.Judged.TheVariants.{Owed}};
 
 use crate::card_steps::CardStepper;
 use crate::kinds::{lower_returned, lower_user};

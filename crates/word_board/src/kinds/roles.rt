@@ -1,8 +1,6 @@
 ghost use Rattle.std.specs.Prelude.{◌≡◌, ◌+◌, ◌<◌, []};
-ghost use Rattle.board_face.specs.NicCalls.{apps_of};
-ghost use Rattle.board_face.specs.Opened.{new_nic, new_app};
-ghost use Rattle.ref_words.specs.Seated.{times_in, card_view, app_view, due_view, dealt_out, both_sides};
-ghost use Rattle.ref_words.specs.declared.view.View.{View};
+ghost use Rattle.board_face.specs.{NicCalls.{apps_of}, Opened.{new_nic, new_app}};
+ghost use Rattle.ref_words.specs.{Seated.{times_in, card_view, app_view, due_view, dealt_out, both_sides}, declared.view.View.{View}};
 
 use crate::rule::{SharedWords, Together, WordSeat};
 use crate::steps::{deal_as, swap_as};

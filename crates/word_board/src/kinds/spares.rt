@@ -1,14 +1,8 @@
 ghost use Rattle.std.specs.Prelude.{◌≡◌, ◌<◌, [], MatchOption};
 ghost use Rattle.area_layout.specs.Layout.{IsLayout, pool_buffers, total};
-ghost use Rattle.board_face.specs.AppCalls.{IsHere, MaySpare};
-ghost use Rattle.board_face.specs.AppEvents.{reserve_of};
-ghost use Rattle.board_face.specs.NicCalls.{free_words_of};
-ghost use Rattle.board_face.specs.Steps.{side_picked};
-ghost use Rattle.board_face.specs.Used.{PicksAreGiven};
+ghost use Rattle.board_face.specs.{AppCalls.{IsHere, MaySpare}, AppEvents.{reserve_of, app_gist}, NicCalls.{free_words_of}, Steps.{side_picked}, Used.{PicksAreGiven}};
 ghost use Rattle.ref_words.specs.FreeSteps.{side_word_without};
-ghost use Rattle.word_board.specs.Spares.{Searched, FoundNone, TookListed, TookSpare, TookNoSpare};
-ghost use Rattle.board_face.specs.AppEvents.{app_gist};
-ghost use Rattle.word_board.specs.Told.{SawWithout, SawNoneListed, SawReserveHeld, IsLowestSeen, IsFirstSeen};
+ghost use Rattle.word_board.specs.{Spares.{Searched, FoundNone, TookListed, TookSpare, TookNoSpare}, Told.{SawWithout, SawNoneListed, SawReserveHeld, IsLowestSeen, IsFirstSeen}};
 
 use crate::app_steps::AppStepper;
 use crate::kinds::{

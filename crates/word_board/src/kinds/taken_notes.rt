@@ -1,16 +1,8 @@
 ghost use Rattle.std.specs.Prelude.{◌≡◌, ◌+◌, ◌<◌, ◌≤◌, [], ◌∷◌, ◌++◌, true, false, length, take, drop, MatchBool};
-ghost use Rattle.board_face.specs.AppCalls.{TookNote};
-ghost use Rattle.board_face.specs.AppEvents.{took_note};
-ghost use Rattle.board_face.specs.Texts.{IsLinearNote};
-ghost use Rattle.board_face.specs.SlotSteps.{seen_with, at_slot, side_slot_loaded, side_took_note, side_took_linear};
+ghost use Rattle.board_face.specs.{AppCalls.{TookNote}, AppEvents.{took_note, app_gist}, Texts.{IsLinearNote}, SlotSteps.{seen_with, at_slot, side_slot_loaded, side_took_note, side_took_linear}, declared.answers.Polled.TheVariants.{Empty as got_none}};
 ghost use Rattle.word_rings.specs.Slots.{note_width, note_fields};
-ghost use Rattle.ref_words.specs.Rings.{takes_note_at};
-ghost use Rattle.ref_words.specs.SlotLaws.{loaded_note, loaded_bytes, note_loads};
-ghost use Rattle.word_board.specs.Board.{side_full_taken};
-ghost use Rattle.word_board.specs.Polls.{Polls};
-ghost use Rattle.board_face.specs.AppEvents.{app_gist};
-ghost use Rattle.board_face.specs.declared.answers.Polled.TheVariants.{Empty as got_none};
-ghost use Rattle.word_board.specs.Told.{SawNotEnded, SawNoNote};
+ghost use Rattle.ref_words.specs.{Rings.{takes_note_at}, SlotLaws.{loaded_note, loaded_bytes, note_loads}};
+ghost use Rattle.word_board.specs.{Board.{side_full_taken}, Polls.{Polls}, Told.{SawNotEnded, SawNoNote}};
 
 use crate::app_steps::AppStepper;
 use crate::kinds::{look_end, payload_words, seek_note};

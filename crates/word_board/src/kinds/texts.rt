@@ -1,11 +1,6 @@
 ghost use Rattle.std.specs.Prelude.{◌≡◌, ◌+◌, ◌<◌, ◌≤◌, length, None};
 ghost use Rattle.area_layout.specs.Layout.{LiesIn};
-ghost use Rattle.board_face.specs.AppCalls.{HasSpare};
-ghost use Rattle.board_face.specs.AppEvents.{begin_place, filled};
-ghost use Rattle.board_face.specs.NicCalls.{HasOwn};
-ghost use Rattle.board_face.specs.NicEvents.{placed};
-ghost use Rattle.board_face.specs.Sides.{nic_at, app_at};
-ghost use Rattle.board_face.specs.Tokens.{next_place};
+ghost use Rattle.board_face.specs.{AppCalls.{HasSpare}, AppEvents.{begin_place, filled}, NicCalls.{HasOwn}, NicEvents.{placed}, Sides.{nic_at, app_at}, Tokens.{next_place}};
 
 use crate::app_steps::AppStepper;
 use crate::card_steps::CardStepper;

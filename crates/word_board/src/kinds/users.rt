@@ -1,12 +1,6 @@
 ghost use Rattle.std.specs.Prelude.{◌≡◌, ◌+◌, ◌^◌, ◌<◌, [], true, false, Some};
 ghost use Rattle.area_layout.specs.Layout.{total, judged};
-ghost use Rattle.board_face.specs.NicCalls.{apps_of};
-ghost use Rattle.board_face.specs.AppCalls.{HasHeld, HasSpare, IsFilled, CanLend};
-ghost use Rattle.board_face.specs.AppEvents.{lent, lent_own};
-ghost use Rattle.board_face.specs.Returns.{loans_out};
-ghost use Rattle.board_face.specs.Sides.{app_at};
-ghost use Rattle.board_face.specs.Steps.{side_judged, side_user_lowered, side_user_taken};
-ghost use Rattle.board_face.specs.declared.views.nic.Judged.TheVariants.{Not, Owed};
+ghost use Rattle.board_face.specs.{NicCalls.{apps_of}, AppCalls.{HasHeld, HasSpare, IsFilled, CanLend}, AppEvents.{lent, lent_own}, Returns.{loans_out}, Sides.{app_at}, Steps.{side_judged, side_user_lowered, side_user_taken}, declared.views.nic.Judged.TheVariants.{Not, Owed}};
 
 use crate::app_steps::AppStepper;
 use crate::card_steps::CardStepper;

@@ -1,13 +1,9 @@
 use Rattle.std.proofs.Common.{rules, ◌≡◌, ℕ, ◌+◌, List, ◌∷◌, drop, refl, subst, ap, ◌∙◌}
 use Rattle.zr_kinds.specs.declared.ring.Completion.{Completion}
 use Rattle.circular_buffer.specs.Buffer.{Buffer}
-use Rattle.board_face.specs.declared.views.app.LentPiece.{LentPiece}
-use Rattle.board_face.specs.declared.views.app.AppView.{AppView}
-use Rattle.flow_queues.specs.declared.queues.Lending.{Lending}
-use Rattle.flow_queues.specs.Core.{lent_piece, total}
-use Rattle.flow_queues.proofs.Tokens.{in-contains}
-use Rattle.app_worker.proofs.Oldest.{front-of}
-use Rattle.app_worker.proofs.LetGone.{AbandonsSome, abandons-none, abandons-one, first-lent}
+use Rattle.board_face.specs.declared.views.app.{LentPiece.{LentPiece}, AppView.{AppView}}
+use Rattle.flow_queues.{specs.{declared.queues.Lending.{Lending}, Core.{lent_piece, total}}, proofs.Tokens.{in-contains}}
+use Rattle.app_worker.proofs.{Oldest.{front-of}, LetGone.{AbandonsSome, abandons-none, abandons-one, first-lent}}
 use Rattle.app_worker.proofs.letting.abandon_all.Goals as goal
 
 pub loop-lending-init : goal.loop-lending-init

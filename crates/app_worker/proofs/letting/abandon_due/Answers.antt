@@ -1,9 +1,6 @@
 use Rattle.std.proofs.Common.{rules, ◌≡◌, ℕ, ◌≤◌, ◌+◌, Some, arith, ap}
-use Rattle.board_face.specs.declared.views.app.LentPiece.{LentPiece}
-use Rattle.board_face.specs.declared.views.app.AppView.{AppView}
-use Rattle.flow_queues.specs.declared.queues.Lending.{Lending}
-use Rattle.flow_queues.specs.Core.{IsIn, lent_piece, over_due, total}
-use Rattle.flow_queues.proofs.Tokens.{in-contains}
+use Rattle.board_face.specs.declared.views.app.{LentPiece.{LentPiece}, AppView.{AppView}}
+use Rattle.flow_queues.{specs.{declared.queues.Lending.{Lending}, Core.{IsIn, lent_piece, over_due, total}}, proofs.Tokens.{in-contains}}
 use Rattle.app_worker.proofs.LetGone.{AbandonsSome, abandons-none, abandons-one, first-lent, abandons-all}
 use Rattle.app_worker.proofs.letting.abandon_due.Goals as goal
 

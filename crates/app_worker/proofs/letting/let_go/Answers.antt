@@ -2,8 +2,7 @@ use Rattle.std.proofs.Common.{◌≡◌, [], ap}
 use Rattle.zr_kinds.specs.declared.ring.Completion.{Completion}
 use Rattle.circular_buffer.specs.Buffer.{Buffer}
 use Rattle.flow_queues.specs.declared.queues.Lending.{Lending}
-use Rattle.app_worker.specs.StateOf.{state_of}
-use Rattle.app_worker.proofs.Emptied.{gone-all, unread-out, due-still-out, leaked-still-out}
+use Rattle.app_worker.{specs.StateOf.{state_of}, proofs.Emptied.{gone-all, unread-out, due-still-out, leaked-still-out}}
 use Rattle.app_worker.proofs.letting.let_go.Goals as goal
 
 pub abandon_all-requires-clause-out : goal.abandon_all-requires-clause-out

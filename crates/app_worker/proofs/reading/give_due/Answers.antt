@@ -1,17 +1,9 @@
-use Rattle.std.proofs.Common.{rules, ◌≡◌, ◌<◌, ℕ, ap, ◌∙◌, refl, sym, inr, subst, Some, None, arith}
-use Rattle.std.specs.Prelude.{IfSome}
-use Rattle.area_layout.specs.Layout.{LiesIn, size_of, off_of, judged}
-use Rattle.area_layout.proofs.Words.{place_judged}
-use Rattle.zr_kinds.specs.declared.place.Place.{Place}
-use Rattle.board_face.specs.AppCalls.{HasPlace}
-use Rattle.board_face.specs.AppEvents.{gave}
-use Rattle.board_face.specs.declared.views.app.AppView.{AppView}
-use Rattle.zr_kinds.specs.declared.ring.Rqe.{Rqe}
-use Rattle.app_worker.specs.declared.stack.Stray.{Stray}
-use Rattle.flow_queues.specs.declared.queues.Lending.{Lending}
-use Rattle.flow_queues.specs.Core.{IsIn, lent_piece}
-use Rattle.app_worker.specs.Steps.{Gave, IsToFollow}
-use Rattle.flow_queues.proofs.Tokens.{in-contains, is-given, loan-lies, loan-some}
+use Rattle.std.{proofs.Common.{rules, ◌≡◌, ◌<◌, ℕ, ap, ◌∙◌, refl, sym, inr, subst, Some, None, arith}, specs.Prelude.{IfSome}}
+use Rattle.area_layout.{specs.Layout.{LiesIn, size_of, off_of, judged}, proofs.Words.{place_judged}}
+use Rattle.zr_kinds.specs.declared.{place.Place.{Place}, ring.Rqe.{Rqe}}
+use Rattle.board_face.specs.{AppCalls.{HasPlace}, AppEvents.{gave}, declared.views.app.AppView.{AppView}}
+use Rattle.app_worker.specs.{declared.stack.Stray.{Stray}, Steps.{Gave, IsToFollow}}
+use Rattle.flow_queues.{specs.{declared.queues.Lending.{Lending}, Core.{IsIn, lent_piece}}, proofs.Tokens.{in-contains, is-given, loan-lies, loan-some}}
 use Rattle.app_worker.proofs.reading.give_due.Goals as goal
 
 pub give-requires-clause-out : goal.give-requires-clause-out

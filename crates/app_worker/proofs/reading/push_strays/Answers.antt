@@ -1,11 +1,7 @@
 use Rattle.std.proofs.Common.{rules, ◌≡◌, ◌<◌, ◌⊎◌, ◌∙◌, arith, refl}
-use Rattle.board_face.specs.AppCalls.{AppOnlySaw, IsLive}
-use Rattle.board_face.specs.Looks.{AppRose}
-use Rattle.board_face.specs.AppEvents.{pushed_raw}
-use Rattle.board_face.specs.declared.views.app.AppLook.TheVariants.{RefillInUse}
+use Rattle.board_face.specs.{AppCalls.{AppOnlySaw, IsLive}, Looks.{AppRose}, AppEvents.{pushed_raw}, declared.views.app.AppLook.TheVariants.{RefillInUse}}
 use Rattle.board_face.specs.declared.views.app.AppView.{AppView}
-use Rattle.app_worker.proofs.Pushing.{pushed-either, pushed-saw, pushed-none}
-use Rattle.app_worker.proofs.Moving.{rose-after}
+use Rattle.app_worker.proofs.{Pushing.{pushed-either, pushed-saw, pushed-none}, Moving.{rose-after}}
 use Rattle.app_worker.proofs.reading.push_strays.Goals as goal
 
 pub returns-then-did-clause-pushes : goal.returns-then-did-clause-pushes

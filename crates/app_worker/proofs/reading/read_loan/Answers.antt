@@ -1,17 +1,10 @@
-use Rattle.board_face.specs.declared.views.app.TakenNote.{TakenNote}
-use Rattle.std.proofs.Common.{rules, List, ◌≡◌, ℕ, ◌+◌, ◌-◌, ◌≤◌, length, take, drop, length-append, refl, subst, arith, min}
-use Rattle.std.specs.Io.KnownBytes.{Appends}
-use Rattle.std.proofs.KnownBytes.{Keeps-trans}
-use Rattle.std.proofs.lemmas.List.{length-drop}
+use Rattle.board_face.specs.{declared.views.app.{TakenNote.{TakenNote}, AppView.{AppView}}, AppEvents.{has_read}}
+use Rattle.std.{proofs.Common.{rules, List, ◌≡◌, ℕ, ◌+◌, ◌-◌, ◌≤◌, length, take, drop, length-append, refl, subst, arith, min}, specs.Io.KnownBytes.{Appends}}
+use Rattle.std.proofs.{KnownBytes.{Keeps-trans}, lemmas.List.{length-drop}}
 use Rattle.zr_io.specs.Moved.{Gained}
-use Rattle.board_face.specs.AppEvents.{has_read}
-use Rattle.board_face.specs.declared.views.app.AppView.{AppView}
-use Rattle.flow_queues.specs.declared.queues.Lending.{Lending}
-use Rattle.flow_queues.specs.Core.{IsIn, LieApart, lent_piece}
-use Rattle.flow_queues.proofs.Tokens.{in-contains}
+use Rattle.flow_queues.{specs.{declared.queues.Lending.{Lending}, Core.{IsIn, LieApart, lent_piece}}, proofs.Tokens.{in-contains}}
 use Rattle.flow_queues.proofs.ReadLemmas.{IsReadTo, still-apart, still-out, only-then, only-read, one-more, some-more}
-use Rattle.app_worker.specs.ReadWhole.{IsReadUpTo}
-use Rattle.app_worker.proofs.ReadWhole.{read-on}
+use Rattle.app_worker.{specs.ReadWhole.{IsReadUpTo}, proofs.ReadWhole.{read-on}}
 use Rattle.app_worker.proofs.reading.read_loan.Goals as goal
 
 pub read-requires-clause-out : goal.read-requires-clause-out

@@ -1,16 +1,8 @@
 use Rattle.std.proofs.Common.{rules, ◌≡◌, ◌≢◌, ℕ, ◌<◌, ◌≤◌, true, false, List, [], Option, length, refl, sym, ap, ◌∙◌, arith, ⊎_elim, ◌⊎◌, inl, inr}
-use Rattle.std.specs.Prelude.{if◌then◌else◌}
-use Rattle.std.proofs.lemmas.Bool.{cases_Bool}
-use Rattle.std.proofs.lemmas.List.{nil_from_length}
-use Rattle.app_worker.specs.State.{State}
-use Rattle.app_worker.specs.StateOf.{state_of}
-use Rattle.app_worker.specs.Whole.{ReadOne}
-use Rattle.app_worker.proofs.Pushing.{back-did}
-use Rattle.app_worker.proofs.Moving.{looks-trans, rose-after}
-use Rattle.app_worker.specs.Stages.{kept_of}
+use Rattle.std.{specs.Prelude.{if◌then◌else◌}, proofs.lemmas.{Bool.{cases_Bool}, List.{nil_from_length}}}
+use Rattle.app_worker.{specs.{State.{State}, StateOf.{state_of}, Whole.{ReadOne}, Stages.{kept_of}}, proofs.{Pushing.{back-did}, Moving.{looks-trans, rose-after}}}
 use Rattle.app_worker.proofs.Through.{write-stopped, write-later, read-did, through-none, through-then, through-read, through-gave, through-in-use}
-use Rattle.app_worker.proofs.Quitting.{has-quit, quit-later}
-use Rattle.app_worker.proofs.stages.drain.Goals.{After-give_back}
+use Rattle.app_worker.proofs.{Quitting.{has-quit, quit-later}, stages.drain.Goals.{After-give_back}}
 use Rattle.app_worker.proofs.stages.drain.Goals as goal
 
 pub loop-face-init : goal.loop-face-init

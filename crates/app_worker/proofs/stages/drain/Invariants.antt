@@ -1,8 +1,6 @@
 -- Some were read and given back, or nothing happened yet.
 use Rattle.std.specs.Prelude.{◌⊎◌, ◌≡◌, ◌≢◌, ◌<◌, ◌≤◌, true, false, None, [], length}
-use Rattle.app_worker.specs.State.{app_steps}
-use Rattle.app_worker.specs.StateOf.{state_of}
-use Rattle.app_worker.specs.Stages.{Through, Untouched, kept_of}
+use Rattle.app_worker.specs.{State.{app_steps}, StateOf.{state_of}, Stages.{Through, Untouched, kept_of}}
 use Rattle.app_worker.proofs.stages.drain.Given as goal
 
 abbrev pub invariant-loop-face : goal.invariant-loop-face

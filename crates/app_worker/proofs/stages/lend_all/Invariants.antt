@@ -1,9 +1,6 @@
 -- All that was lent is reaped, and enough of it read.
 use Rattle.std.specs.Prelude.{◌≡◌, ◌-◌, ◌<◌, ◌≤◌, true, false, None, length}
-use Rattle.app_worker.specs.State.{app_steps, furthest}
-use Rattle.app_worker.specs.StateOf.{state_of}
-use Rattle.app_worker.specs.Whole.{HasNext}
-use Rattle.app_worker.specs.Stages.{Through, Untouched}
+use Rattle.app_worker.specs.{State.{app_steps, furthest}, StateOf.{state_of}, Whole.{HasNext}, Stages.{Through, Untouched}}
 use Rattle.app_worker.proofs.stages.lend_all.Given as goal
 
 abbrev pub invariant-loop-end : goal.invariant-loop-end

@@ -1,6 +1,5 @@
 use Rattle.std.proofs.Common.{◌∙◌, refl}
-use Rattle.app_worker.specs.StateOf.{state_of}
-use Rattle.app_worker.proofs.LentSoFar.{lent-none, lent-more, lent-further, lent-end}
+use Rattle.app_worker.{specs.StateOf.{state_of}, proofs.LentSoFar.{lent-none, lent-more, lent-further, lent-end}}
 use Rattle.app_worker.proofs.stages.lend_some.Goals as goal
 
 pub loop-did-init : goal.loop-did-init

@@ -1,8 +1,6 @@
 -- Some were lent, or nothing happened yet.
 use Rattle.std.specs.Prelude.{◌≡◌, ◌-◌}
-use Rattle.app_worker.specs.State.{app_steps, furthest}
-use Rattle.app_worker.specs.StateOf.{state_of}
-use Rattle.app_worker.proofs.LentSoFar.{LentSoFar}
+use Rattle.app_worker.{specs.{State.{app_steps, furthest}, StateOf.{state_of}}, proofs.LentSoFar.{LentSoFar}}
 use Rattle.app_worker.proofs.stages.lend_some.Given as goal
 
 abbrev pub invariant-loop-did : goal.invariant-loop-did

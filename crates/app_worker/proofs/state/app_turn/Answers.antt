@@ -1,14 +1,8 @@
 use Rattle.std.proofs.Common.{subst}
 use Rattle.board_face.specs.declared.views.app.AppView.{AppView}
-use Rattle.app_worker.specs.State.{State}
-use Rattle.app_worker.specs.StateOf.{state_of}
-use Rattle.app_worker.specs.Turns.{Answers}
-use Rattle.app_worker.specs.declared.turn.Turn.TheVariants.{Finished}
-use Rattle.app_worker.proofs.StreamLemmas.{stands-fronts, stands-failed, stands-all, stands-within}
-use Rattle.app_worker.proofs.TurnLemmas.{turns-keep}
-use Rattle.app_worker.proofs.FlowBytes.{stands-counted}
-use Rattle.app_worker.proofs.Counts.{copies-few, copies-within, loans-few, written-within}
-use Rattle.app_worker.proofs.ReadMarks.{given-read}
+use Rattle.app_worker.specs.{State.{State}, StateOf.{state_of}, Turns.{Answers}, declared.turn.Turn.TheVariants.{Finished}}
+use Rattle.app_worker.proofs.{StreamLemmas.{stands-fronts, stands-failed, stands-all, stands-within}, TurnLemmas.{turns-keep}, FlowBytes.{stands-counted}}
+use Rattle.app_worker.proofs.{Counts.{copies-few, copies-within, loans-few, written-within}, ReadMarks.{given-read}}
 use Rattle.app_worker.proofs.state.app_turn.Goals as goal
 
 pub returns-clause-fronts : goal.returns-clause-fronts

@@ -1,7 +1,6 @@
 use Rattle.std.proofs.Common.{rules, None, inl, inr, refl}
-use Rattle.app_worker.proofs.Pushing.{gave-whole, gave-part}
+use Rattle.app_worker.proofs.{Pushing.{gave-whole, gave-part}, Through.{goes-then}}
 use Rattle.app_worker.specs.declared.reading.Pushed.TheVariants as pushed
-use Rattle.app_worker.proofs.Through.{goes-then}
 use Rattle.app_worker.proofs.straying.give_back.Goals as goal
 
 pub returns-then-not-give_one-clause-goes : goal.returns-then-not-give_one-clause-goes

@@ -1,6 +1,4 @@
-use Rattle.app_worker.specs.State.{State}
-use Rattle.app_worker.specs.StateOf.{state_of}
-use Rattle.app_worker.proofs.Pushing.{push-left}
+use Rattle.app_worker.{specs.{State.{State}, StateOf.{state_of}}, proofs.Pushing.{push-left}}
 use Rattle.app_worker.proofs.straying.push_left.Goals as goal
 
 pub returns : goal.returns

@@ -1,17 +1,8 @@
 use Rattle.std.proofs.Common.{rules, ◌≡◌, ◌≢◌, ◌<◌, ◌+◌, ◌-◌, ◌^◌, min, List, length, refl, subst, ap, arith, ◌++◌, ◌∷◌}
-use Rattle.app_worker.specs.declared.stack.Delivery.TheVariants.{Did}
-use Rattle.flow_queues.specs.declared.queues.FlowQueue.{FlowQueue}
-use Rattle.flow_queues.specs.Core.{Stands, short_bytes, total}
-use Rattle.app_worker.specs.State.{State, read_of}
-use Rattle.app_worker.specs.StateOf.{state_of}
-use Rattle.flow_queues.proofs.Tokens.{total-append}
-use Rattle.flow_queues.proofs.Standing.{At, split-at, flow-out}
-use Rattle.app_worker.proofs.LoansStand.{own-stands}
-use Rattle.app_worker.proofs.Delivering.{lent-bundle, none-lent}
-use Rattle.app_worker.proofs.Moving.{no-write}
-use Rattle.flow_queues.proofs.Resting.{rest-none}
-use Rattle.app_worker.proofs.Seeing.{goes-none}
-use Rattle.app_worker.proofs.turning.deliver_one.Goals.{After-index_mut-own}
+use Rattle.app_worker.{specs.{declared.stack.Delivery.TheVariants.{Did}, State.{State, read_of}, StateOf.{state_of}}, proofs.LoansStand.{own-stands}}
+use Rattle.app_worker.proofs.{Delivering.{lent-bundle, none-lent}, Moving.{no-write}, Seeing.{goes-none}, turning.deliver_one.Goals.{After-index_mut-own}}
+use Rattle.flow_queues.{specs.{declared.queues.FlowQueue.{FlowQueue}, Core.{Stands, short_bytes, total}}, proofs.Tokens.{total-append}}
+use Rattle.flow_queues.proofs.{Standing.{At, split-at, flow-out}, Resting.{rest-none}}
 use Rattle.app_worker.proofs.turning.deliver_one.Goals as goal
 
 -- the active flow stands

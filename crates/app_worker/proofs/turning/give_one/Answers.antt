@@ -1,12 +1,7 @@
 use Rattle.std.proofs.Common.{rules, ◌≡◌, ◌≢◌, ◌≤◌, refl, subst, ◌++◌, ◌∙◌, Some, length}
-use Rattle.board_face.specs.AppEvents.{reserve_of}
-use Rattle.board_face.specs.declared.views.app.AppView.{AppView}
+use Rattle.board_face.specs.{AppEvents.{reserve_of}, declared.views.app.AppView.{AppView}}
 use Rattle.flow_queues.specs.declared.queues.Lending.{Lending}
-use Rattle.app_worker.specs.Steps.{KeptDue, NotKept, Given}
-use Rattle.app_worker.specs.State.{State}
-use Rattle.app_worker.specs.StateOf.{state_of}
-use Rattle.app_worker.proofs.LoansStand.{due-out}
-use Rattle.app_worker.proofs.Giving.{given-left, kept-left}
+use Rattle.app_worker.{specs.{Steps.{KeptDue, NotKept, Given}, State.{State}, StateOf.{state_of}}, proofs.{LoansStand.{due-out}, Giving.{given-left, kept-left}}}
 use Rattle.app_worker.proofs.turning.give_one.Goals as goal
 
 pub give_due-requires-clause-out : goal.give_due-requires-clause-out

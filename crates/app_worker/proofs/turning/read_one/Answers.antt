@@ -3,19 +3,12 @@ use Rattle.std.proofs.Common.{arith, ◌++◌, ◌∷◌, ◌≤◌, Some}
 use Rattle.zr_kinds.specs.declared.ring.Completion.{Completion}
 use Rattle.zr_io.specs.Moved.{Gained}
 use Rattle.circular_buffer.specs.Buffer.{Buffer}
-use Rattle.flow_queues.specs.declared.queues.Lending.{Lending}
-use Rattle.flow_queues.specs.declared.queues.FlowQueue.{FlowQueue}
-use Rattle.flow_queues.specs.Core.{Stands, IsReadOf, lent_piece}
-use Rattle.app_worker.specs.ReadWhole.{IsReadUpTo}
-use Rattle.zr_kinds.specs.declared.behaviour.Stopped.TheVariants as stop
-use Rattle.app_worker.specs.State.{State, read_of}
-use Rattle.flow_queues.specs.Totals.{Quits, wanted_of}
-use Rattle.app_worker.specs.StateOf.{state_of}
-use Rattle.app_worker.proofs.LoansStand.{oldest-out}
+use Rattle.flow_queues.specs.{declared.queues.{Lending.{Lending}, FlowQueue.{FlowQueue}}, Core.{Stands, IsReadOf, lent_piece}, Totals.{Quits, wanted_of}}
 use Rattle.flow_queues.proofs.Indexing.{found-at}
-use Rattle.app_worker.proofs.Oldest.{front-of, oldest-read, oldest-quit, oldest-failed}
-use Rattle.app_worker.proofs.Quitting.{wanted-part, quits-short, quits-not, quits-now}
+use Rattle.app_worker.{specs.{ReadWhole.{IsReadUpTo}, State.{State, read_of}, StateOf.{state_of}}, proofs.LoansStand.{oldest-out}}
+use Rattle.app_worker.proofs.{Oldest.{front-of, oldest-read, oldest-quit, oldest-failed}, Quitting.{wanted-part, quits-short, quits-not, quits-now}}
 use Rattle.app_worker.proofs.turning.read_one.Goals.{After-read_loan-result}
+use Rattle.zr_kinds.specs.declared.behaviour.Stopped.TheVariants as stop
 use Rattle.app_worker.proofs.turning.read_one.Goals as goal
 
 pub read_loan-result-requires-clause-out : goal.read_loan-result-requires-clause-out

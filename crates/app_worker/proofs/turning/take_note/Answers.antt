@@ -1,13 +1,7 @@
 use Rattle.std.proofs.Common.{rules, ◌≡◌, ◌+◌, ◌++◌}
-use Rattle.board_face.specs.AppCalls.{TookNote}
-use Rattle.board_face.specs.declared.views.app.AppView.{AppView}
-use Rattle.flow_queues.specs.Core.{held_piece}
-use Rattle.flow_queues.specs.Pieces.{whole_piece}
-use Rattle.flow_queues.proofs.Tokens.{in-contains}
-use Rattle.flow_queues.proofs.Took.{is-took}
-use Rattle.app_worker.specs.State.{read_of}
-use Rattle.app_worker.specs.StateOf.{state_of}
-use Rattle.app_worker.proofs.NoteTaken.{released-taken, piece-lost, piece-entered}
+use Rattle.board_face.specs.{AppCalls.{TookNote}, declared.views.app.AppView.{AppView}}
+use Rattle.flow_queues.{specs.{Core.{held_piece}, Pieces.{whole_piece}}, proofs.{Tokens.{in-contains}, Took.{is-took}}}
+use Rattle.app_worker.{specs.{State.{read_of}, StateOf.{state_of}}, proofs.NoteTaken.{released-taken, piece-lost, piece-entered}}
 use Rattle.app_worker.proofs.turning.take_note.Goals as goal
 
 pub returns-in-Linear-clause-takes : goal.returns-in-Linear-clause-takes

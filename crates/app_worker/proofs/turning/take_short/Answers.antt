@@ -1,7 +1,5 @@
 use Rattle.std.proofs.Common.{rules, ◌≡◌, ◌+◌, ◌++◌}
-use Rattle.app_worker.specs.State.{read_of}
-use Rattle.app_worker.specs.StateOf.{state_of}
-use Rattle.app_worker.proofs.NoteTaken.{short-none, short-lost, short-entered}
+use Rattle.app_worker.{specs.{State.{read_of}, StateOf.{state_of}}, proofs.NoteTaken.{short-none, short-lost, short-entered}}
 use Rattle.app_worker.proofs.turning.take_short.Goals as goal
 
 pub returns-in_default-clause-takes : goal.returns-in_default-clause-takes

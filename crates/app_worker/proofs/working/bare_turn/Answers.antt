@@ -1,7 +1,5 @@
 use Rattle.std.proofs.Common.{true, None, ◌∙◌}
-use Rattle.app_worker.specs.State.{State}
-use Rattle.app_worker.specs.StateOf.{state_of}
-use Rattle.app_worker.proofs.BareLemmas.{bare-finished, bare-not-quiet, out-ended, then-loans, then-done, scrubs-done}
+use Rattle.app_worker.{specs.{State.{State}, StateOf.{state_of}}, proofs.BareLemmas.{bare-finished, bare-not-quiet, out-ended, then-loans, then-done, scrubs-done}}
 use Rattle.app_worker.proofs.Closing.{turns-finished, turns-not-quiet}
 use Rattle.app_worker.proofs.working.bare_turn.Goals as goal
 

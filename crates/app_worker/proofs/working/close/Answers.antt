@@ -1,11 +1,6 @@
 use Rattle.std.proofs.Common.{◌≡◌, ◌≢◌, ◌≤◌, false, None, length, arith, inl, inr}
-use Rattle.app_worker.specs.StateOf.{state_of}
-use Rattle.app_worker.proofs.NoteTaken.{torn-of}
-use Rattle.app_worker.proofs.LentAll.{drained}
-use Rattle.app_worker.proofs.Closing.{out-of, turns-finished, turns-not-quiet}
-use Rattle.app_worker.proofs.TurnLemmas.{turns-did}
-use Rattle.app_worker.specs.Stages.{Through}
-use Rattle.app_worker.specs.declared.stages.Drained.TheVariants.{InUse, Quit, Failed}
+use Rattle.app_worker.{specs.StateOf.{state_of}, proofs.{NoteTaken.{torn-of}, LentAll.{drained}, Closing.{out-of, turns-finished, turns-not-quiet}}}
+use Rattle.app_worker.{proofs.TurnLemmas.{turns-did}, specs.{Stages.{Through}, declared.stages.Drained.TheVariants.{InUse, Quit, Failed}}}
 use Rattle.app_worker.proofs.working.close.Goals.{After-drain}
 use Rattle.app_worker.proofs.working.close.Goals as goal
 

@@ -1,9 +1,6 @@
 use Rattle.board_face.specs.declared.views.app.AppView.{AppView}
-use Rattle.app_worker.specs.declared.turn.Why.TheVariants.{Unsettled}
-use Rattle.app_worker.specs.State.{State}
-use Rattle.app_worker.specs.StateOf.{state_of}
-use Rattle.app_worker.proofs.TurnLemmas.{turns-did, turns-saw, turns-no-spare, turns-first}
-use Rattle.app_worker.proofs.LentAll.{caught-up, leaves-none, no-next}
+use Rattle.app_worker.specs.{declared.turn.Why.TheVariants.{Unsettled}, State.{State}, StateOf.{state_of}}
+use Rattle.app_worker.proofs.{TurnLemmas.{turns-did, turns-saw, turns-no-spare, turns-first}, LentAll.{caught-up, leaves-none, no-next}}
 use Rattle.app_worker.proofs.working.go_on.Goals as goal
 
 pub returns-in-Did-clause-turns : goal.returns-in-Did-clause-turns

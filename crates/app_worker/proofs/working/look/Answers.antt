@@ -1,14 +1,8 @@
 use Rattle.std.proofs.Common.{◌≡◌, ℕ, true, [], List, Option, sym, ap, subst, ◌∙◌, refl}
 use Rattle.board_face.specs.declared.views.app.AppView.{AppView}
-use Rattle.app_worker.specs.State.{State, Working, Common}
-use Rattle.app_worker.specs.StateOf.{state_of}
-use Rattle.app_worker.specs.Whole.{TookOne}
-use Rattle.app_worker.specs.Turns.{MayPoll, Turns}
-use Rattle.app_worker.proofs.Looking.{took-failed, took-did, ended-working, ended-common, turns-ended, turns-memory}
-use Rattle.app_worker.proofs.TurnLemmas.{turns-saw}
-use Rattle.app_worker.specs.declared.turn.Why.TheVariants.{NoNote}
-use Rattle.app_worker.proofs.LentAll.{none-in-reserve, leaves-none}
-use Rattle.app_worker.proofs.working.look.Goals.{After-take_note}
+use Rattle.app_worker.specs.{State.{State, Working, Common}, StateOf.{state_of}, Whole.{TookOne}, Turns.{MayPoll, Turns}}
+use Rattle.app_worker.proofs.{Looking.{took-failed, took-did, ended-working, ended-common, turns-ended, turns-memory}, TurnLemmas.{turns-saw}}
+use Rattle.app_worker.{specs.declared.turn.Why.TheVariants.{NoNote}, proofs.{LentAll.{none-in-reserve, leaves-none}, working.look.Goals.{After-take_note}}}
 use Rattle.app_worker.proofs.working.look.Goals as goal
 
 pub close-requires-clause-working : goal.close-requires-clause-working

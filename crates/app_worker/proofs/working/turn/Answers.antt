@@ -1,8 +1,5 @@
 use Rattle.std.proofs.Common.{rules, true, ◌≡◌, ap, ◌∙◌, refl}
-use Rattle.app_worker.specs.State.{Working}
-use Rattle.app_worker.specs.StateOf.{state_of}
-use Rattle.app_worker.specs.declared.turn.Why.TheVariants.{RefillFull}
-use Rattle.app_worker.specs.Turns.{turn_after}
+use Rattle.app_worker.specs.{State.{Working}, StateOf.{state_of}, declared.turn.Why.TheVariants.{RefillFull}, Turns.{turn_after}}
 use Rattle.app_worker.proofs.TurnLemmas.{turns-saw, turns-gave, turns-later, begins-gave}
 use Rattle.app_worker.proofs.working.turn.Goals as goal
 

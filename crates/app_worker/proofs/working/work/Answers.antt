@@ -1,6 +1,5 @@
 use Rattle.std.proofs.Common.{rules, inl, inr, ◌≡◌, true, sym, ap, ◌∙◌}
-use Rattle.app_worker.specs.Turns.{turn_after}
-use Rattle.app_worker.specs.declared.stages.Drained.TheVariants.{Did, Failed}
+use Rattle.app_worker.specs.{Turns.{turn_after}, declared.stages.Drained.TheVariants.{Did, Failed}}
 use Rattle.app_worker.proofs.TurnLemmas.{turns-did, turns-later, turns-first, begins-through}
 use Rattle.app_worker.proofs.working.work.Goals as goal
 

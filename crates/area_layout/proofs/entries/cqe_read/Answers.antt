@@ -1,8 +1,6 @@
-use Rattle.std.proofs.Common.{◌≡◌, ◌∙◌, sym, ap, length, drop, ℕ, ◌<◌, slice_index, rules, arith, FitsSigned}
-use Rattle.std.proofs.lemmas.List.{length-drop}
-use Rattle.std.proofs.lemmas.Int.{to_z-of_z}
-use mir.Syntax.{w32}
+use Rattle.std.proofs.{Common.{◌≡◌, ◌∙◌, sym, ap, length, drop, ℕ, ◌<◌, slice_index, rules, arith, FitsSigned}, lemmas.{List.{length-drop}, Int.{to_z-of_z}}}
 use Rattle.std.specs.Int.{cast_signed}
+use mir.Syntax.{w32}
 use Rattle.byteorder.specs.Numbers.{little_from-take}
 use Rattle.area_layout.proofs.Bytes.{read_none, read_some, same_completion, completion_back, some_back, pad_zeros, small_behind}
 use Rattle.area_layout.proofs.entries.cqe_read.Goals as goal

@@ -1,6 +1,5 @@
 use Rattle.std.proofs.Common.{◌≡◌, ◌∙◌, ap, rules}
-use Rattle.area_layout.specs.Entries.{refill_bytes, refill_of}
-use Rattle.area_layout.proofs.Bytes.{refill_back}
+use Rattle.area_layout.{specs.Entries.{refill_bytes, refill_of}, proofs.Bytes.{refill_back}}
 use Rattle.area_layout.proofs.entries.rqe_read.Goals as goal
 
 pub returns-clause-bytes_back : goal.returns-clause-bytes_back

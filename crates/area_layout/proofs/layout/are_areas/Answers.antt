@@ -1,6 +1,4 @@
-use Rattle.std.proofs.Common.{◌≡◌, inl, inr, arith}
-use Rattle.std.proofs.lemmas.Bool.{cases_lt}
-use Rattle.std.proofs.lemmas.List.{get_or_default}
+use Rattle.std.proofs.{Common.{◌≡◌, inl, inr, arith}, lemmas.{Bool.{cases_lt}, List.{get_or_default}}}
 use Rattle.area_layout.proofs.layout.are_areas.Goals as goal
 
 pub loop-buffers-preserved : goal.loop-buffers-preserved

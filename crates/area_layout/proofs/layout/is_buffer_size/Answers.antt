@@ -1,6 +1,4 @@
-use Rattle.std.proofs.Common.{◌≤◌, ◌∙◌, sym, rules}
-use Rattle.std.proofs.lemmas.Bool.{eqb-true, eq-eqb}
-use Rattle.std.proofs.Common.{count_ones}
+use Rattle.std.proofs.{Common.{◌≤◌, ◌∙◌, sym, rules, count_ones}, lemmas.Bool.{eqb-true, eq-eqb}}
 use Rattle.area_layout.proofs.Powers.{power_from_one, one_from_power}
 use Rattle.area_layout.proofs.layout.is_buffer_size.Goals as goal
 

@@ -1,6 +1,5 @@
 -- The buffers that were gone through are there.
-use Rattle.std.proofs.Common.{◌≡◌, ◌++◌, take}
-use Rattle.std.specs.Prelude.{vec_capacity}
+use Rattle.std.{proofs.Common.{◌≡◌, ◌++◌, take}, specs.Prelude.{vec_capacity}}
 use Rattle.board_parts.proofs.free.append_cached.Given as goal
 
 abbrev pub invariant-loop-buffer : goal.invariant-loop-buffer

@@ -1,6 +1,5 @@
 -- A listed buffer is one more than those below it, so there is room for it.
-use Rattle.std.proofs.Common.{◌≡◌, ℕ, zero, suc, ◌<◌, ◌≢◌, Bool, true, List, [], ◌∷◌, ◌++◌, length, ap, refl, arith, ⊎_elim}
-use Rattle.std.proofs.Common.{length-append}
+use Rattle.std.proofs.Common.{◌≡◌, ℕ, zero, suc, ◌<◌, ◌≢◌, Bool, true, List, [], ◌∷◌, ◌++◌, length, ap, refl, arith, ⊎_elim, length-append}
 use Rattle.std.proofs.lemmas.Bool.Decides.{eqb_tells}
 use Rattle.board_parts.specs.Free.{listed_in, listed_below}
 use Rattle.board_parts.proofs.free.append_listed.Goals as goal

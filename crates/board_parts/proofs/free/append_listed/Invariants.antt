@@ -1,6 +1,5 @@
 -- The listed buffers below this one are there.
-use Rattle.std.proofs.Common.{◌≡◌, ◌++◌}
-use Rattle.std.specs.Prelude.{vec_capacity}
+use Rattle.std.{proofs.Common.{◌≡◌, ◌++◌}, specs.Prelude.{vec_capacity}}
 use Rattle.board_parts.specs.Free.{listed_below}
 use Rattle.board_parts.proofs.free.append_listed.Given as goal
 

@@ -1,8 +1,6 @@
 -- Each step moves the next buffer, if it is listed.
-use Rattle.std.proofs.Common.{◌≡◌, ◌+◌, ◌-◌, ◌*◌, ◌<◌, true, false, length, sym, ◌∙◌, arith, lit<}
-use Rattle.std.proofs.lemmas.List.{get_or_read}
-use Rattle.board_parts.specs.Free.{listed_in}
-use Rattle.board_parts.proofs.Moving.{IsMoved-yes, few-moved, has-room}
+use Rattle.std.proofs.{Common.{◌≡◌, ◌+◌, ◌-◌, ◌*◌, ◌<◌, true, false, length, sym, ◌∙◌, arith, lit<}, lemmas.List.{get_or_read}}
+use Rattle.board_parts.{specs.Free.{listed_in}, proofs.Moving.{IsMoved-yes, few-moved, has-room}}
 use Rattle.board_parts.proofs.free.move_word.Goals as goal
 
 pub overflow_add-count : goal.overflow_add-count

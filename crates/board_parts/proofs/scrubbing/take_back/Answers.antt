@@ -1,13 +1,8 @@
 -- This buffer has its turn: what was counted is taken back, and it is listed where it came to be free by that.
-use Rattle.std.proofs.Common.{◌≡◌, ◌-◌, ◌<◌, length, get_or, refl, ◌∙◌, arith}
-use Rattle.std.proofs.lemmas.List.{get_or_read, get_or-set_same}
-use Rattle.std.proofs.lemmas.Bool.{lt-ltb, le-ltb}
-use Rattle.std.proofs.lemmas.Nat.{mul-add-lt}
+use Rattle.std.proofs.{Common.{◌≡◌, ◌-◌, ◌<◌, length, get_or, refl, ◌∙◌, arith}, lemmas.{List.{get_or_read, get_or-set_same}, Bool.{lt-ltb, le-ltb}, Nat.{mul-add-lt}}}
 use Rattle.area_layout.specs.Layout.{total}
-use Rattle.board_parts.specs.Counts.{user_at, came_back}
-use Rattle.board_parts.proofs.TakingBack.{IsTakenBelow-more}
+use Rattle.board_parts.{specs.Counts.{user_at, came_back}, proofs.{TakingBack.{IsTakenBelow-more}, scrubbing.take_back.Goals.{then-owed-gt0, else-owed-gt0}}}
 use Rattle.board_parts.proofs.scrubbing.take_back.Goals as goal
-use Rattle.board_parts.proofs.scrubbing.take_back.Goals.{then-owed-gt0, else-owed-gt0}
 
 pub loop-buffer-preserved : goal.loop-buffer-preserved
 loop-buffer-preserved c =

@@ -1,7 +1,5 @@
 -- The new lane is of the next application.
-use Rattle.std.proofs.Common.{sym, arith, refl}
-use Rattle.std.proofs.lemmas.List.{length_push}
-use Rattle.std.proofs.lemmas.List.Elements.{All-push}
+use Rattle.std.proofs.{Common.{sym, arith, refl}, lemmas.List.{length_push, Elements.{All-push}}}
 use Rattle.note_stream.specs.Halves.{IsReceiver}
 use Rattle.board_race.proofs.LaneLists.{AreAt-push}
 use Rattle.board_race.proofs.lanes.open_lanes.Goals as goal

@@ -1,14 +1,7 @@
 -- Hands with nothing are those of a board that was just opened, and at the end both seats are back.
-use Rattle.std.proofs.Common.{rules, ◌≡◌, ℕ, List, [], ◌∷◌, Some, refl, sym, subst, ◌∙◌, arith}
-use Rattle.std.specs.Prelude.{Contains}
-use Rattle.std.proofs.lemmas.List.Elements.{Contains-push}
-use Rattle.board_face.specs.NicCalls.{apps_of}
-use Rattle.board_face.specs.Opened.{new_nic, new_app}
-use Rattle.board_face.specs.declared.views.parts.Setting.{Setting}
-use Rattle.board_face.specs.declared.views.nic.NicSide.{NicSide}
-use Rattle.board_face.specs.declared.views.app.AppSide.{AppSide}
-use Rattle.word_board.specs.Board.{gave_role}
-use Rattle.word_board.specs.Desk.{AllAreBack}
+use Rattle.std.{proofs.{Common.{rules, ◌≡◌, ℕ, List, [], ◌∷◌, Some, refl, sym, subst, ◌∙◌, arith}, lemmas.List.Elements.{Contains-push}}, specs.Prelude.{Contains}}
+use Rattle.board_face.specs.{NicCalls.{apps_of}, Opened.{new_nic, new_app}, declared.views.{parts.Setting.{Setting}, nic.NicSide.{NicSide}, app.AppSide.{AppSide}}}
+use Rattle.word_board.specs.{Board.{gave_role}, Desk.{AllAreBack}}
 use Rattle.board_race.proofs.tests.free_over.Goals as goal
 
 -- the card and the only application are back

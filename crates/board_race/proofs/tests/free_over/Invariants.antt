@@ -1,7 +1,6 @@
 -- Each hand is that of its role's seat, at the board that was opened.
 use Rattle.std.specs.Prelude.{◌≡◌}
-use Rattle.face_table.specs.CardHand.{IsCardHand}
-use Rattle.face_table.specs.AppHand.{IsAppHand}
+use Rattle.face_table.specs.{CardHand.{IsCardHand}, AppHand.{IsAppHand}}
 use Rattle.board_race.proofs.tests.free_over.Given as goal
 
 abbrev pub invariant-loop-row : goal.invariant-loop-row

@@ -1,8 +1,6 @@
 -- The last lane goes back, and once none is left all are.
-use Rattle.std.proofs.Common.{rules, ◌≡◌, ◌+◌, ◌++◌, ◌∷◌, [], ap, arith, length, refl, subst}
-use Rattle.std.proofs.lemmas.List.{length_push}
-use Rattle.board_race.specs.Lanes.{AreAt, SayLeft}
-use Rattle.board_race.proofs.LaneLists.{AreAt-front, AreAt-last, SayLeft-front, back-more}
+use Rattle.std.proofs.{Common.{rules, ◌≡◌, ◌+◌, ◌++◌, ◌∷◌, [], ap, arith, length, refl, subst}, lemmas.List.{length_push}}
+use Rattle.board_race.{specs.Lanes.{AreAt, SayLeft}, proofs.LaneLists.{AreAt-front, AreAt-last, SayLeft-front, back-more}}
 use Rattle.board_race.proofs.threads.all_back.Goals as goal
 
 pub loop-lane-init : goal.loop-lane-init

@@ -1,7 +1,6 @@
 -- The lanes have run, each at its place.
 use Rattle.std.proofs.Common.{rules, ◌≡◌, subst}
-use Rattle.board_race.specs.Lanes.{AreAt, HaveRun}
-use Rattle.board_race.proofs.LaneLists.{AreAt-run, SayLeft-run, written-whole}
+use Rattle.board_race.{specs.Lanes.{AreAt, HaveRun}, proofs.LaneLists.{AreAt-run, SayLeft-run, written-whole}}
 use Rattle.board_race.proofs.threads.run_threads.Goals as goal
 
 pub all_back-requires-clause-lanes : goal.all_back-requires-clause-lanes

@@ -1,8 +1,5 @@
-use Rattle.std.proofs.Common.{◌≡◌, suc, ap, ◌∙◌, subst, ◌++◌, add-one, arith}
-use Rattle.std.proofs.lemmas.Result.{err_from_is_err_and}
-use Rattle.std.specs.Io.KnownBytes.{Appends}
-use Rattle.cap_make.specs.GeneratedCapture.{file_header, records_of, drawn, drawn_after}
-use Rattle.cap_make.proofs.Records.{header_breaks, record_breaks, record_goes}
+use Rattle.std.{proofs.{Common.{◌≡◌, suc, ap, ◌∙◌, subst, ◌++◌, add-one, arith}, lemmas.Result.{err_from_is_err_and}}, specs.Io.KnownBytes.{Appends}}
+use Rattle.cap_make.{specs.GeneratedCapture.{file_header, records_of, drawn, drawn_after}, proofs.Records.{header_breaks, record_breaks, record_goes}}
 use Rattle.cap_make.proofs.generator.make.Goals as goal
 
 pub returns-in_err-write_all-clause-bytes : goal.returns-in_err-write_all-clause-bytes

@@ -1,5 +1,4 @@
-use Rattle.std.proofs.Common.{◌≡◌, ◌++◌}
-use Rattle.std.specs.Io.KnownBytes.{Appends}
+use Rattle.std.{proofs.Common.{◌≡◌, ◌++◌}, specs.Io.KnownBytes.{Appends}}
 use Rattle.cap_make.specs.GeneratedCapture.{drawn, file_header, records_of}
 use Rattle.cap_make.proofs.generator.make.Given as goal
 

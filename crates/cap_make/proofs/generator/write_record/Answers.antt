@@ -1,7 +1,6 @@
 use Rattle.std.proofs.Common.{◌≡◌, ap, ◌∙◌, sym, subst, ◌+◌, ◌++◌}
 use Rattle.zr_io.specs.Moved.{AddsPiece}
-use Rattle.cap_make.specs.GeneratedCapture.{piece_of, frame_of, record_header, record_of}
-use Rattle.cap_make.proofs.Payload.{length-frame_of}
+use Rattle.cap_make.{specs.GeneratedCapture.{piece_of, frame_of, record_header, record_of}, proofs.Payload.{length-frame_of}}
 use Rattle.cap_make.proofs.generator.write_record.Goals as goal
 
 pub returns-clause-bytes : goal.returns-clause-bytes

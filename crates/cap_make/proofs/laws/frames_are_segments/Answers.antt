@@ -1,5 +1,4 @@
-use Rattle.cap_make.proofs.Classed.{class_of-frame_of, few_flows, few_bytes}
-use Rattle.cap_make.specs.GeneratedCapture.{piece_of}
+use Rattle.cap_make.{proofs.Classed.{class_of-frame_of, few_flows, few_bytes}, specs.GeneratedCapture.{piece_of}}
 use Rattle.cap_make.proofs.laws.frames_are_segments.Goals as goal
 
 pub returns : goal.returns

@@ -1,5 +1,4 @@
-use Rattle.std.proofs.Common.{refl}
-use Rattle.std.specs.List.{IsDistinct}
+use Rattle.std.{proofs.Common.{refl}, specs.List.{IsDistinct}}
 use Rattle.capture_runs.proofs.flows.table.Goals as goal
 
 pub new-requires-2-clause-distinct : goal.new-requires-2-clause-distinct

@@ -1,6 +1,5 @@
 -- One line for each flow.
-use Rattle.std.proofs.Common.{get_or, ap, arith}
-use Rattle.std.proofs.lemmas.Option.{slice_get-get_or}
+use Rattle.std.proofs.{Common.{get_or, ap, arith}, lemmas.Option.{slice_get-get_or}}
 use Rattle.card_feed.proofs.Lines.{none_line, told_of, app-within, port-is, lines-none, lines-more, lines-all}
 use Rattle.card_feed.proofs.feed.flow_lines.Goals as goal
 

@@ -1,7 +1,6 @@
 -- The lines of the flows so far.
 use Rattle.std.proofs.Common.{◌≡◌, length}
-use Rattle.card_feed.specs.Outcomes.{HavePorts}
-use Rattle.card_feed.proofs.Lines.{AreLinesBelow}
+use Rattle.card_feed.{specs.Outcomes.{HavePorts}, proofs.Lines.{AreLinesBelow}}
 use Rattle.card_feed.proofs.feed.flow_lines.Given as goal
 
 abbrev pub invariant-loop-number : goal.invariant-loop-number

@@ -1,6 +1,5 @@
 -- The rings were empty and a slot was in use: nothing changed.
-use Rattle.std.proofs.Common.{◌≡◌, arith}
-use Rattle.std.proofs.lemmas.Bool.{ltb-false}
+use Rattle.std.proofs.{Common.{◌≡◌, arith}, lemmas.Bool.{ltb-false}}
 use Rattle.card_feed.proofs.PlayLemmas.{put_off-idle}
 use Rattle.card_feed.proofs.playing.finish.Goals as goal
 

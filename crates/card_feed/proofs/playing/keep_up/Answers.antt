@@ -1,6 +1,5 @@
 -- The rings were empty, and nothing is pending or a slot was in use: nothing changed.
-use Rattle.std.proofs.Common.{◌≡◌, arith}
-use Rattle.std.proofs.lemmas.Bool.{ltb-false}
+use Rattle.std.proofs.{Common.{◌≡◌, arith}, lemmas.Bool.{ltb-false}}
 use Rattle.card_feed.proofs.PlayLemmas.{flushed-or, looked-idle}
 use Rattle.card_feed.proofs.playing.keep_up.Goals as goal
 

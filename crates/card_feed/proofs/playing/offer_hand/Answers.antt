@@ -1,6 +1,5 @@
 -- The frame is settled, or it stays at hand behind pending notes.
-use Rattle.std.proofs.Common.{◌≡◌, ap, arith, false}
-use Rattle.std.proofs.lemmas.Bool.{ltb-false}
+use Rattle.std.proofs.{Common.{◌≡◌, ap, arith, false}, lemmas.Bool.{ltb-false}}
 use Rattle.page_pool.specs.Pool.{pending_count}
 use Rattle.card_feed.proofs.PlayLemmas.{put_off-idle, accepted-steps, refused-steps, next-pends}
 use Rattle.card_feed.proofs.playing.offer_hand.Goals as goal

@@ -1,10 +1,6 @@
 -- The card is closed and drains, or it offers the frame at hand.
-use Rattle.std.proofs.Common.{◌≡◌, ap, inr, arith}
-use Rattle.std.proofs.lemmas.Bool.{ltb-false}
-use Rattle.card_feed.specs.Hand.{at_hand}
-use Rattle.card_feed.specs.Turns.{drains, offers}
-use Rattle.card_feed.specs.Parts.{feed_of}
-use Rattle.card_feed.proofs.PlayLemmas.{drained-idle}
+use Rattle.std.proofs.{Common.{◌≡◌, ap, inr, arith}, lemmas.Bool.{ltb-false}}
+use Rattle.card_feed.{specs.{Hand.{at_hand}, Turns.{drains, offers}, Parts.{feed_of}}, proofs.PlayLemmas.{drained-idle}}
 use Rattle.card_feed.proofs.playing.play.Goals as goal
 
 pub returns-then-closed-clause-plays : goal.returns-then-closed-clause-plays

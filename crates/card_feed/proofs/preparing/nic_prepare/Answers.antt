@@ -1,7 +1,6 @@
 -- The view changed by what the search gathered alone.
 use Rattle.std.proofs.Common.{sym, subst, refl, rules}
-use Rattle.card_feed.proofs.Counting.{AreInType}
-use Rattle.card_feed.proofs.Turning.{prepared}
+use Rattle.card_feed.proofs.{Counting.{AreInType}, Turning.{prepared}}
 use Rattle.card_feed.proofs.preparing.nic_prepare.Goals as goal
 
 pub returns-clause-knows : goal.returns-clause-knows

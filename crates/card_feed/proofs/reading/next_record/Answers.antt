@@ -1,7 +1,5 @@
 -- The next record, the end of the bytes, or what ends the reading before it.
-use Rattle.card_feed.specs.Offered.{WantsRoom}
-use Rattle.card_feed.proofs.Nexts.{next-all}
-use Rattle.card_feed.proofs.Further.{next-further, next-later, next-bytes}
+use Rattle.card_feed.{specs.Offered.{WantsRoom}, proofs.{Nexts.{next-all}, Further.{next-further, next-later, next-bytes}}}
 use Rattle.card_feed.proofs.reading.next_record.Goals as goal
 
 pub returns-clause-reads : goal.returns-clause-reads

@@ -1,19 +1,11 @@
 -- What arrived is taken, and then the rest of the step is played.
-use Rattle.std.proofs.Common.{◌≡◌, ◌≢◌, true, false, inl, inr, ⊎_elim, sym, subst, ap, ◌∙◌, rules, arith}
-use Rattle.std.proofs.lemmas.Bool.{true≢false}
+use Rattle.std.proofs.{Common.{◌≡◌, ◌≢◌, true, false, inl, inr, ⊎_elim, sym, subst, ap, ◌∙◌, rules, arith}, lemmas.Bool.{true≢false}}
 use Rattle.zr_kinds.specs.declared.outcome.Tally.{Tally}
-use Rattle.card_feed.specs.Coming.{is_over}
-use Rattle.card_feed.specs.Feed.{one_if}
-use Rattle.card_feed.specs.declared.arrived.Arrived.TheVariants.{Nothing}
-use Rattle.card_feed.specs.Intake.{IsReadable, counts_as}
-use Rattle.card_feed.specs.declared.intake.Intake.{Intake}
-use Rattle.card_feed.specs.Parts.{feed_of}
-use Rattle.card_feed.specs.Turns.{IsAwaiting}
-use Rattle.card_feed.proofs.Counting.{AreInType}
+use Rattle.card_feed.specs.{Coming.{is_over}, Feed.{one_if}, declared.{arrived.Arrived.TheVariants.{Nothing}, intake.Intake.{Intake}}, Intake.{IsReadable, counts_as}}
+use Rattle.card_feed.{specs.{Parts.{feed_of}, Turns.{IsAwaiting}}, proofs.Counting.{AreInType}}
 use Rattle.card_feed.proofs.Turning.{by-answer, counts-one, knows-of, looked-as, no_hand, not-awaiting, readable-of, received, stepped, stepped-up, timely-of, wants-of}
 use Rattle.card_feed.proofs.turn.nic_step.Goals.{in-Nothing, in_default, then-nothing+then-is_readable, else-nothing}
-use Rattle.card_feed.proofs.turn.nic_step.Goals.{else-nothing-via-then-nothing+else-is_readable, else-nothing-via-else-nothing}
-use Rattle.card_feed.proofs.turn.nic_step.Goals.{then-not-nothing, else-not-nothing}
+use Rattle.card_feed.proofs.turn.nic_step.Goals.{else-nothing-via-then-nothing+else-is_readable, else-nothing-via-else-nothing, then-not-nothing, else-not-nothing}
 use Rattle.card_feed.proofs.turn.nic_step.Goals as goal
 
 pub returns-clause-steps : goal.returns-clause-steps

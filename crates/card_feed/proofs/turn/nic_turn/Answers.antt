@@ -1,13 +1,7 @@
 -- One record is read where one is wanted, and then a step is taken.
-use Rattle.std.proofs.Common.{◌<◌, ⊎_elim, sym, subst, ap, ◌∙◌, arith}
-use Rattle.std.specs.Prelude.{MatchBool}
-use Rattle.std.proofs.lemmas.Bool.{true≢false}
+use Rattle.std.{proofs.{Common.{◌<◌, ⊎_elim, sym, subst, ap, ◌∙◌, arith}, lemmas.Bool.{true≢false}}, specs.Prelude.{MatchBool}}
 use Rattle.zr_kinds.specs.declared.outcome.Tally.{Tally}
-use Rattle.card_feed.specs.Coming.{Arrives, ComesTo}
-use Rattle.card_feed.specs.Intake.{IsReadable}
-use Rattle.card_feed.specs.Offered.{WantsRoom}
-use Rattle.card_feed.specs.Parts.{feed_of}
-use Rattle.card_feed.specs.Feed.{feed_steps, one_if}
+use Rattle.card_feed.specs.{Coming.{Arrives, ComesTo}, Intake.{IsReadable}, Offered.{WantsRoom}, Parts.{feed_of}, Feed.{feed_steps, one_if}}
 use Rattle.card_feed.specs.Turns.{FeedTurns, HasLooked, HasRested}
 use Rattle.card_feed.proofs.Turning.{answer-as, knows-opened, looked-as, readable-cases, readable-of, read-turns, rest-turns, split-is}
 use Rattle.card_feed.proofs.turn.nic_turn.Goals as goal

@@ -1,10 +1,6 @@
 -- A part that is no area, one that is, and the end.
-use Rattle.std.proofs.Common.{◌≡◌, None, [], rules, arith}
-use Rattle.std.specs.List.{slice_split}
-use Rattle.std.proofs.lemmas.Str.Pattern.{split_parts}
-use Rattle.std.proofs.lemmas.List.Splits.{length-slice_split}
-use Rattle.command_words.specs.Areas.{is_comma}
-use Rattle.command_words.proofs.AreaParts.{one-part, first-part, no-area, next-area, last-area, too-many}
+use Rattle.std.{proofs.{Common.{◌≡◌, None, [], rules, arith}, lemmas.{Str.Pattern.{split_parts}, List.Splits.{length-slice_split}}}, specs.List.{slice_split}}
+use Rattle.command_words.{specs.Areas.{is_comma}, proofs.AreaParts.{one-part, first-part, no-area, next-area, last-area, too-many}}
 use Rattle.command_words.proofs.areas.few_areas.Goals as goal
 
 pub returns-in_err-read_area : goal.returns-in_err-read_area

@@ -1,6 +1,5 @@
 -- The areas so far, and then those of the parts that are left.
-use Rattle.std.proofs.Common.{◌≡◌, ◌++◌, length, option_map, IsUtf8}
-use Rattle.std.specs.List.{slice_split}
+use Rattle.std.{proofs.Common.{◌≡◌, ◌++◌, length, option_map, IsUtf8}, specs.List.{slice_split}}
 use Rattle.command_words.specs.Areas.{all_areas, is_comma}
 use Rattle.command_words.proofs.areas.few_areas.Given as goal
 

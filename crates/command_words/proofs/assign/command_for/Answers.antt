@@ -1,9 +1,7 @@
 -- The ports' rule comes last.
-use Rattle.std.proofs.Common.{◌≡◌, ◌∙◌, ap, rules}
-use Rattle.std.proofs.lemmas.Result.{IfOk-weaker}
+use Rattle.std.proofs.{Common.{◌≡◌, ◌∙◌, ap, rules}, lemmas.Result.{IfOk-weaker}}
 use Rattle.clap.specs.Words.{rule_of, with_rule}
-use Rattle.command_words.specs.Asking.{raw_port}
-use Rattle.command_words.proofs.Adding.{port_added}
+use Rattle.command_words.{specs.Asking.{raw_port}, proofs.Adding.{port_added}}
 use Rattle.command_words.proofs.assign.command_for.Goals as goal
 
 pub returns : goal.returns

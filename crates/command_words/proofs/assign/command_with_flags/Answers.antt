@@ -1,6 +1,5 @@
 -- One more flag, and all of them at the end.
-use Rattle.command_words.specs.Asking.{option_rules, raw_flag}
-use Rattle.command_words.proofs.Adding.{rule_added, texts}
+use Rattle.command_words.{specs.Asking.{option_rules, raw_flag}, proofs.Adding.{rule_added, texts}}
 use Rattle.command_words.proofs.assign.command_with_flags.Goals as goal
 
 pub loop-flag-preserved : goal.loop-flag-preserved

@@ -1,7 +1,6 @@
 -- One more option, and all of them at the end.
 use Rattle.std.proofs.Common.{[]}
-use Rattle.command_words.specs.Asking.{raw_option}
-use Rattle.command_words.proofs.Adding.{rule_added}
+use Rattle.command_words.{specs.Asking.{raw_option}, proofs.Adding.{rule_added}}
 use Rattle.command_words.proofs.assign.command_with_options.Goals as goal
 
 pub loop-name-preserved : goal.loop-name-preserved

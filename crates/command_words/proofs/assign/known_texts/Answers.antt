@@ -1,9 +1,6 @@
 -- One more word is text.
-use Rattle.std.proofs.Common.{◌≡◌, ◌∙◌, ◌<◌, ℕ, List, subst, ap, inl, inr, sym, arith, get_or, length}
-use Rattle.std.proofs.lemmas.List.{get_or_default}
-use Rattle.std.specs.Borrow.{Bor}
-use Rattle.std.specs.Str.{IsUtf8}
-use Rattle.std.proofs.lemmas.Bool.{cases_lt}
+use Rattle.std.{proofs.{Common.{◌≡◌, ◌∙◌, ◌<◌, ℕ, List, subst, ap, inl, inr, sym, arith, get_or, length}, lemmas.List.{get_or_default}}, specs.Borrow.{Bor}}
+use Rattle.std.{specs.Str.{IsUtf8}, proofs.lemmas.Bool.{cases_lt}}
 use Rattle.command_words.proofs.assign.known_texts.Goals as goal
 
 here : (words : List (Bor (List ℕ))) (i k : ℕ) (d e : Bor (List ℕ)) → k ≡ i → k < length words → IsUtf8 (get_or words i e).now

@@ -1,7 +1,5 @@
 -- The words so far are text.
-use Rattle.std.proofs.Common.{ℕ, List, ◌<◌, length, get_or}
-use Rattle.std.specs.Borrow.{Bor}
-use Rattle.std.specs.Str.{IsUtf8}
+use Rattle.std.{proofs.Common.{ℕ, List, ◌<◌, length, get_or}, specs.{Borrow.{Bor}, Str.{IsUtf8}}}
 use Rattle.command_words.proofs.assign.known_texts.Given as goal
 
 abbrev pub invariant-loop-word : goal.invariant-loop-word

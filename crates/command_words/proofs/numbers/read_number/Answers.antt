@@ -1,7 +1,6 @@
 -- A number's word is parsed to its value, and the test says that it is one.
 use Rattle.std.proofs.Common.{◌≡◌, true, sym, ◌∙◌, refl}
-use Rattle.command_words.proofs.Digits.{read}
-use Rattle.command_words.specs.Numbers.{is_number}
+use Rattle.command_words.{proofs.Digits.{read}, specs.Numbers.{is_number}}
 use Rattle.command_words.proofs.numbers.read_number.Goals as goal
 
 pub returns-then-is_number : goal.returns-then-is_number

@@ -1,8 +1,6 @@
 -- clap's matches have what the words say, and the options and ports were read from them.
-use Rattle.std.proofs.Common.{rules, ◌≡◌, ◌∙◌, sym, ap, map, option_map}
-use Rattle.std.proofs.lemmas.Result.{IfOk-weaker}
-use Rattle.command_words.specs.Options.{flag_names, option_names}
-use Rattle.command_words.proofs.Told.{replay-said, nothing-said, no-ports-said}
+use Rattle.std.proofs.{Common.{rules, ◌≡◌, ◌∙◌, sym, ap, map, option_map}, lemmas.Result.{IfOk-weaker}}
+use Rattle.command_words.{specs.Options.{flag_names, option_names}, proofs.Told.{replay-said, nothing-said, no-ports-said}}
 use Rattle.command_words.proofs.reading.read_replay.Goals as goal
 
 pub returns-in_default : goal.returns-in_default

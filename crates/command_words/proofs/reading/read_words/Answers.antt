@@ -1,9 +1,6 @@
 -- What is read as a replay may be told to one.
 use Rattle.std.proofs.Common.{◌∙◌, sym, ap, drop, map, option_map}
-use Rattle.command_words.specs.Assigned.{sorted}
-use Rattle.command_words.specs.Options.{flag_names, option_names}
-use Rattle.command_words.specs.Words.{replay_shown}
-use Rattle.command_words.proofs.Told.{replay_read}
+use Rattle.command_words.{specs.{Assigned.{sorted}, Options.{flag_names, option_names}, Words.{replay_shown}}, proofs.Told.{replay_read}}
 use Rattle.command_words.proofs.reading.read_words.Goals as goal
 
 pub returns-in-Some-clause-told : goal.returns-in-Some-clause-told

@@ -1,5 +1,4 @@
-use Rattle.std.proofs.Common.{◌≡◌}
-use Rattle.std.specs.VecDeque.{deque_len}
+use Rattle.std.{proofs.Common.{◌≡◌}, specs.VecDeque.{deque_len}}
 use Rattle.board_face.specs.NicCalls.{IsOpen}
 use Rattle.face_callers.specs.Flush.{IsReady, Sends}
 use Rattle.face_callers.proofs.pending.flush.Given as goal

@@ -1,6 +1,5 @@
 use Rattle.std.proofs.Common.{◌≡◌, ◌+◌, length, arith, sym, ◌∙◌, length-take, length-drop, length-append}
-use Rattle.face_callers.specs.Reader.{ReadsOf}
-use Rattle.face_callers.proofs.Serving.{ReadsOf-more}
+use Rattle.face_callers.{specs.Reader.{ReadsOf}, proofs.Serving.{ReadsOf-more}}
 use Rattle.face_callers.proofs.reader.read_whole.Goals as goal
 
 pub loop-from-preserved : goal.loop-from-preserved

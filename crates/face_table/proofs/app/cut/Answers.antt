@@ -1,7 +1,6 @@
 -- The held piece that was cut was the only one.
 use Rattle.std.proofs.Common.{rules, ◌≡◌, [], ◌∷◌, map}
-use Rattle.board_face.specs.AppEvents.{cut}
-use Rattle.board_face.specs.Texts.{front_place, rest_place}
+use Rattle.board_face.specs.{AppEvents.{cut}, Texts.{front_place, rest_place}}
 use Rattle.face_table.proofs.Tokens.{helds-cut}
 use Rattle.face_table.proofs.app.cut.Goals as goal
 

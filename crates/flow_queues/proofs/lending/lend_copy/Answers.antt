@@ -1,18 +1,9 @@
 use Rattle.std.proofs.Common.{rules, ◌≡◌, ◌<◌, ℕ, List, length, ap, subst, ◌∙◌}
 use Rattle.tcp_reorder.specs.Gaps.{LosesFirst}
 use Rattle.area_layout.specs.Layout.{LiesIn, total as buffers_of}
-use Rattle.board_face.specs.AppEvents.{reserve_of}
-use Rattle.board_face.specs.AppCalls.{GotSpare}
-use Rattle.board_face.specs.AppEvents.{got_spare, filled, lent_own, own_bytes, begin_place}
-use Rattle.board_face.specs.NicEvents.{fresh}
-use Rattle.board_face.specs.Tokens.{filled_by}
-use Rattle.board_face.specs.declared.views.parts.Filling.{Filling}
-use Rattle.board_face.specs.declared.views.app.AppView.{AppView}
-use Rattle.flow_queues.specs.declared.queues.Short.{Short}
-use Rattle.flow_queues.specs.declared.queues.Waiting.{Waiting}
-use Rattle.flow_queues.specs.declared.queues.Waiting.TheVariants.{Copied}
-use Rattle.flow_queues.specs.Core.{IsShort, IsOfNote}
-use Rattle.flow_queues.proofs.Lends.{each-first}
+use Rattle.board_face.specs.{AppEvents.{reserve_of, got_spare, filled, lent_own, own_bytes, begin_place}, AppCalls.{GotSpare}, NicEvents.{fresh}, Tokens.{filled_by}}
+use Rattle.board_face.specs.declared.views.{parts.Filling.{Filling}, app.AppView.{AppView}}
+use Rattle.flow_queues.{specs.{declared.queues.{Short.{Short}, Waiting.{Waiting, TheVariants.{Copied}}}, Core.{IsShort, IsOfNote}}, proofs.Lends.{each-first}}
 use Rattle.flow_queues.proofs.Copying.{own-lies, may-spare, filled_spare, copy_lent, bytes-are, copy-lent}
 use Rattle.flow_queues.proofs.lending.lend_copy.Goals as goal
 

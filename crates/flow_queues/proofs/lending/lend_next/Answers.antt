@@ -1,9 +1,6 @@
 use Rattle.std.proofs.Common.{rules, ◌≡◌, subst}
-use Rattle.board_face.specs.AppEvents.{came_to_rest}
-use Rattle.board_face.specs.declared.views.app.AppView.{AppView}
-use Rattle.flow_queues.specs.Core.{lent_piece, is_copy}
-use Rattle.flow_queues.specs.Lent.{LentNext}
-use Rattle.flow_queues.proofs.Copying.{from-rest}
+use Rattle.board_face.specs.{AppEvents.{came_to_rest}, declared.views.app.AppView.{AppView}}
+use Rattle.flow_queues.{specs.{Core.{lent_piece, is_copy}, Lent.{LentNext}}, proofs.Copying.{from-rest}}
 use Rattle.flow_queues.proofs.lending.lend_next.Goals as goal
 
 pub returns-then-not-is_short-clause-lends : goal.returns-then-not-is_short-clause-lends

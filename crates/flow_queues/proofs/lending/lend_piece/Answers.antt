@@ -1,13 +1,8 @@
 use Rattle.std.proofs.Common.{rules, ◌≡◌, subst}
 use Rattle.tcp_reorder.specs.Gaps.{LosesFirst}
 use Rattle.board_face.specs.declared.views.app.AppView.{AppView}
-use Rattle.flow_queues.specs.declared.queues.NotePiece.{NotePiece}
-use Rattle.flow_queues.specs.declared.queues.Waiting.{Waiting}
-use Rattle.flow_queues.specs.declared.queues.Waiting.TheVariants.{InArea}
-use Rattle.flow_queues.specs.Core.{IsIn, IsInArea, IsOfNote, held_piece}
-use Rattle.flow_queues.proofs.Tokens.{in-contains}
-use Rattle.flow_queues.proofs.Lends.{each-first, first-out}
-use Rattle.flow_queues.proofs.Copying.{piece-lent}
+use Rattle.flow_queues.specs.{declared.queues.{NotePiece.{NotePiece}, Waiting.{Waiting, TheVariants.{InArea}}}, Core.{IsIn, IsInArea, IsOfNote, held_piece}}
+use Rattle.flow_queues.proofs.{Tokens.{in-contains}, Lends.{each-first, first-out}, Copying.{piece-lent}}
 use Rattle.flow_queues.proofs.lending.lend_piece.Goals as goal
 
 pub lend-loan-requires-clause-out : goal.lend-loan-requires-clause-out

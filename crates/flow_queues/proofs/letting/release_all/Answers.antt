@@ -1,11 +1,7 @@
 use Rattle.std.proofs.Common.{rules, ◌≡◌, ℕ, ◌≤◌, ◌<◌, ◌∙◌, [], ◌∷◌, List, length, set, get_or, sym, ap, arith}
-use Rattle.board_face.specs.declared.views.app.HeldPiece.{HeldPiece}
-use Rattle.board_face.specs.declared.views.app.AppView.{AppView}
-use Rattle.flow_queues.specs.declared.queues.FlowQueue.{FlowQueue}
-use Rattle.flow_queues.specs.Core.{total, over_kept, over_waiting, short_len, short_bytes}
-use Rattle.flow_queues.specs.Pieces.{OnlyHelds}
-use Rattle.flow_queues.proofs.Tokens.{total-append}
-use Rattle.flow_queues.proofs.Standing.{At, split-at, total-changed}
+use Rattle.board_face.specs.declared.views.app.{HeldPiece.{HeldPiece}, AppView.{AppView}}
+use Rattle.flow_queues.specs.{declared.queues.FlowQueue.{FlowQueue}, Core.{total, over_kept, over_waiting, short_len, short_bytes}, Pieces.{OnlyHelds}}
+use Rattle.flow_queues.proofs.{Tokens.{total-append}, Standing.{At, split-at, total-changed}}
 use Rattle.flow_queues.proofs.Releasing.{map-set, total-take-set, length-set-same, total-take-all, total-none}
 use Rattle.flow_queues.proofs.letting.release_all.Goals as goal
 

@@ -1,8 +1,7 @@
 -- The first flows keep nothing any more.
 use Rattle.std.specs.Prelude.{◌≡◌, ◌-◌, ◌≤◌, ℕ, map, take, length}
 use Rattle.board_face.specs.declared.views.app.HeldPiece.{HeldPiece}
-use Rattle.flow_queues.specs.Core.{LieApart, total, over_kept, short_bytes}
-use Rattle.flow_queues.specs.Flows.{facts_of}
+use Rattle.flow_queues.specs.{Core.{LieApart, total, over_kept, short_bytes}, Flows.{facts_of}}
 use Rattle.flow_queues.proofs.letting.release_all.Given as goal
 
 abbrev pub invariant-loop-i : goal.invariant-loop-i

@@ -1,12 +1,7 @@
 use Rattle.std.proofs.Common.{rules, ℕ, ◌≤◌, ◌∙◌, refl, arith}
-use Rattle.board_face.specs.declared.views.app.AppView.{AppView}
-use Rattle.board_face.specs.declared.views.app.HeldPiece.{HeldPiece}
-use Rattle.tcp_reorder.specs.Queue.{Queue}
-use Rattle.tcp_reorder.specs.Gaps.{LosesFirst}
-use Rattle.flow_queues.specs.declared.queues.Waiting.{Waiting}
-use Rattle.flow_queues.specs.Core.{total, over_kept}
-use Rattle.flow_queues.specs.Pieces.{OnlyHelds, IsOut}
-use Rattle.flow_queues.proofs.Lends.{first-is-out}
+use Rattle.board_face.specs.declared.views.app.{AppView.{AppView}, HeldPiece.{HeldPiece}}
+use Rattle.tcp_reorder.specs.{Queue.{Queue}, Gaps.{LosesFirst}}
+use Rattle.flow_queues.{specs.{declared.queues.Waiting.{Waiting}, Core.{total, over_kept}, Pieces.{OnlyHelds, IsOut}}, proofs.Lends.{first-is-out}}
 use Rattle.flow_queues.proofs.Releasing.{released-one}
 use Rattle.flow_queues.proofs.letting.release_kept.Goals as goal
 

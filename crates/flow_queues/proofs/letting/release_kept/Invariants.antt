@@ -1,7 +1,6 @@
 -- Those that were taken out are given up.
 use Rattle.std.specs.Prelude.{◌≡◌, length}
-use Rattle.flow_queues.specs.Core.{over_kept}
-use Rattle.flow_queues.specs.Pieces.{OnlyHelds}
+use Rattle.flow_queues.specs.{Core.{over_kept}, Pieces.{OnlyHelds}}
 use Rattle.flow_queues.proofs.letting.release_kept.Given as goal
 
 abbrev pub invariant-loop-waiting : goal.invariant-loop-waiting

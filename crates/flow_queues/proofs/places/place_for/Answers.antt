@@ -1,10 +1,5 @@
-use Rattle.std.proofs.Common.{rules, ◌≡◌, Some, List, ◌++◌, [], ◌∷◌, length, ap, subst, sym, ◌∙◌}
-use Rattle.std.specs.BTreeMap.{Updates}
-use Rattle.std.specs.Ordering.{nat_cmp, is_eq}
-use Rattle.flow_queues.specs.declared.queues.FlowQueue.{FlowQueue}
-use Rattle.flow_queues.specs.Flows.{IsIndex, place_in}
-use Rattle.flow_queues.specs.Flows.{fresh_flow}
-use Rattle.flow_queues.proofs.Indexing.{index-push}
+use Rattle.std.{proofs.Common.{rules, ◌≡◌, Some, List, ◌++◌, [], ◌∷◌, length, ap, subst, sym, ◌∙◌}, specs.{BTreeMap.{Updates}, Ordering.{nat_cmp, is_eq}}}
+use Rattle.flow_queues.{specs.{declared.queues.FlowQueue.{FlowQueue}, Flows.{IsIndex, place_in, fresh_flow}}, proofs.Indexing.{index-push}}
 use Rattle.flow_queues.proofs.places.place_for.Goals as goal
 
 pub returns-clause-index : goal.returns-clause-index

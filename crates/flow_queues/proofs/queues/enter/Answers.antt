@@ -1,23 +1,11 @@
-use Rattle.std.proofs.Common.{rules, ◌≡◌, ℕ, ◌+◌, ◌%◌, ◌^◌, ◌<◌, ◌≤◌, ◌∙◌, Some, None, refl, ap, subst, arith, true, false}
-use Rattle.zr_kinds.specs.declared.place.Note.{Note}
-use Rattle.zr_kinds.specs.CopyingReceiver.{accepts}
-use Rattle.tcp_reorder.specs.declared.places.Gap.{Gap}
-use Rattle.tcp_reorder.specs.Queue.{Queue, next_of, IsSound}
-use Rattle.tcp_reorder.specs.Gaps.{origin, wants, IsFirstGap}
-use Rattle.tcp_reorder.proofs.Parts.{may_be_taken}
-use Rattle.board_face.specs.AppEvents.{released}
-use Rattle.board_face.specs.declared.views.app.HeldPiece.{HeldPiece}
-use Rattle.board_face.specs.declared.views.app.AppView.{AppView}
-use Rattle.flow_queues.specs.declared.queues.NotePiece.{NotePiece}
-use Rattle.flow_queues.specs.declared.queues.Waiting.{Waiting}
-use Rattle.flow_queues.specs.declared.queues.Waiting.TheVariants.{InArea}
-use Rattle.flow_queues.specs.Core.{held_piece, over_kept, short_len, IsOfNote}
-use Rattle.flow_queues.specs.Pieces.{OnlyHelds, whole_piece, over_others, given_back}
-use Rattle.flow_queues.proofs.Tokens.{in-contains, is-released}
+use Rattle.std.{proofs.Common.{rules, ◌≡◌, ℕ, ◌+◌, ◌%◌, ◌^◌, ◌<◌, ◌≤◌, ◌∙◌, Some, None, refl, ap, subst, arith, true, false}, specs.Prelude.{slice_get}}
+use Rattle.zr_kinds.specs.{declared.place.Note.{Note}, CopyingReceiver.{accepts}}
+use Rattle.tcp_reorder.{specs.{declared.places.Gap.{Gap}, Queue.{Queue, next_of, IsSound}, Gaps.{origin, wants, IsFirstGap}}, proofs.Parts.{may_be_taken}}
+use Rattle.board_face.specs.{AppEvents.{released}, declared.views.app.{HeldPiece.{HeldPiece}, AppView.{AppView}}}
+use Rattle.flow_queues.specs.{declared.queues.{NotePiece.{NotePiece}, Waiting.{Waiting, TheVariants.{InArea}}}, Core.{held_piece, over_kept, short_len, IsOfNote}}
+use Rattle.flow_queues.{specs.Pieces.{OnlyHelds, whole_piece, over_others, given_back}, proofs.Tokens.{in-contains, is-released}}
 use Rattle.flow_queues.proofs.Entering.{IsLeft, all-there, ignored, none-wanted, later, others-still, all-given, still-left, taken-only, rest-given}
-use Rattle.flow_queues.proofs.Entering.{over-with_kept, each-with_kept, one}
-use Rattle.std.specs.Prelude.{slice_get}
-use Rattle.flow_queues.proofs.Entering.{entered-nothing, begun-left}
+use Rattle.flow_queues.proofs.Entering.{over-with_kept, each-with_kept, one, entered-nothing, begun-left}
 use Rattle.flow_queues.proofs.Shrinking.{shrink-gave, shrink-cut, shrink-released, shrink-given}
 use Rattle.flow_queues.proofs.queues.enter.Goals as goal
 

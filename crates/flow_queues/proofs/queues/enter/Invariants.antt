@@ -2,9 +2,7 @@
 use Rattle.std.specs.Prelude.{◌≡◌, ◌+◌, ◌%◌, ◌^◌, ◌≤◌, List, Some, slice_get, true}
 use Rattle.tcp_reorder.specs.Gaps.{origin}
 use Rattle.board_face.specs.declared.views.app.TakenNote.{TakenNote}
-use Rattle.flow_queues.specs.Core.{held_piece, over_kept, short_bytes, total, IsOfNote, Each}
-use Rattle.flow_queues.specs.Core.{held_len}
-use Rattle.flow_queues.specs.Pieces.{OnlyHelds, whole_piece, over_others}
+use Rattle.flow_queues.specs.{Core.{held_piece, over_kept, short_bytes, total, IsOfNote, Each, held_len}, Pieces.{OnlyHelds, whole_piece, over_others}}
 use Rattle.flow_queues.proofs.Entering.{IsLeft, left_len}
 use Rattle.flow_queues.proofs.queues.enter.Given as goal
 

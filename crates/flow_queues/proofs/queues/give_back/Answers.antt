@@ -1,8 +1,5 @@
 use Rattle.std.proofs.Common.{rules, ◌≡◌, subst}
-use Rattle.flow_queues.specs.declared.queues.Waiting.TheVariants.{InArea}
-use Rattle.flow_queues.specs.Core.{IsIn, held_piece}
-use Rattle.flow_queues.specs.Pieces.{IsOut}
-use Rattle.flow_queues.proofs.Tokens.{in-contains}
+use Rattle.flow_queues.{specs.{declared.queues.Waiting.TheVariants.{InArea}, Core.{IsIn, held_piece}, Pieces.{IsOut}}, proofs.Tokens.{in-contains}}
 use Rattle.flow_queues.proofs.queues.give_back.Goals as goal
 
 pub release-requires-clause-out : goal.release-requires-clause-out

@@ -1,7 +1,5 @@
 use Rattle.std.proofs.Common.{rules, ◌≡◌, Some}
-use Rattle.flow_queues.specs.Core.{held_piece}
-use Rattle.flow_queues.proofs.Tokens.{in-contains}
-use Rattle.flow_queues.proofs.Pieces.{given-up}
+use Rattle.flow_queues.{specs.Core.{held_piece}, proofs.{Tokens.{in-contains}, Pieces.{given-up}}}
 use Rattle.flow_queues.proofs.queues.give_up.Goals as goal
 
 pub release-requires-clause-out : goal.release-requires-clause-out

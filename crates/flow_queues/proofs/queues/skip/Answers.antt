@@ -1,10 +1,6 @@
 use Rattle.std.proofs.Common.{◌<◌, arith}
-use Rattle.board_face.specs.AppEvents.{cut}
-use Rattle.board_face.specs.declared.views.app.AppView.{AppView}
-use Rattle.board_face.specs.declared.views.app.HeldPiece.{HeldPiece}
-use Rattle.flow_queues.specs.Core.{held_piece}
-use Rattle.flow_queues.proofs.Tokens.{in-contains, is-cut, front}
-use Rattle.flow_queues.proofs.Pieces.{skipped}
+use Rattle.board_face.specs.{AppEvents.{cut}, declared.views.app.{AppView.{AppView}, HeldPiece.{HeldPiece}}}
+use Rattle.flow_queues.{specs.Core.{held_piece}, proofs.{Tokens.{in-contains, is-cut, front}, Pieces.{skipped}}}
 use Rattle.flow_queues.proofs.queues.skip.Goals as goal
 
 pub cut-front-requires-clause-out : goal.cut-front-requires-clause-out

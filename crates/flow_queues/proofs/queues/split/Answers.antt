@@ -1,8 +1,6 @@
 use Rattle.std.proofs.Common.{rules, ◌<◌}
 use Rattle.board_face.specs.declared.views.app.AppView.{AppView}
-use Rattle.flow_queues.specs.Core.{held_piece}
-use Rattle.flow_queues.proofs.Tokens.{in-contains}
-use Rattle.flow_queues.proofs.Pieces.{taken-off}
+use Rattle.flow_queues.{specs.Core.{held_piece}, proofs.{Tokens.{in-contains}, Pieces.{taken-off}}}
 use Rattle.flow_queues.proofs.queues.split.Goals as goal
 
 pub cut-front-requires-clause-out : goal.cut-front-requires-clause-out

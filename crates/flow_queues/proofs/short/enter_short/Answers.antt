@@ -1,20 +1,11 @@
 -- Each gap of the payload is taken, and what lies between was there.
-use Rattle.std.proofs.Common.{rules, ◌≡◌, ◌≤◌, ◌+◌, ◌-◌, ◌%◌, ◌^◌, ℕ, List, length, take, drop, true, false, refl, sym}
-use Rattle.std.proofs.Common.{ap, ◌∙◌}
+use Rattle.std.proofs.Common.{rules, ◌≡◌, ◌≤◌, ◌+◌, ◌-◌, ◌%◌, ◌^◌, ℕ, List, length, take, drop, true, false, refl, sym, ap, ◌∙◌}
 use Rattle.std.proofs.Common.{subst, arith, length-drop, length-take-le}
-use Rattle.zr_kinds.specs.declared.place.Note.{Note}
-use Rattle.zr_kinds.specs.declared.place.Place.{Place}
-use Rattle.zr_kinds.specs.CopyingReceiver.{Placed, accepts, received_part}
-use Rattle.tcp_reorder.specs.Queue.{Queue, Kept, next_of}
-use Rattle.tcp_reorder.specs.declared.places.Gap.{Gap}
-use Rattle.tcp_reorder.specs.Gaps.{origin, AreUnwanted, IsFirstGap, with_taken}
-use Rattle.tcp_reorder.specs.Values.{Holds}
-use Rattle.tcp_reorder.specs.Entering.{HasEntered, HoldsWhatCame}
-use Rattle.tcp_reorder.proofs.Entering.{holds_what_came}
+use Rattle.zr_kinds.specs.{declared.place.{Note.{Note}, Place.{Place}}, CopyingReceiver.{Placed, accepts, received_part}}
+use Rattle.tcp_reorder.specs.{Queue.{Queue, Kept, next_of}, declared.places.Gap.{Gap}, Gaps.{origin, AreUnwanted, IsFirstGap, with_taken}, Values.{Holds}}
+use Rattle.tcp_reorder.{specs.Entering.{HasEntered, HoldsWhatCame}, proofs.Entering.{holds_what_came}}
 use Rattle.board_face.specs.Texts.{IsLinearNote}
-use Rattle.flow_queues.specs.declared.queues.Waiting.{Waiting}
-use Rattle.flow_queues.specs.declared.queues.Waiting.TheVariants.{Copied}
-use Rattle.flow_queues.specs.Marks.{Mark, marks_from}
+use Rattle.flow_queues.specs.{declared.queues.Waiting.{Waiting, TheVariants.{Copied}}, Marks.{Mark, marks_from}}
 use Rattle.flow_queues.specs.Core.{marks_of_waiting, received_note, over_waiting, short_len, IsOfNote}
 use Rattle.flow_queues.proofs.Entering.{marks-length, marks-part, over-with_kept, each-with_kept}
 use Rattle.flow_queues.proofs.short.enter_short.Goals as goal

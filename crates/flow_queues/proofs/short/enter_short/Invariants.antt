@@ -1,10 +1,8 @@
 -- The first `done` bytes of the payload have entered.
 use Rattle.std.specs.Prelude.{◌≡◌, ◌+◌, ◌-◌, ◌≤◌, ℕ, List, Some, slice_get, false}
 use Rattle.tcp_reorder.specs.Entering.{HasEntered}
-use Rattle.board_face.specs.declared.views.app.HeldPiece.{HeldPiece}
-use Rattle.board_face.specs.declared.views.app.TakenNote.{TakenNote}
-use Rattle.flow_queues.specs.Marks.{marks_from}
-use Rattle.flow_queues.specs.Core.{over_kept, short_bytes, marks_of_waiting, IsOfNote, Each}
+use Rattle.board_face.specs.declared.views.app.{HeldPiece.{HeldPiece}, TakenNote.{TakenNote}}
+use Rattle.flow_queues.specs.{Marks.{marks_from}, Core.{over_kept, short_bytes, marks_of_waiting, IsOfNote, Each}}
 use Rattle.flow_queues.proofs.short.enter_short.Given as goal
 
 abbrev pub invariant-loop-done : goal.invariant-loop-done

@@ -1,7 +1,5 @@
 use Rattle.std.proofs.Common.{rules, ◌<◌, List, length, set, refl, inl, inr}
-use Rattle.flow_queues.specs.declared.queues.FlowQueue.{FlowQueue}
-use Rattle.flow_queues.specs.Flows.{IsChosen}
-use Rattle.flow_queues.specs.Taking.{TakesPayload, LosesPayload}
+use Rattle.flow_queues.specs.{declared.queues.FlowQueue.{FlowQueue}, Flows.{IsChosen}, Taking.{TakesPayload, LosesPayload}}
 use Rattle.flow_queues.proofs.NoteComes.{payload-stands, payload-lost}
 use Rattle.flow_queues.proofs.taking.take_payload.Goals as goal
 

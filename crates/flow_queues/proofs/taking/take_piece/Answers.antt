@@ -1,9 +1,5 @@
 use Rattle.std.proofs.Common.{rules, ◌<◌, List, length, set, refl, inl, inr}
-use Rattle.flow_queues.specs.declared.queues.FlowQueue.{FlowQueue}
-use Rattle.flow_queues.specs.Core.{held_piece}
-use Rattle.flow_queues.specs.Pieces.{whole_piece}
-use Rattle.flow_queues.specs.Flows.{IsChosen}
-use Rattle.flow_queues.proofs.Tokens.{in-contains}
+use Rattle.flow_queues.{specs.{declared.queues.FlowQueue.{FlowQueue}, Core.{held_piece}, Pieces.{whole_piece}, Flows.{IsChosen}}, proofs.Tokens.{in-contains}}
 use Rattle.flow_queues.proofs.NoteComes.{piece-stands, piece-lost}
 use Rattle.flow_queues.proofs.taking.take_piece.Goals as goal
 

@@ -1,8 +1,6 @@
 use Rattle.std.proofs.Common.{ap, arith, option_map}
 use Rattle.frame_headers.specs.Seen.{shown}
-use Rattle.flow_table.specs.Flows.{Numbered, key_of}
-use Rattle.flow_table.specs.Kept.{entry_shown}
-use Rattle.flow_table.proofs.Newest.{newest_found, newest_passed}
+use Rattle.flow_table.{specs.{Flows.{Numbered, key_of}, Kept.{entry_shown}}, proofs.Newest.{newest_found, newest_passed}}
 use Rattle.flow_table.proofs.list.newest_among.Goals as goal
 
 pub returns-then-has_key_of : goal.returns-then-has_key_of

@@ -1,7 +1,6 @@
 use Rattle.std.proofs.Common.{◌≡◌, ◌≤◌, map, take, length}
 use Rattle.frame_headers.specs.Seen.{shown}
-use Rattle.flow_table.specs.Flows.{key_of, newest}
-use Rattle.flow_table.specs.Kept.{entry_shown}
+use Rattle.flow_table.specs.{Flows.{key_of, newest}, Kept.{entry_shown}}
 use Rattle.flow_table.proofs.list.newest_among.Given as goal
 
 -- no flow from this number on has the key

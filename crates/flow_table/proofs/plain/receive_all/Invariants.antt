@@ -1,9 +1,6 @@
 use Rattle.std.proofs.Common.{◌≡◌, map, drop}
 use Rattle.zr_kinds.specs.CopyingReceiver.{nothing_placed}
-use Rattle.flow_table.specs.CountedPart.{not_closed}
-use Rattle.flow_table.specs.Kept.{close_shown}
-use Rattle.flow_table.specs.Stream.{received_all}
-use Rattle.flow_table.specs.Plain.{placed_shown, steered_shown}
+use Rattle.flow_table.specs.{CountedPart.{not_closed}, Kept.{close_shown}, Stream.{received_all}, Plain.{placed_shown, steered_shown}}
 use Rattle.flow_table.proofs.plain.receive_all.Given as goal
 
 abbrev pub invariant-loop-one : goal.invariant-loop-one

@@ -2,14 +2,10 @@
 -- end both seats are back.
 use Rattle.std.proofs.Common.{rules, ◌≡◌, Some, refl, sym, ap, subst, ◌∙◌}
 use Rattle.area_layout.specs.Layout.{Shape, pool_buffers}
-use Rattle.board_face.specs.Ended.{IsEachOnce}
-use Rattle.board_face.specs.NicCalls.{apps_of}
-use Rattle.board_face.specs.Opened.{new_nic, new_app}
-use Rattle.board_face.specs.declared.views.parts.Setting.{Setting}
+use Rattle.board_face.specs.{Ended.{IsEachOnce}, NicCalls.{apps_of}, Opened.{new_nic, new_app}, declared.views.parts.Setting.{Setting}}
 use Rattle.word_board.specs.Board.{gave_role, new_desk}
 use Rattle.zc_forward.proofs.Apps.{turn-app}
-use Rattle.forward_runs.proofs.Seats.{all-back, only-pool}
-use Rattle.forward_runs.proofs.tests.forwards.Goals.{After-new-work, in-Did, in-Idle}
+use Rattle.forward_runs.proofs.{Seats.{all-back, only-pool}, tests.forwards.Goals.{After-new-work, in-Did, in-Idle}}
 use Rattle.forward_runs.proofs.tests.forwards.Goals as goal
 
 -- the desk gave both seats, which are new

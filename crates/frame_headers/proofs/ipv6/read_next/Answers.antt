@@ -1,8 +1,6 @@
 -- Passing over an extension header takes one step of the definition, and at least 8 bytes.
-use Rattle.std.proofs.Common.{◌≡◌, ◌∙◌, sym, ℕ, zero, suc, ◌+◌, ◌*◌, ◌≤◌, ◌<◌, true, List, length, refl, arith}
-use Rattle.std.proofs.lemmas.Grind.{common_steps}
-use Rattle.frame_headers.specs.declared.segment.Addr.{Addr}
-use Rattle.frame_headers.specs.FrameClass.{ipv6_from, is_extension, byte_at}
+use Rattle.std.proofs.{Common.{◌≡◌, ◌∙◌, sym, ℕ, zero, suc, ◌+◌, ◌*◌, ◌≤◌, ◌<◌, true, List, length, refl, arith}, lemmas.Grind.{common_steps}}
+use Rattle.frame_headers.specs.{declared.segment.Addr.{Addr}, FrameClass.{ipv6_from, is_extension, byte_at}}
 use Rattle.frame_headers.proofs.ipv6.read_next.Goals as goal
 
 -- of enough steps one is left

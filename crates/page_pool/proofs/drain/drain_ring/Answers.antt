@@ -1,7 +1,7 @@
 use Rattle.std.proofs.Common.{◌∙◌, ◌+◌, ◌≤◌, arith, refl, true, inl, inr, length}
 use Rattle.page_pool.proofs.Entries.{DealsRing-none, DealsRing-stray, DealsRing-honoured, honoured-most, stray-most}
-use Rattle.page_pool.proofs.drain.drain_ring.Goals as goal
 use Rattle.page_pool.proofs.drain.drain_ring.Goals.{in-Stray, in-Freed, in-Honoured}
+use Rattle.page_pool.proofs.drain.drain_ring.Goals as goal
 
 pub loop-count-init : goal.loop-count-init
 loop-count-init g c = record {

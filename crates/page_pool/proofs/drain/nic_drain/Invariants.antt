@@ -1,8 +1,5 @@
 use Rattle.std.proofs.Common.{◌≡◌, ℕ, ◌*◌, ◌<◌, ◌≤◌}
-use Rattle.board_face.specs.Looks.{NicRose}
-use Rattle.board_face.specs.NicCalls.{apps_of}
-use Rattle.board_face.specs.NicEvents.{nic_gist}
-use Rattle.board_face.specs.declared.views.nic.NicLook.TheVariants.{RingEmpty}
+use Rattle.board_face.specs.{Looks.{NicRose}, NicCalls.{apps_of}, NicEvents.{nic_gist}, declared.views.nic.NicLook.TheVariants.{RingEmpty}}
 use Rattle.page_pool.specs.Dealing.{DrainsFirst}
 use Rattle.page_pool.proofs.drain.nic_drain.Given as goal
 

@@ -1,9 +1,6 @@
-use Rattle.std.proofs.Common.{rules, arith, refl, sym, ◌≡◌, None, Some}
-use Rattle.std.proofs.lemmas.List.Elements.{All-head}
-use Rattle.board_face.specs.Texts.{IsSplitNote}
-use Rattle.board_face.proofs.LookLemmas.{NicRose-later}
-use Rattle.page_pool.specs.declared.pool.Pending.{Pending}
-use Rattle.page_pool.specs.Pool.{is_short, is_piece}
+use Rattle.std.proofs.{Common.{rules, arith, refl, sym, ◌≡◌, None, Some}, lemmas.List.Elements.{All-head}}
+use Rattle.board_face.{specs.Texts.{IsSplitNote}, proofs.LookLemmas.{NicRose-later}}
+use Rattle.page_pool.specs.{declared.pool.Pending.{Pending}, Pool.{is_short, is_piece}}
 use Rattle.page_pool.proofs.Sending.{PoolStands-sent, PoolStands-short, OnlySends-none, OnlySends-sent, OnlySends-short, OnlySends-refused}
 use Rattle.page_pool.proofs.flush.nic_flush.Goals.{in-Some+else-not-send_linear, in_default}
 use Rattle.page_pool.proofs.flush.nic_flush.Goals as goal

@@ -1,8 +1,6 @@
-use Rattle.std.proofs.Common.{◌≡◌, ◌∙◌, true, false, nat_le, length, sym, ap, arith}
-use Rattle.std.proofs.lemmas.Bool.{lt-leb, le-leb}
+use Rattle.std.proofs.{Common.{◌≡◌, ◌∙◌, true, false, nat_le, length, sym, ap, arith}, lemmas.Bool.{lt-leb, le-leb}}
 use Rattle.board_face.proofs.LookLemmas.{NicRose-later, NicLooksStay-trans}
-use Rattle.page_pool.specs.declared.offer.Verdict.TheVariants.{Accepted, NoRoom}
-use Rattle.page_pool.specs.Pool.{PoolState}
+use Rattle.page_pool.specs.{declared.offer.Verdict.TheVariants.{Accepted, NoRoom}, Pool.{PoolState}}
 use Rattle.page_pool.proofs.Accepting.{flushed_all, next_told, none_is_next, LacksRoom-none, Accepts-either, Refuses-split, Accepts-split, PlacesSplit-looks}
 use Rattle.page_pool.proofs.Accepting.{Offers-keep}
 use Rattle.page_pool.proofs.offer.nic_offer.Goals as goal

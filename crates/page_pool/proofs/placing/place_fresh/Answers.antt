@@ -1,6 +1,5 @@
 use Rattle.std.proofs.Common.{◌≡◌, ◌<◌, ◌+◌, [], ◌∷◌, length, take, drop, arith, refl, ap, ◌∙◌, length-append, length-take, length-drop}
-use Rattle.board_face.specs.Tokens.{filled_by}
-use Rattle.board_face.specs.declared.views.nic.NicView.{NicView}
+use Rattle.board_face.specs.{Tokens.{filled_by}, declared.views.nic.NicView.{NicView}}
 use Rattle.page_pool.proofs.PlacedParts.{FreshSoFar-none, FreshSoFar-next, FreshSoFar-last, FreshSoFar-cached, own-some, fewer-parts, owns-placed}
 use Rattle.page_pool.proofs.placing.place_fresh.Goals as goal
 

@@ -1,9 +1,7 @@
 -- A record is its header and its captured bytes.
-use Rattle.std.proofs.Common.{◌≡◌, sym, subst}
-use Rattle.std.proofs.lemmas.Result.{err_from_is_err_and}
+use Rattle.std.proofs.{Common.{◌≡◌, sym, subst}, lemmas.Result.{err_from_is_err_and}}
 use Rattle.zr_kinds.specs.declared.fault.Fault.TheVariants.{Memory}
-use Rattle.pcap_reader.specs.Steps.{BodyStops}
-use Rattle.pcap_reader.proofs.Joined.{Stops-bodiless, Took-record, Took-record-alone, Took-wanting}
+use Rattle.pcap_reader.{specs.Steps.{BodyStops}, proofs.Joined.{Stops-bodiless, Took-record, Took-record-alone, Took-wanting}}
 use Rattle.pcap_reader.proofs.capture.read_next.Goals as goal
 
 pub returns-in_err-read_body-clause-gives : goal.returns-in_err-read_body-clause-gives

@@ -1,10 +1,7 @@
 -- Each read goes on behind what was filled before.
-use Rattle.std.proofs.Common.{◌≡◌, ℕ, ◌+◌, ◌≤◌, List, ◌++◌, rules, length, take, ap, ◌∙◌, sym, subst}
-use Rattle.std.proofs.lemmas.List.{take-append-le, length-take-le}
-use Rattle.std.specs.Io.KnownBytes.{Consumes}
-use Rattle.std.proofs.KnownBytes.{Consumes-trans}
+use Rattle.std.proofs.{Common.{◌≡◌, ℕ, ◌+◌, ◌≤◌, List, ◌++◌, rules, length, take, ap, ◌∙◌, sym, subst}, lemmas.List.{take-append-le, length-take-le}}
+use Rattle.std.{specs.Io.KnownBytes.{Consumes}, proofs.{KnownBytes.{Consumes-trans}, Math.Seq.{take-append-add}}}
 use borrow.Rule.Slice.PartMut.{put_mid, post_of}
-use Rattle.std.proofs.Math.Seq.{take-append-add}
 use Rattle.pcap_reader.proofs.filling.fill.Goals as goal
 
 -- the front of a list whose part behind a was read over

@@ -1,6 +1,5 @@
 -- What was filled so far is what was taken from the source.
-use Rattle.std.proofs.Common.{◌≡◌, ◌-◌, ◌≤◌, length, take}
-use Rattle.std.specs.Io.KnownBytes.{Consumes}
+use Rattle.std.{proofs.Common.{◌≡◌, ◌-◌, ◌≤◌, length, take}, specs.Io.KnownBytes.{Consumes}}
 use Rattle.pcap_reader.proofs.filling.fill.Given as goal
 
 abbrev pub invariant-loop-filled : goal.invariant-loop-filled

@@ -1,13 +1,10 @@
 -- What the fields of a file header show.
-use Rattle.std.proofs.Common.{◌≡◌, ℕ, ◌%◌, ◌∙◌, length, drop, arith, ap, sym}
-use Rattle.std.proofs.lemmas.Result.{err_from_is_err_and}
+use Rattle.std.proofs.{Common.{◌≡◌, ℕ, ◌%◌, ◌∙◌, length, drop, arith, ap, sym}, lemmas.Result.{err_from_is_err_and}}
 use Rattle.zr_kinds.specs.declared.fault.Fault.TheVariants.{Version, LinkType}
 use Rattle.zr_io.proofs.Moved.{Took-consumed}
-use Rattle.pcap_reader.specs.Records.{number}
-use Rattle.pcap_reader.specs.Steps.{fault_of_fields}
+use Rattle.pcap_reader.specs.{Records.{number}, Steps.{fault_of_fields}}
 use Rattle.pcap_reader.proofs.HeaderLaws.{fault_of_fields-cut, fault_of_fields-version, fault_of_fields-link, behind_magic-good}
-use Rattle.pcap_reader.proofs.Joined.{HeaderStops-broken, HeaderStops-front, fronts-short}
-use Rattle.pcap_reader.proofs.RecordLaws.{number_in}
+use Rattle.pcap_reader.proofs.{Joined.{HeaderStops-broken, HeaderStops-front, fronts-short}, RecordLaws.{number_in}}
 use Rattle.pcap_reader.proofs.header.read_fields.Goals as goal
 
 pub returns-in_err-fill_whole-clause-takes : goal.returns-in_err-fill_whole-clause-takes

@@ -1,8 +1,6 @@
 -- A header that is cut or states too many bytes.
-use Rattle.std.proofs.Common.{◌≡◌, length, arith}
-use Rattle.std.proofs.lemmas.Result.{err_from_is_err_and}
-use Rattle.pcap_reader.proofs.RecordLaws.{number_in}
-use Rattle.pcap_reader.proofs.Joined.{Stops-headless, Stops-cut, Stops-long}
+use Rattle.std.proofs.{Common.{◌≡◌, length, arith}, lemmas.Result.{err_from_is_err_and}}
+use Rattle.pcap_reader.proofs.{RecordLaws.{number_in}, Joined.{Stops-headless, Stops-cut, Stops-long}}
 use Rattle.pcap_reader.proofs.record.read_record.Goals as goal
 
 pub returns-in_err-filled-clause-takes : goal.returns-in_err-filled-clause-takes

@@ -1,17 +1,11 @@
 -- An interface's block adds it to the section. Memory for it is wanted before the rest of the block is read.
-use Rattle.std.proofs.Common.{◌≡◌, ℕ, ◌+◌, rules, List, [], ◌∷◌, ◌++◌, drop, Some, ap, sym, refl, ◌∙◌, arith}
-use Rattle.std.proofs.lemmas.Result.{err_from_is_err_and}
+use Rattle.std.proofs.{Common.{◌≡◌, ℕ, ◌+◌, rules, List, [], ◌∷◌, ◌++◌, drop, Some, ap, sym, refl, ◌∙◌, arith}, lemmas.Result.{err_from_is_err_and}}
 use Rattle.zr_io.proofs.Moved.{Took-weaker, Took-nothing}
-use Rattle.pcap_reader.specs.declared.order.ByteOrder.{ByteOrder}
-use Rattle.pcap_reader.specs.Records.{number}
-use Rattle.pcap_reader.proofs.Joined.{always, Keeps-same}
+use Rattle.pcap_reader.{specs.{declared.order.ByteOrder.{ByteOrder}, Records.{number}}, proofs.Joined.{always, Keeps-same}}
 use Rattle.pcapng_reader.specs.declared.kind.Kind.TheVariants.{InterfaceDescription}
 use Rattle.pcapng_reader.specs.Blocks.{Section, Kind, Interface, fixed_len, fixed_fault, is_packet, section_behind, order_told}
-use Rattle.pcapng_reader.specs.Steps.{told, head_bytes, IsInterfaceFault}
-use Rattle.pcapng_reader.proofs.BlockLaws.{fits-room, fixed_most}
-use Rattle.pcapng_reader.proofs.BlockSteps.{end-stops, end-alone}
-use Rattle.pcapng_reader.proofs.Heads.{number_of}
-use Rattle.pcapng_reader.proofs.WholeBlocks.{head-alone, head-wants, block-passed, section-same}
+use Rattle.pcapng_reader.{specs.Steps.{told, head_bytes, IsInterfaceFault}, proofs.{BlockLaws.{fits-room, fixed_most}, BlockSteps.{end-stops, end-alone}}}
+use Rattle.pcapng_reader.proofs.{Heads.{number_of}, WholeBlocks.{head-alone, head-wants, block-passed, section-same}}
 use Rattle.pcapng_reader.proofs.blocks.add_interface.Goals as goal
 
 interface-same : (a b m n : ℕ) → a ≡ b → m ≡ n

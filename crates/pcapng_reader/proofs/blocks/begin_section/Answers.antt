@@ -1,19 +1,12 @@
 -- A section header of another version is refused, and a whole one begins a section without interfaces.
-use Rattle.std.proofs.Common.{◌≡◌, ◌≢◌, ℕ, ◌+◌, ◌==◌, List, [], drop, Some, None, Option, ap, sym, refl, ◌∙◌, arith, eq-eqb, ne_eqb}
-use Rattle.std.specs.Option.{unwrap_or}
-use Rattle.std.proofs.lemmas.Result.{err_from_is_err_and}
-use Rattle.std.proofs.lemmas.Bool.{cond-true, cond-false}
+use Rattle.std.{proofs.Common.{◌≡◌, ◌≢◌, ℕ, ◌+◌, ◌==◌, List, [], drop, Some, None, Option, ap, sym, refl, ◌∙◌, arith, eq-eqb, ne_eqb}, specs.Option.{unwrap_or}}
+use Rattle.std.proofs.lemmas.{Result.{err_from_is_err_and}, Bool.{cond-true, cond-false}}
 use Rattle.zr_kinds.specs.declared.fault.Fault.TheVariants.{Version}
 use Rattle.zr_io.proofs.Moved.{Took-weaker}
-use Rattle.pcap_reader.specs.declared.order.ByteOrder.{ByteOrder}
-use Rattle.pcap_reader.specs.Records.{number}
-use Rattle.pcapng_reader.specs.declared.kind.Kind.TheVariants.{SectionHeader}
-use Rattle.pcapng_reader.specs.Blocks.{Section, Kind, fixed_len, fixed_fault, is_packet, section_behind, order_told}
-use Rattle.pcapng_reader.specs.Steps.{told, head_bytes, fault_from, IsHeaderFault}
-use Rattle.pcapng_reader.proofs.BlockLaws.{fits-room, fixed_most, head-fault}
-use Rattle.pcapng_reader.proofs.BlockSteps.{stops-before, end-stops, end-alone}
-use Rattle.pcapng_reader.proofs.Heads.{number_of}
-use Rattle.pcapng_reader.proofs.WholeBlocks.{block-passed, section-same}
+use Rattle.pcap_reader.specs.{declared.order.ByteOrder.{ByteOrder}, Records.{number}}
+use Rattle.pcapng_reader.specs.{declared.kind.Kind.TheVariants.{SectionHeader}, Blocks.{Section, Kind, fixed_len, fixed_fault, is_packet, section_behind, order_told}}
+use Rattle.pcapng_reader.{specs.Steps.{told, head_bytes, fault_from, IsHeaderFault}, proofs.BlockLaws.{fits-room, fixed_most, head-fault}}
+use Rattle.pcapng_reader.proofs.{BlockSteps.{stops-before, end-stops, end-alone}, Heads.{number_of}, WholeBlocks.{block-passed, section-same}}
 use Rattle.pcapng_reader.proofs.blocks.begin_section.Goals as goal
 
 other_version : (s : Section) (kind : Kind) (order : ByteOrder) (bytes : List ℕ) (major : ℕ) → kind ≡ SectionHeader

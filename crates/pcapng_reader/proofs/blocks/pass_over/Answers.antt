@@ -1,12 +1,8 @@
 -- A block that says nothing of packets.
-use Rattle.std.proofs.Common.{[], ap, refl, arith}
-use Rattle.std.proofs.lemmas.Result.{err_from_is_err_and}
+use Rattle.std.proofs.{Common.{[], ap, refl, arith}, lemmas.Result.{err_from_is_err_and}}
 use Rattle.zr_io.proofs.Moved.{Took-weaker}
-use Rattle.pcapng_reader.specs.Blocks.{Kind, fixed_fault, is_packet, section_behind}
-use Rattle.pcapng_reader.specs.Steps.{told, head_bytes, IsHeaderFault}
-use Rattle.pcapng_reader.proofs.BlockLaws.{fits-room}
-use Rattle.pcapng_reader.proofs.BlockSteps.{end-stops, end-alone}
-use Rattle.pcapng_reader.proofs.WholeBlocks.{block-passed}
+use Rattle.pcapng_reader.{specs.{Blocks.{Kind, fixed_fault, is_packet, section_behind}, Steps.{told, head_bytes, IsHeaderFault}}, proofs.BlockLaws.{fits-room}}
+use Rattle.pcapng_reader.proofs.{BlockSteps.{end-stops, end-alone}, WholeBlocks.{block-passed}}
 use Rattle.pcapng_reader.proofs.blocks.pass_over.Goals as goal
 
 pub returns-in_err-read_end-clause-passes : goal.returns-in_err-read_end-clause-passes

@@ -1,13 +1,9 @@
 -- The head of a block, and the rest by its kind.
-use Rattle.std.proofs.Common.{◌≡◌, ◌++◌, ℕ, List, Err, ap, refl}
-use Rattle.std.proofs.lemmas.Result.{err_from_is_err_and}
+use Rattle.std.proofs.{Common.{◌≡◌, ◌++◌, ℕ, List, Err, ap, refl}, lemmas.Result.{err_from_is_err_and}}
 use Rattle.zr_kinds.specs.declared.fault.Fault.TheVariants.{Memory}
 use Rattle.pcap_reader.specs.Records.{with_record}
-use Rattle.pcapng_reader.specs.Blocks.{blocks_in}
-use Rattle.pcapng_reader.specs.Capture.{IsRecordFault, WantsHere}
-use Rattle.pcapng_reader.specs.Steps.{told, head_bytes, fault_from, IsHeaderFault, IsInterfaceFault}
-use Rattle.pcapng_reader.proofs.BlockSteps.{stops-behind, cut-behind, stops-weaker, took-behind, header_comes, interface_comes}
-use Rattle.pcapng_reader.proofs.Heads.{head_cut}
+use Rattle.pcapng_reader.specs.{Blocks.{blocks_in}, Capture.{IsRecordFault, WantsHere}, Steps.{told, head_bytes, fault_from, IsHeaderFault, IsInterfaceFault}}
+use Rattle.pcapng_reader.proofs.{BlockSteps.{stops-behind, cut-behind, stops-weaker, took-behind, header_comes, interface_comes}, Heads.{head_cut}}
 use Rattle.pcapng_reader.proofs.blocks.read_block.Goals as goal
 
 pub returns-in_err-head-clause-takes : goal.returns-in_err-head-clause-takes

@@ -1,6 +1,5 @@
 -- Blocks up to the next packet.
-use Rattle.std.proofs.Common.{◌≡◌, [], rules, Err, ap, refl, ◌∙◌}
-use Rattle.std.proofs.lemmas.Result.{err_from_is_err_and}
+use Rattle.std.proofs.{Common.{◌≡◌, [], rules, Err, ap, refl, ◌∙◌}, lemmas.Result.{err_from_is_err_and}}
 use Rattle.zr_kinds.specs.declared.fault.Fault.TheVariants.{Memory}
 use Rattle.zr_io.proofs.Moved.{Took-nothing}
 use Rattle.pcap_reader.proofs.Joined.{Keeps-same, no-fronts}

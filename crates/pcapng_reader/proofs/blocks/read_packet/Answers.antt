@@ -1,20 +1,11 @@
 -- A packet is judged by its head; then its bytes and the rest of its block are read.
-use Rattle.std.proofs.Common.{◌≡◌, ℕ, ◌+◌, ◌-◌, ◌<◌, true, List, ◌++◌, length, Option, Ok, Err, ap, sym, refl, subst, ◌∙◌, arith}
-use Rattle.std.proofs.lemmas.Result.{err_from_is_err_and}
+use Rattle.std.proofs.{Common.{◌≡◌, ℕ, ◌+◌, ◌-◌, ◌<◌, true, List, ◌++◌, length, Option, Ok, Err, ap, sym, refl, subst, ◌∙◌, arith}, lemmas.Result.{err_from_is_err_and}}
 use Rattle.std.specs.Io.KnownBytes.{Consumes}
-use Rattle.zr_kinds.specs.declared.fault.Fault.{Fault}
-use Rattle.zr_kinds.specs.declared.fault.Fault.TheVariants.{Memory}
-use Rattle.zr_io.specs.Moved.{Took}
-use Rattle.zr_io.proofs.Moved.{Took-consumed, Took-nothing, Took-then}
-use Rattle.pcap_reader.specs.Records.{with_record}
-use Rattle.pcap_reader.specs.Steps.{BodyStops}
-use Rattle.pcap_reader.specs.declared.capture.Record.{Record}
-use Rattle.pcap_reader.proofs.Joined.{always, fronts-short}
-use Rattle.pcapng_reader.specs.declared.head.Head.{Head}
-use Rattle.pcapng_reader.specs.Blocks.{Section, fixed_len, is_packet, block_fault, blocks_in}
-use Rattle.pcapng_reader.specs.Capture.{IsRecordFault, WantsHere}
-use Rattle.pcapng_reader.specs.Steps.{told, head_bytes, fault_from, IsHead, IsPacket, BlockStops, IsCutBefore, TakesEnd}
-use Rattle.pcapng_reader.proofs.BlockLaws.{head-fault, head-cut}
+use Rattle.zr_kinds.specs.declared.fault.Fault.{Fault, TheVariants.{Memory}}
+use Rattle.zr_io.{specs.Moved.{Took}, proofs.Moved.{Took-consumed, Took-nothing, Took-then}}
+use Rattle.pcap_reader.{specs.{Records.{with_record}, Steps.{BodyStops}, declared.capture.Record.{Record}}, proofs.Joined.{always, fronts-short}}
+use Rattle.pcapng_reader.specs.{declared.head.Head.{Head}, Blocks.{Section, fixed_len, is_packet, block_fault, blocks_in}, Capture.{IsRecordFault, WantsHere}}
+use Rattle.pcapng_reader.{specs.Steps.{told, head_bytes, fault_from, IsHead, IsPacket, BlockStops, IsCutBefore, TakesEnd}, proofs.BlockLaws.{head-fault, head-cut}}
 use Rattle.pcapng_reader.proofs.BlockSteps.{stops-broken, stops-then, cut-then, packet-stops, end-stops, end-alone}
 use Rattle.pcapng_reader.proofs.WholeBlocks.{head-alone, packet-wants, packet_keeps, block-record}
 use Rattle.pcapng_reader.proofs.blocks.read_packet.Goals as goal

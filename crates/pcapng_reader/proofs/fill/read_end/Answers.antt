@@ -1,15 +1,10 @@
 -- Behind the bytes that are passed over stands the last number.
-use Rattle.std.proofs.Common.{◌≡◌, ℕ, ◌+◌, ◌<◌, List, ◌++◌, length, drop, Option, Err, arith, length-append, ◌∙◌, ap, sym, refl}
-use Rattle.std.proofs.lemmas.Result.{err_from_is_err_and}
+use Rattle.std.proofs.{Common.{◌≡◌, ℕ, ◌+◌, ◌<◌, List, ◌++◌, length, drop, Option, Err, arith, length-append, ◌∙◌, ap, sym, refl}, lemmas.Result.{err_from_is_err_and}}
 use Rattle.std.proofs.lemmas.List.{drop_at}
-use Rattle.zr_kinds.specs.declared.fault.Fault.{Fault}
-use Rattle.zr_kinds.specs.declared.fault.Fault.TheVariants.{Read, Cut}
+use Rattle.zr_kinds.specs.declared.fault.Fault.{Fault, TheVariants.{Read, Cut}}
 use Rattle.zr_io.proofs.Moved.{Took-consumed, Took-then}
-use Rattle.pcap_reader.specs.declared.order.ByteOrder.{ByteOrder}
-use Rattle.pcap_reader.specs.Records.{number}
-use Rattle.pcap_reader.specs.Steps.{BreaksOff}
-use Rattle.pcapng_reader.specs.Steps.{TakesEnd}
-use Rattle.pcapng_reader.proofs.BlockSteps.{breaks-then, breaks-weaker}
+use Rattle.pcap_reader.specs.{declared.order.ByteOrder.{ByteOrder}, Records.{number}, Steps.{BreaksOff}}
+use Rattle.pcapng_reader.{specs.Steps.{TakesEnd}, proofs.BlockSteps.{breaks-then, breaks-weaker}}
 use Rattle.pcapng_reader.proofs.fill.read_end.Goals as goal
 
 end_broken : (order : ByteOrder) (total count : ℕ) (a b : Option (List ℕ)) (fault : Fault) → BreaksOff a b (λ xs. length xs < count + 4) fault

@@ -1,6 +1,5 @@
 -- A piece more is passed over.
-use Rattle.std.proofs.Common.{◌≡◌, ◌-◌, ◌<◌, rules, length, arith, length-append, ◌∙◌}
-use Rattle.std.proofs.lemmas.Result.{err_from_is_err_and}
+use Rattle.std.proofs.{Common.{◌≡◌, ◌-◌, ◌<◌, rules, length, arith, length-append, ◌∙◌}, lemmas.Result.{err_from_is_err_and}}
 use Rattle.zr_io.proofs.Moved.{Took-consumed, Took-then}
 use Rattle.pcapng_reader.proofs.BlockSteps.{breaks-then}
 use Rattle.pcapng_reader.proofs.fill.skip.Goals as goal

@@ -1,15 +1,11 @@
 -- The first bytes of a block, judged as they come.
-use Rattle.std.proofs.Common.{◌≡◌, ℕ, ◌-◌, ◌<◌, List, ◌++◌, length, take, Some, arith, ap, sym, ◌∙◌, append_assoc}
-use Rattle.std.proofs.lemmas.Result.{err_from_is_err_and}
+use Rattle.std.proofs.{Common.{◌≡◌, ℕ, ◌-◌, ◌<◌, List, ◌++◌, length, take, Some, arith, ap, sym, ◌∙◌, append_assoc}, lemmas.Result.{err_from_is_err_and}}
 use Rattle.std.proofs.lemmas.List.{take_at}
 use Rattle.zr_kinds.specs.declared.fault.Fault.TheVariants.{Cut}
 use Rattle.zr_io.proofs.Moved.{Took-then, Took-weaker}
 use Rattle.pcap_reader.proofs.RecordLaws.{number_in}
-use Rattle.pcapng_reader.specs.Blocks.{begin_len, block_fault}
-use Rattle.pcapng_reader.specs.Steps.{told, fault_from, IsHeaderFault}
-use Rattle.pcapng_reader.proofs.BlockSteps.{breaks-then, stops-broken, stops-bad}
-use Rattle.pcapng_reader.proofs.Heads.{told_of, none_told, may_come, start-cut, begun_of, magic-bad, total-bad, more-cut, later_whole, later_begun}
-use Rattle.pcapng_reader.proofs.Heads.{begin-cuts}
+use Rattle.pcapng_reader.{specs.{Blocks.{begin_len, block_fault}, Steps.{told, fault_from, IsHeaderFault}}, proofs.BlockSteps.{breaks-then, stops-broken, stops-bad}}
+use Rattle.pcapng_reader.proofs.Heads.{told_of, none_told, may_come, start-cut, begun_of, magic-bad, total-bad, more-cut, later_whole, later_begun, begin-cuts}
 use Rattle.pcapng_reader.proofs.head.read_head.Goals as goal
 
 pub returns-in_err-fill_part-clause-takes : goal.returns-in_err-fill_part-clause-takes

@@ -1,9 +1,6 @@
 -- The buffer that was taken is the last that the card has out.
-use Rattle.std.proofs.Common.{rules, ◌≡◌, Some}
-use Rattle.std.proofs.lemmas.List.Elements.{Contains-push}
-use Rattle.board_face.specs.NicCalls.{HasOwn, TookBuffer}
-use Rattle.board_face.specs.declared.views.nic.NicView.{NicView}
-use Rattle.board_face.specs.declared.views.parts.Filling.{Filling}
+use Rattle.std.proofs.{Common.{rules, ◌≡◌, Some}, lemmas.List.Elements.{Contains-push}}
+use Rattle.board_face.specs.{NicCalls.{HasOwn, TookBuffer}, declared.views.{nic.NicView.{NicView}, parts.Filling.{Filling}}}
 use Rattle.plain_runs.proofs.tables.callers_run.Goals as goal
 
 has-taken : (old new : NicView) (own : Filling) → TookBuffer old new own → HasOwn new own

@@ -1,6 +1,5 @@
 -- Each hand is that of its role's side.
-use Rattle.face_table.specs.CardHand.{IsCardHand}
-use Rattle.face_table.specs.AppHand.{IsAppHand}
+use Rattle.face_table.specs.{CardHand.{IsCardHand}, AppHand.{IsAppHand}}
 use Rattle.plain_board.specs.Board.{side_of}
 use Rattle.plain_runs.proofs.tables.play.Given as goal
 

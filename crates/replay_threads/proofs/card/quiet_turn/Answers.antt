@@ -1,8 +1,7 @@
 -- Nothing was taken, and the step was made.
 use Rattle.std.proofs.Common.{refl}
 use Rattle.card_feed.specs.declared.arrived.Arrived.TheVariants.{Nothing}
-use Rattle.replay_threads.proofs.CardTurns.{goes_turn}
-use Rattle.replay_threads.proofs.Rings.{consumer-same}
+use Rattle.replay_threads.proofs.{CardTurns.{goes_turn}, Rings.{consumer-same}}
 use Rattle.replay_threads.proofs.card.quiet_turn.Goals as goal
 
 pub returns : goal.returns

@@ -1,9 +1,7 @@
 -- One message less is to be dropped.
 use Rattle.std.proofs.Common.{◌≡◌, ◌++◌, length, option_to_list, true, sym, ap, subst, ◌∙◌, arith}
-use Rattle.card_feed.specs.Coming.{is_over}
-use Rattle.card_feed.specs.Feed.{FeedState}
-use Rattle.replay_threads.specs.Carried.{MayFollow, has_end}
-use Rattle.replay_threads.proofs.CardTurns.{goes_drop, goes_more}
+use Rattle.card_feed.specs.{Coming.{is_over}, Feed.{FeedState}}
+use Rattle.replay_threads.{specs.Carried.{MayFollow, has_end}, proofs.CardTurns.{goes_drop, goes_more}}
 use Rattle.replay_threads.proofs.dropping.drop_rest.Goals as goal
 
 pub invariant_of-reader : goal.invariant_of-reader

@@ -1,7 +1,5 @@
 -- The turns so far.
-use Rattle.replay_threads.specs.Cards.{CardGoes}
-use Rattle.replay_threads.specs.Lanes.{AllGo}
-use Rattle.replay_threads.specs.Reader.{ReaderGoes}
+use Rattle.replay_threads.specs.{Cards.{CardGoes}, Lanes.{AllGo}, Reader.{ReaderGoes}}
 use Rattle.replay_threads.proofs.playing.play.Given as goal
 
 abbrev pub invariant-loop : goal.invariant-loop

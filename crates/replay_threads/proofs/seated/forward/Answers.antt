@@ -1,8 +1,6 @@
 -- It goes on with its part of the run, or has left.
 use Rattle.std.proofs.Common.{Some, refl}
-use Rattle.replay_threads.specs.declared.seated.Forwarding.{Forwarding}
-use Rattle.replay_threads.specs.Seated.{ForwardsSince}
-use Rattle.replay_threads.proofs.Pourings.{forwards, forwards-out, stood}
+use Rattle.replay_threads.{specs.{declared.seated.Forwarding.{Forwarding}, Seated.{ForwardsSince}}, proofs.Pourings.{forwards, forwards-out, stood}}
 use Rattle.replay_threads.proofs.seated.forward.Goals as goal
 
 pub turn-requires : goal.turn-requires

@@ -1,8 +1,6 @@
 -- It goes on with its part of the run, or has left.
 use Rattle.std.proofs.Common.{Some, refl}
-use Rattle.replay_threads.specs.declared.seated.Pouring.{Pouring}
-use Rattle.replay_threads.specs.Seated.{PoursSince}
-use Rattle.replay_threads.proofs.Pourings.{pours, pours-out, stood}
+use Rattle.replay_threads.{specs.{declared.seated.Pouring.{Pouring}, Seated.{PoursSince}}, proofs.Pourings.{pours, pours-out, stood}}
 use Rattle.replay_threads.proofs.seated.pour.Goals as goal
 
 pub turn-requires : goal.turn-requires

@@ -1,9 +1,7 @@
 -- A turn of an application goes on with its part of the run.
 use Rattle.std.proofs.Common.{◌≡◌, ◌≢◌, true, false, ◌∙◌, subst}
-use Rattle.app_worker.specs.Turns.{Answers}
-use Rattle.app_worker.specs.declared.turn.Turn.TheVariants.{Finished}
-use Rattle.run_account.specs.declared.run.Worker.{Worker}
-use Rattle.run_account.proofs.Workers.{goes-on}
+use Rattle.app_worker.specs.{Turns.{Answers}, declared.turn.Turn.TheVariants.{Finished}}
+use Rattle.run_account.{specs.declared.run.Worker.{Worker}, proofs.Workers.{goes-on}}
 use Rattle.replay_threads.proofs.seated.take_turn.Goals.{in-Finished, in_default}
 use Rattle.replay_threads.proofs.seated.take_turn.Goals as goal
 

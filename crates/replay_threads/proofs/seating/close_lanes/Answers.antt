@@ -1,11 +1,8 @@
 -- The last lane's seat goes back, and its shelf and its worker come to the end of theirs.
-use Rattle.std.proofs.Common.{◌≡◌, ◌++◌, ◌∷◌, [], map, Option, Some, sym, ap, subst, arith, ◌∙◌}
-use Rattle.std.specs.Prelude.{true, IfSome}
-use Rattle.std.proofs.lemmas.List.{append-nil, map-append}
+use Rattle.std.{proofs.{Common.{◌≡◌, ◌++◌, ◌∷◌, [], map, Option, Some, sym, ap, subst, arith, ◌∙◌}, lemmas.List.{append-nil, map-append}}, specs.Prelude.{true, IfSome}}
 use Rattle.std.proofs.lemmas.List.Elements.{All-pop}
 use Rattle.word_board.specs.Board.{TheApp, TheDesk}
-use Rattle.replay_threads.specs.Seated.{end_of, is_gone, left_end, seat_of, shelf_of}
-use Rattle.replay_threads.proofs.Reversed.{given-one}
+use Rattle.replay_threads.{specs.Seated.{end_of, is_gone, left_end, seat_of, shelf_of}, proofs.Reversed.{given-one}}
 use Rattle.replay_threads.proofs.seating.close_lanes.Goals as goal
 
 -- what holds of the one that was popped

@@ -1,8 +1,7 @@
 -- The lanes that are left, and what came of the others.
 use Rattle.std.specs.Prelude.{◌≡◌, ◌+◌, ◌≤◌, ◌++◌, map, reverse, true, All, vec_len, vec_capacity}
 use Rattle.word_board.specs.Desk.{AreOfBoard, AreServed}
-use Rattle.replay_threads.specs.Lanes.{AreAtBoard}
-use Rattle.replay_threads.specs.Seated.{end_of, is_gone, left_end, seat_of, shelf_of}
+use Rattle.replay_threads.specs.{Lanes.{AreAtBoard}, Seated.{end_of, is_gone, left_end, seat_of, shelf_of}}
 use Rattle.replay_threads.proofs.seating.close_lanes.Given as goal
 
 abbrev pub invariant-loop-lane : goal.invariant-loop-lane

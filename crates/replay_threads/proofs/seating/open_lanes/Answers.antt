@@ -1,13 +1,8 @@
 -- One lane more: its application begins.
-use Rattle.std.proofs.Common.{rules, ◌≡◌, suc, ◌++◌, ◌∷◌, [], sym, ap, ◌∙◌, subst, arith}
-use Rattle.std.specs.Prelude.{All, reverse, vec_len}
-use Rattle.std.proofs.lemmas.List.Elements.{All-push}
+use Rattle.std.{proofs.{Common.{rules, ◌≡◌, suc, ◌++◌, ◌∷◌, [], sym, ap, ◌∙◌, subst, arith}, lemmas.List.Elements.{All-push}}, specs.Prelude.{All, reverse, vec_len}}
 use Rattle.board_face.specs.Opened.{new_app}
 use Rattle.card_feed.specs.Plan.{how_of}
-use Rattle.replay_threads.specs.declared.lane.Lane.{Lane}
-use Rattle.replay_threads.specs.Lanes.{AreAtOpening}
-use Rattle.replay_threads.specs.Seated.{Begins, shelf_of}
-use Rattle.replay_threads.proofs.Reversed.{reverse-last, taken-one}
+use Rattle.replay_threads.{specs.{declared.lane.Lane.{Lane}, Lanes.{AreAtOpening}, Seated.{Begins, shelf_of}}, proofs.Reversed.{reverse-last, taken-one}}
 use Rattle.replay_threads.proofs.Starts.{first-starts, last-start}
 use Rattle.replay_threads.proofs.seating.open_lanes.Goals as goal
 

@@ -2,11 +2,8 @@
 use Rattle.std.specs.Prelude.{◌≡◌, ℕ, ◌+◌, ◌<◌, ◌≤◌, ◌++◌, map, reverse, false, All, vec_len, vec_capacity}
 use Rattle.board_face.specs.NicCalls.{apps_of}
 use Rattle.word_board.specs.Board.{was_given}
-use Rattle.card_feed.specs.Plan.{how_of}
-use Rattle.card_feed.specs.declared.plan.Plan.{Plan}
-use Rattle.replay_threads.specs.Lanes.{AreAtOpening}
-use Rattle.replay_threads.specs.Seated.{AreStarts, Begins, shelf_of}
-use Rattle.replay_threads.proofs.Starts.{AreStartsSoFar}
+use Rattle.card_feed.specs.{Plan.{how_of}, declared.plan.Plan.{Plan}}
+use Rattle.replay_threads.{specs.{Lanes.{AreAtOpening}, Seated.{AreStarts, Begins, shelf_of}}, proofs.Starts.{AreStartsSoFar}}
 use Rattle.replay_threads.proofs.seating.open_lanes.Given as goal
 
 abbrev pub invariant-loop-start : goal.invariant-loop-start

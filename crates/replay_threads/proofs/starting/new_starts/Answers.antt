@@ -1,8 +1,6 @@
 -- What one more application begins with.
-use Rattle.std.proofs.Common.{◌≡◌, length, Some, None, sym, ap, ◌∙◌, subst, arith}
-use Rattle.std.specs.List.{slice_get}
-use Rattle.replay_threads.specs.Seated.{IsStart}
-use Rattle.replay_threads.specs.declared.seated.Start.{Start}
+use Rattle.std.{proofs.Common.{◌≡◌, length, Some, None, sym, ap, ◌∙◌, subst, arith}, specs.List.{slice_get}}
+use Rattle.replay_threads.specs.{Seated.{IsStart}, declared.seated.Start.{Start}}
 use Rattle.run_account.proofs.Places.{here, there, in-push, length-push}
 use Rattle.replay_threads.proofs.starting.new_starts.Goals as goal
 

@@ -1,8 +1,6 @@
 -- What each application so far begins with.
-use Rattle.std.proofs.Common.{◌≡◌, ℕ, Some, length}
-use Rattle.std.specs.List.{slice_get}
-use Rattle.replay_threads.specs.Seated.{IsStart}
-use Rattle.replay_threads.specs.declared.seated.Start.{Start}
+use Rattle.std.{proofs.Common.{◌≡◌, ℕ, Some, length}, specs.List.{slice_get}}
+use Rattle.replay_threads.specs.{Seated.{IsStart}, declared.seated.Start.{Start}}
 use Rattle.replay_threads.proofs.starting.new_starts.Given as goal
 
 abbrev pub invariant-loop-app : goal.invariant-loop-app

@@ -1,9 +1,7 @@
 use Rattle.std.proofs.Common.{rules, ◌≡◌, ap}
 use Rattle.app_worker.specs.Marks.{FramesStandTogether}
-use Rattle.plain_board.specs.Board.{others_of}
-use Rattle.plain_board.specs.declared.others.Others.{Others}
-use Rattle.flow_queues.specs.Shelves.{AreShelved, AreFronts}
-use Rattle.flow_queues.specs.Streams.{HasFronts, HasAll}
+use Rattle.plain_board.specs.{Board.{others_of}, declared.others.Others.{Others}}
+use Rattle.flow_queues.specs.{Shelves.{AreShelved, AreFronts}, Streams.{HasFronts, HasAll}}
 use Rattle.replay_turns.proofs.Standing.{others_stand, view_stands}
 use Rattle.replay_turns.proofs.board_turns.app_step.Goals as goal
 

@@ -1,11 +1,7 @@
-use Rattle.std.proofs.Common.{◌≡◌, Bool, true, false, ap}
-use Rattle.std.specs.Prelude.{MatchBool}
+use Rattle.std.{proofs.Common.{◌≡◌, Bool, true, false, ap}, specs.Prelude.{MatchBool}}
 use Rattle.board_face.specs.declared.views.nic.NicView.{NicView}
-use Rattle.plain_board.specs.Board.{applications_of}
-use Rattle.plain_board.specs.Seen.{IsSeenByCard}
-use Rattle.plain_board.specs.declared.others.Applications.{Applications}
-use Rattle.card_feed.specs.Feed.{FeedState}
-use Rattle.card_feed.specs.Turns.{IsIdle}
+use Rattle.plain_board.specs.{Board.{applications_of}, Seen.{IsSeenByCard}, declared.others.Applications.{Applications}}
+use Rattle.card_feed.specs.{Feed.{FeedState}, Turns.{IsIdle}}
 use Rattle.replay_turns.proofs.board_turns.card_step.Goals as goal
 
 -- what the card saw is so of the applications beside it

@@ -1,15 +1,10 @@
 -- Nobody has taken a turn.
-use Rattle.std.proofs.Common.{◌≡◌, length, Option, IfSome, [], refl, sym, ap, ◌∙◌, subst, arith}
-use Rattle.std.proofs.Common.{◌<◌}
-use Rattle.std.specs.Prelude.{All}
-use Rattle.std.proofs.lemmas.List.Elements.{All-nil}
+use Rattle.std.{proofs.{Common.{◌≡◌, length, Option, IfSome, [], refl, sym, ap, ◌∙◌, subst, arith, ◌<◌}, lemmas.List.Elements.{All-nil}}, specs.Prelude.{All}}
 use Rattle.area_layout.specs.Layout.{Shape}
 use Rattle.board_face.specs.declared.views.nic.Dealt.{Dealt}
-use Rattle.card_feed.specs.Feed.{FeedState}
+use Rattle.card_feed.specs.{Feed.{FeedState}, Plan.{layout_of}}
 use Rattle.plain_board.specs.Board.{Board, new_board}
-use Rattle.card_feed.specs.Plan.{layout_of}
-use Rattle.run_account.proofs.NewWorkers.{new-fits, new-runs}
-use Rattle.run_account.proofs.Places.{get-within}
+use Rattle.run_account.proofs.{NewWorkers.{new-fits, new-runs}, Places.{get-within}}
 use Rattle.replay_turns.proofs.News.{begun}
 use Rattle.replay_turns.proofs.opening.open.Goals as goal
 

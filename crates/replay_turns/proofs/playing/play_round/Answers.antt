@@ -1,9 +1,6 @@
 -- Each turn goes on, and is told of.
 use Rattle.std.proofs.Common.{◌≡◌, length, refl, subst, arith}
-use Rattle.replay_turns.specs.Following.{Follows, moment, round_of}
-use Rattle.replay_turns.proofs.Following.{follows-app}
-use Rattle.replay_turns.proofs.Turns.{plays-through}
-use Rattle.replay_turns.proofs.Rounds.{begins, turns, ends}
+use Rattle.replay_turns.{specs.Following.{Follows, moment, round_of}, proofs.{Following.{follows-app}, Turns.{plays-through}, Rounds.{begins, turns, ends}}}
 use Rattle.replay_turns.proofs.playing.play_round.Goals as goal
 
 pub loop-app-init : goal.loop-app-init

@@ -1,7 +1,5 @@
 -- What was played so far goes on with the run by its roles, and says what was done.
-use Rattle.replay_turns.specs.Following.{Follows, moment, round_of}
-use Rattle.replay_turns.specs.Running.{Plays}
-use Rattle.replay_turns.proofs.Rounds.{GoesRound}
+use Rattle.replay_turns.{specs.{Following.{Follows, moment, round_of}, Running.{Plays}}, proofs.Rounds.{GoesRound}}
 use Rattle.replay_turns.proofs.playing.play_round.Given as goal
 
 abbrev pub invariant-loop-app : goal.invariant-loop-app

@@ -1,11 +1,6 @@
 -- Each round that did something goes on and brings the run nearer to its end; one in which nothing was done finds it over.
-use Rattle.std.proofs.Common.{◌<◌, suc, length, refl, subst}
-use Rattle.std.specs.Prelude.{MatchBool}
-use Rattle.replay_turns.specs.Steps.{run_steps}
-use Rattle.replay_turns.specs.Stuck.{AreStuck}
-use Rattle.replay_turns.proofs.AllLeft.{stuck-over}
-use Rattle.replay_turns.proofs.Following.{follows-round}
-use Rattle.replay_turns.proofs.StepsLeft.{still-of, left-falls}
+use Rattle.std.{proofs.Common.{◌<◌, suc, length, refl, subst}, specs.Prelude.{MatchBool}}
+use Rattle.replay_turns.{specs.{Steps.{run_steps}, Stuck.{AreStuck}}, proofs.{AllLeft.{stuck-over}, Following.{follows-round}, StepsLeft.{still-of, left-falls}}}
 use Rattle.replay_turns.proofs.Turns.{plays-through}
 use Rattle.replay_turns.proofs.playing.play_rounds.Goals as goal
 

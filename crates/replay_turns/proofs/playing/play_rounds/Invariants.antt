@@ -1,8 +1,6 @@
 -- What was played so far goes on with the run by whole rounds, which comes nearer to what it comes to at most.
 use Rattle.std.proofs.Common.{ℕ, length}
-use Rattle.replay_turns.specs.Following.{Follows, moment, rounds_of}
-use Rattle.replay_turns.specs.Running.{Plays}
-use Rattle.replay_turns.proofs.StepsLeft.{steps_left}
+use Rattle.replay_turns.{specs.{Following.{Follows, moment, rounds_of}, Running.{Plays}}, proofs.StepsLeft.{steps_left}}
 use Rattle.replay_turns.proofs.playing.play_rounds.Given as goal
 
 abbrev pub invariant-loop-alloc : goal.invariant-loop-alloc

@@ -1,8 +1,6 @@
 -- Each turn goes on, and is that of its letter.
 use Rattle.std.proofs.Common.{subst}
-use Rattle.replay_turns.specs.Following.{Moves, moment}
-use Rattle.replay_turns.proofs.Following.{follows-letter}
-use Rattle.replay_turns.proofs.Turns.{plays-through}
+use Rattle.replay_turns.{specs.Following.{Moves, moment}, proofs.{Following.{follows-letter}, Turns.{plays-through}}}
 use Rattle.replay_turns.proofs.playing.play_text.Goals as goal
 
 pub loop-letter-preserved : goal.loop-letter-preserved

@@ -1,8 +1,6 @@
 -- What was played so far goes on with the run, and follows the letters.
 use Rattle.std.proofs.Common.{map}
-use Rattle.replay_turns.specs.Following.{Follows, moment}
-use Rattle.replay_turns.specs.Running.{Plays}
-use Rattle.replay_turns.specs.Schedule.{role_of}
+use Rattle.replay_turns.specs.{Following.{Follows, moment}, Running.{Plays}, Schedule.{role_of}}
 use Rattle.replay_turns.proofs.playing.play_text.Given as goal
 
 abbrev pub invariant-loop-letter : goal.invariant-loop-letter

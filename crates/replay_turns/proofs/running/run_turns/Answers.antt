@@ -2,12 +2,8 @@
 use Rattle.std.proofs.Common.{◌≡◌, ℕ, List, length, inl, refl, sym, ap, subst, ◌∙◌, arith}
 use Rattle.plain_board.specs.Board.{Board}
 use Rattle.card_feed.specs.declared.outcome.Outcome.{Outcome}
-use Rattle.run_account.specs.Ran.{TellsOf, TellsOfEnds}
-use Rattle.run_account.specs.Running.{ends_of}
-use Rattle.run_account.specs.declared.run.Run.{Run}
-use Rattle.run_account.specs.declared.run.Worker.{Worker}
-use Rattle.replay_turns.specs.Schedule.{AreTurns}
-use Rattle.replay_turns.proofs.WholeRun.{on-err, whole-runs, text-fits, text-plan, run-by, run-told, run-lacks}
+use Rattle.run_account.specs.{Ran.{TellsOf, TellsOfEnds}, Running.{ends_of}, declared.run.{Run.{Run}, Worker.{Worker}}}
+use Rattle.replay_turns.{specs.Schedule.{AreTurns}, proofs.WholeRun.{on-err, whole-runs, text-fits, text-plan, run-by, run-told, run-lacks}}
 use Rattle.replay_turns.proofs.running.run_turns.Goals as goal
 
 -- what was told of the lists that it was given is told of the run

@@ -1,25 +1,13 @@
 -- A turn of an application goes on with the run.
-use Rattle.std.proofs.Common.{◌≡◌, ◌≢◌, ◌<◌, Bool, true, false, not, length, get_or, inl, inr, refl, sym, ap, ◌∙◌, subst, arith}
-use Rattle.std.specs.Prelude.{MatchBool}
-use Rattle.std.proofs.lemmas.List.{length-set}
-use Rattle.std.proofs.lemmas.Option.{slice_get_read, slice_get-get_or}
-use Rattle.std.specs.Vec.{with_item}
+use Rattle.std.{proofs.Common.{◌≡◌, ◌≢◌, ◌<◌, Bool, true, false, not, length, get_or, inl, inr, refl, sym, ap, ◌∙◌, subst, arith}, specs.Prelude.{MatchBool}}
+use Rattle.std.{proofs.lemmas.{List.{length-set}, Option.{slice_get_read, slice_get-get_or}}, specs.Vec.{with_item}}
 use Rattle.plain_board.specs.Board.{side_of}
-use Rattle.app_worker.specs.Turns.{Answers}
-use Rattle.app_worker.specs.declared.turn.Turn.TheVariants.{Finished}
+use Rattle.app_worker.specs.{Turns.{Answers}, declared.turn.Turn.TheVariants.{Finished}}
 use Rattle.card_feed.specs.Account.{kept_in}
-use Rattle.replay_turns.specs.Rounds.{DidNothing}
-use Rattle.run_account.specs.Running.{losses_in}
-use Rattle.replay_turns.specs.Running.{RunFits}
-use Rattle.replay_turns.specs.Steps.{run_steps}
-use Rattle.replay_turns.specs.declared.role.Role.TheVariants.{App}
-use Rattle.run_account.specs.declared.run.Run.{Run}
-use Rattle.run_account.specs.declared.run.Worker.{Worker}
-use Rattle.replay_turns.proofs.Answering.{gone-idle, app-idles, app-rises}
-use Rattle.replay_turns.proofs.Rising.{turns-rise}
-use Rattle.replay_turns.proofs.Turns.{app-fits, app-runs}
-use Rattle.run_account.proofs.Workers.{goes-on}
+use Rattle.replay_turns.specs.{Rounds.{DidNothing}, Running.{RunFits}, Steps.{run_steps}, declared.role.Role.TheVariants.{App}}
+use Rattle.replay_turns.proofs.{Answering.{gone-idle, app-idles, app-rises}, Rising.{turns-rise}, Turns.{app-fits, app-runs}}
 use Rattle.replay_turns.proofs.stepping.app_turn.Goals.{in-Finished, in_default, in-Idle, in_default-matches}
+use Rattle.run_account.{specs.{Running.{losses_in}, declared.run.{Run.{Run}, Worker.{Worker}}}, proofs.Workers.{goes-on}}
 use Rattle.replay_turns.proofs.stepping.app_turn.Goals as goal
 
 pub returns-then-index : goal.returns-then-index

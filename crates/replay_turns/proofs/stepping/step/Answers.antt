@@ -1,14 +1,9 @@
 -- A turn of the card, or of an application.
-use Rattle.std.proofs.Common.{◌<◌, ◌≤◌, refl, sym, subst}
-use Rattle.std.specs.Prelude.{MatchBool}
+use Rattle.std.{proofs.Common.{◌<◌, ◌≤◌, refl, sym, subst}, specs.Prelude.{MatchBool}}
 use Rattle.zr_kinds.specs.Limits.{most_records}
-use Rattle.replay_turns.specs.Following.{Moves, moment}
-use Rattle.replay_turns.specs.Rounds.{DidNothing}
-use Rattle.replay_turns.specs.Steps.{run_steps}
-use Rattle.run_account.specs.declared.run.Run.{Run}
-use Rattle.replay_turns.proofs.Answering.{card-answers}
-use Rattle.replay_turns.proofs.Following.{either}
+use Rattle.replay_turns.{specs.{Following.{Moves, moment}, Rounds.{DidNothing}, Steps.{run_steps}}, proofs.{Answering.{card-answers}, Following.{either}}}
 use Rattle.replay_turns.proofs.Turns.{card-fits, card-runs}
+use Rattle.run_account.specs.declared.run.Run.{Run}
 use Rattle.replay_turns.proofs.stepping.step.Goals as goal
 
 pub returns-in-App : goal.returns-in-App

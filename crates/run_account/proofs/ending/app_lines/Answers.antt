@@ -1,8 +1,6 @@
 -- One line more.
-use Rattle.std.proofs.Common.{length, map, get_or, ap, sym, ◌∙◌, ◌∷◌, [], ◌++◌, refl, arith, take}
-use Rattle.std.proofs.lemmas.Option.{slice_get-get_or, slice_get_read}
-use Rattle.run_account.specs.Ran.{lines_of}
-use Rattle.run_account.proofs.Telling.{end-at, lines-more}
+use Rattle.std.proofs.{Common.{length, map, get_or, ap, sym, ◌∙◌, ◌∷◌, [], ◌++◌, refl, arith, take}, lemmas.Option.{slice_get-get_or, slice_get_read}}
+use Rattle.run_account.{specs.Ran.{lines_of}, proofs.Telling.{end-at, lines-more}}
 use Rattle.run_account.proofs.ending.app_lines.Goals as goal
 
 pub loop-app-preserved : goal.loop-app-preserved

@@ -1,7 +1,5 @@
 -- The count of one flow more.
-use Rattle.std.proofs.Common.{◌≡◌, ◌+◌, List, ℕ, length, map, Some, refl, sym, subst, arith}
-use Rattle.std.specs.List.{slice_get}
-use Rattle.std.proofs.lemmas.Option.{slice_get_read}
+use Rattle.std.{proofs.{Common.{◌≡◌, ◌+◌, List, ℕ, length, map, Some, refl, sym, subst, arith}, lemmas.Option.{slice_get_read}}, specs.List.{slice_get}}
 use Rattle.run_account.proofs.Telling.{AreCountsBelow, counts-all, counts-more, end-at}
 use Rattle.run_account.proofs.ending.bytes_of_flows.Goals as goal
 

@@ -1,6 +1,5 @@
 -- There is a line for each port.
-use Rattle.std.proofs.Common.{length, map, ap, ◌∙◌, arith}
-use Rattle.std.proofs.lemmas.List.{length-map}
+use Rattle.std.proofs.{Common.{length, map, ap, ◌∙◌, arith}, lemmas.List.{length-map}}
 use Rattle.run_account.proofs.AppLines.{many-lines}
 use Rattle.run_account.proofs.ending.tell.Goals as goal
 

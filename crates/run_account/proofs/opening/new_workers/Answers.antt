@@ -1,9 +1,6 @@
 -- One more application, which has taken no turn.
-use Rattle.std.proofs.Common.{◌≡◌, length, Some, None, sym, ap, ◌∙◌, subst, arith}
-use Rattle.std.specs.List.{slice_get}
-use Rattle.run_account.specs.Running.{IsNew}
-use Rattle.run_account.specs.declared.run.Worker.{Worker}
-use Rattle.run_account.proofs.Places.{here, there, in-push, length-push}
+use Rattle.std.{proofs.Common.{◌≡◌, length, Some, None, sym, ap, ◌∙◌, subst, arith}, specs.List.{slice_get}}
+use Rattle.run_account.{specs.{Running.{IsNew}, declared.run.Worker.{Worker}}, proofs.Places.{here, there, in-push, length-push}}
 use Rattle.run_account.proofs.opening.new_workers.Goals as goal
 
 pub loop-app-init : goal.loop-app-init

@@ -1,8 +1,6 @@
 -- One application for each port so far.
-use Rattle.std.proofs.Common.{◌≡◌, ℕ, Some, length}
-use Rattle.std.specs.List.{slice_get}
-use Rattle.run_account.specs.Running.{IsNew}
-use Rattle.run_account.specs.declared.run.Worker.{Worker}
+use Rattle.std.{proofs.Common.{◌≡◌, ℕ, Some, length}, specs.List.{slice_get}}
+use Rattle.run_account.specs.{Running.{IsNew}, declared.run.Worker.{Worker}}
 use Rattle.run_account.proofs.opening.new_workers.Given as goal
 
 abbrev pub invariant-loop-app : goal.invariant-loop-app

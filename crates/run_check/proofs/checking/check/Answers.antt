@@ -1,9 +1,7 @@
 -- No first line, a first line that says no setting, and the lines behind it.
 use Rattle.std.proofs.Common.{◌∙◌, true, sym, ap, subst, Some, None}
 use Rattle.zr_kinds.specs.declared.fault.Fault.{Fault}
-use Rattle.run_check.specs.Coming.{ReadsLine, ahead}
-use Rattle.run_check.specs.Reading.{IsSettingOf, setting_of}
-use Rattle.run_check.proofs.Telling.{first_behind, no_first_line, no_first_setting}
+use Rattle.run_check.{specs.{Coming.{ReadsLine, ahead}, Reading.{IsSettingOf, setting_of}}, proofs.Telling.{first_behind, no_first_line, no_first_setting}}
 use Rattle.run_check.proofs.checking.check.Goals as goal
 
 pub returns-then-not-branch-clause-judges : goal.returns-then-not-branch-clause-judges

@@ -1,14 +1,8 @@
 -- No line, the end with holders, the end, more, an event too many, and one that may not come; and one more event.
-use Rattle.std.proofs.Common.{◌≡◌, ◌∙◌, length, refl, true, false, sym, ap, subst, inl, inr, arith}
-use Rattle.std.specs.Prelude.{codes}
-use Rattle.std.proofs.lemmas.Bool.{false≢true}
+use Rattle.std.{proofs.{Common.{◌≡◌, ◌∙◌, length, refl, true, false, sym, ap, subst, inl, inr, arith}, lemmas.Bool.{false≢true}}, specs.Prelude.{codes}}
 use Rattle.zr_kinds.specs.declared.fault.Fault.{Fault}
-use Rattle.run_check.specs.Coming.{ReadsLine, ahead}
-use Rattle.run_check.specs.Holding.{LineChanges, holdings_of}
-use Rattle.run_check.specs.Reading.{event_of}
-use Rattle.run_check.proofs.SettingText.{same_text}
-use Rattle.run_check.proofs.Telling.{answers_bad, answers_early, answers_ends, answers_no_line, comes_first, comes_more, not_text}
-use Rattle.run_check.proofs.Alike.{after-few}
+use Rattle.run_check.{specs.{Coming.{ReadsLine, ahead}, Holding.{LineChanges, holdings_of}, Reading.{event_of}}, proofs.SettingText.{same_text}}
+use Rattle.run_check.proofs.{Telling.{answers_bad, answers_early, answers_ends, answers_no_line, comes_first, comes_more, not_text}, Alike.{after-few}}
 use Rattle.run_check.proofs.Weighing.{length-same}
 use Rattle.run_check.proofs.checking.check_events.Goals as goal
 

@@ -1,9 +1,7 @@
 -- What was read behind the first line are the lines of so many events, and the holders are the same as those after them.
 use Rattle.std.proofs.Common.{◌≡◌, ℕ, ◌≤◌, length}
 use Rattle.run_records.specs.Setting.{total_buffers}
-use Rattle.run_check.specs.Coming.{ahead}
-use Rattle.run_check.specs.Holding.{holdings_of}
-use Rattle.run_check.proofs.Telling.{ComesWith}
+use Rattle.run_check.{specs.{Coming.{ahead}, Holding.{holdings_of}}, proofs.Telling.{ComesWith}}
 use Rattle.run_check.proofs.checking.check_events.Given as goal
 
 abbrev pub invariant-loop-events : goal.invariant-loop-events

@@ -1,7 +1,4 @@
-use Rattle.std.proofs.Common.{◌≡◌, Some, sym, ◌∙◌}
-use Rattle.std.specs.Map.{lookup}
-use Rattle.std.specs.BTreeMap.{is_at}
-use Rattle.std.specs.Ordering.{nat_cmp}
+use Rattle.std.{proofs.Common.{◌≡◌, Some, sym, ◌∙◌}, specs.{Map.{lookup}, BTreeMap.{is_at}, Ordering.{nat_cmp}}}
 use Rattle.run_check.proofs.Placing.{none_there, one_there, place_is}
 use Rattle.run_check.proofs.places.is_there.Goals as goal
 

@@ -1,7 +1,6 @@
 -- An item that is read, one that isn't, and the end.
 use Rattle.std.proofs.Common.{sym, ◌∙◌}
-use Rattle.run_check.specs.Reading.{area_of}
-use Rattle.run_check.proofs.AllOf.{all_read, item_missing, item_read}
+use Rattle.run_check.{specs.Reading.{area_of}, proofs.AllOf.{all_read, item_missing, item_read}}
 use Rattle.run_check.proofs.setting.all_areas.Goals as goal
 
 pub loop-part-preserved : goal.loop-part-preserved

@@ -1,7 +1,6 @@
 -- What is read so far, and then what the items that are left are read as.
 use Rattle.std.proofs.Common.{◌≡◌}
-use Rattle.run_check.specs.Reading.{all_of, area_of}
-use Rattle.run_check.proofs.AllOf.{all_from, onto, texts}
+use Rattle.run_check.{specs.Reading.{all_of, area_of}, proofs.AllOf.{all_from, onto, texts}}
 use Rattle.run_check.proofs.setting.all_areas.Given as goal
 
 abbrev pub invariant-loop-part : goal.invariant-loop-part

@@ -1,5 +1,4 @@
-use Rattle.std.proofs.Common.{rules, arith}
-use Rattle.std.proofs.lemmas.Bool.Decides.{nat_tests}
+use Rattle.std.proofs.{Common.{rules, arith}, lemmas.Bool.Decides.{nat_tests}}
 use Rattle.run_check.proofs.setting.are_areas.Goals as goal
 
 pub pool_buffers-requires-clause-each : goal.pool_buffers-requires-clause-each

@@ -1,6 +1,4 @@
-use Rattle.std.proofs.Common.{rules}
-use Rattle.std.proofs.lemmas.Iterator.{YieldsList-from_slice}
-use Rattle.std.proofs.lemmas.Iterator.{cases_from_all}
+use Rattle.std.proofs.{Common.{rules}, lemmas.Iterator.{YieldsList-from_slice, cases_from_all}}
 use Rattle.run_records.specs.Setting.{IsArea}
 use Rattle.run_check.proofs.Areas.{each_from_cases}
 use Rattle.run_check.proofs.setting.are_each.Goals as goal

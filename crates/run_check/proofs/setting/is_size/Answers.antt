@@ -1,5 +1,4 @@
-use Rattle.std.proofs.Common.{◌≤◌, ◌∙◌, sym, rules, count_ones}
-use Rattle.std.proofs.lemmas.Bool.{eqb-true, eq-eqb}
+use Rattle.std.proofs.{Common.{◌≤◌, ◌∙◌, sym, rules, count_ones}, lemmas.Bool.{eqb-true, eq-eqb}}
 use Rattle.run_check.proofs.Powers.{power_from_one, one_from_power}
 use Rattle.run_check.proofs.setting.is_size.Goals as goal
 

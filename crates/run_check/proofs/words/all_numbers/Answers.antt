@@ -1,6 +1,5 @@
 -- An item that is read, one that isn't, and the end.
-use Rattle.run_check.specs.Reading.{number_of}
-use Rattle.run_check.proofs.AllOf.{all_read, item_missing, item_read}
+use Rattle.run_check.{specs.Reading.{number_of}, proofs.AllOf.{all_read, item_missing, item_read}}
 use Rattle.run_check.proofs.words.all_numbers.Goals as goal
 
 pub loop-word-preserved : goal.loop-word-preserved

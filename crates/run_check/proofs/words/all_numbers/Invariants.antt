@@ -1,7 +1,6 @@
 -- What is read so far, and then what the items that are left are read as.
 use Rattle.std.proofs.Common.{◌≡◌}
-use Rattle.run_check.specs.Reading.{all_of, number_of}
-use Rattle.run_check.proofs.AllOf.{all_from, onto, texts}
+use Rattle.run_check.{specs.Reading.{all_of, number_of}, proofs.AllOf.{all_from, onto, texts}}
 use Rattle.run_check.proofs.words.all_numbers.Given as goal
 
 abbrev pub invariant-loop-word : goal.invariant-loop-word

@@ -1,5 +1,4 @@
-use Rattle.std.proofs.Common.{◌≡◌, take, true}
-use Rattle.std.specs.Str.Parse.{digits_value}
+use Rattle.std.{proofs.Common.{◌≡◌, take, true}, specs.Str.Parse.{digits_value}}
 use Rattle.run_check.specs.Reading.{is_numeral}
 use Rattle.run_check.proofs.words.number_of.Given as goal
 

@@ -1,6 +1,4 @@
-use Rattle.std.proofs.Common.{eqb, rules}
-use Rattle.std.proofs.lemmas.Iterator.Consumers.{map_from_collect}
-use Rattle.std.proofs.lemmas.Iterator.Splits.{YieldsList-from_slice_split}
+use Rattle.std.proofs.{Common.{eqb, rules}, lemmas.Iterator.{Consumers.{map_from_collect}, Splits.{YieldsList-from_slice_split}}}
 use Rattle.run_check.proofs.words.parts_of.Goals as goal
 
 pub returns : goal.returns

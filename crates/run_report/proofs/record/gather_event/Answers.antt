@@ -1,5 +1,4 @@
-use Rattle.std.proofs.Common.{[], ◌∷◌, ◌++◌}
-use Rattle.std.proofs.lemmas.Result.{err_from_is_err_and}
+use Rattle.std.proofs.{Common.{[], ◌∷◌, ◌++◌}, lemmas.Result.{err_from_is_err_and}}
 use Rattle.run_records.specs.RunText.{line_of}
 use Rattle.run_report.proofs.Gathering.{breaks, waits-all}
 use Rattle.run_report.proofs.record.gather_event.Goals as goal

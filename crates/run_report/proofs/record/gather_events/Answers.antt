@@ -1,5 +1,4 @@
-use Rattle.std.proofs.Common.{◌∙◌}
-use Rattle.std.proofs.lemmas.Result.{err_from_is_err_and}
+use Rattle.std.proofs.{Common.{◌∙◌}, lemmas.Result.{err_from_is_err_and}}
 use Rattle.run_report.proofs.Gathering.{event-breaks, event-waits}
 use Rattle.run_report.proofs.record.gather_events.Goals as goal
 

@@ -1,5 +1,4 @@
-use Rattle.std.proofs.Common.{◌≡◌, ◌+◌, ◌*◌, ◌≤◌, ◌∷◌, ◌++◌, take}
-use Rattle.std.specs.List.{flat_map}
+use Rattle.std.{proofs.Common.{◌≡◌, ◌+◌, ◌*◌, ◌≤◌, ◌∷◌, ◌++◌, take}, specs.List.{flat_map}}
 use Rattle.arrayvec.specs.ArrayString.{array_string_len}
 use Rattle.run_records.specs.RunText.{area_text}
 use Rattle.run_report.proofs.record.put_areas.Given as goal

@@ -1,7 +1,4 @@
-use Rattle.std.proofs.Common.{[], ◌∷◌, ◌++◌, ap, sym, ◌∙◌, append_assoc}
-use Rattle.std.proofs.lemmas.List.{take_all}
-use Rattle.std.specs.Fmt.{decimal}
-use Rattle.std.specs.List.{flat_map}
+use Rattle.std.{proofs.{Common.{[], ◌∷◌, ◌++◌, ap, sym, ◌∙◌, append_assoc}, lemmas.List.{take_all}}, specs.{Fmt.{decimal}, List.{flat_map}}}
 use Rattle.run_report.proofs.Gathering.{joined-behind}
 use Rattle.run_report.proofs.record.put_line.Goals as goal
 

@@ -1,6 +1,4 @@
-use Rattle.std.proofs.Common.{◌≡◌, ◌+◌, ◌*◌, ◌≤◌, ◌∷◌, ◌++◌, take}
-use Rattle.std.specs.Fmt.{decimal}
-use Rattle.std.specs.List.{flat_map}
+use Rattle.std.{proofs.Common.{◌≡◌, ◌+◌, ◌*◌, ◌≤◌, ◌∷◌, ◌++◌, take}, specs.{Fmt.{decimal}, List.{flat_map}}}
 use Rattle.arrayvec.specs.ArrayString.{array_string_len}
 use Rattle.run_report.proofs.record.put_line.Given as goal
 

@@ -1,6 +1,4 @@
-use Rattle.std.proofs.Common.{[], ◌∷◌, ◌++◌, ap, map, ◌∙◌}
-use Rattle.std.specs.Fmt.{decimal}
-use Rattle.std.specs.List.{join_with_byte}
+use Rattle.std.{proofs.Common.{[], ◌∷◌, ◌++◌, ap, map, ◌∙◌}, specs.{Fmt.{decimal}, List.{join_with_byte}}}
 use Rattle.run_records.specs.RunText.{area_text, run_line}
 use Rattle.run_report.proofs.Gathering.{setting-text}
 use Rattle.run_report.proofs.record.put_setting.Goals as goal

@@ -1,9 +1,6 @@
 -- What went out before the sink failed is a front of the report.
-use Rattle.std.proofs.Common.{rules, ◌≡◌, ℕ, List, ◌++◌, take, drop, sym, ◌∙◌, take-append-drop}
-use Rattle.std.specs.Prelude.{Option}
-use Rattle.std.specs.Io.KnownBytes.{Appends}
-use Rattle.zr_io.specs.Moved.{Gained}
-use Rattle.zr_io.proofs.Moved.{Gained-added}
+use Rattle.std.{proofs.Common.{rules, ◌≡◌, ℕ, List, ◌++◌, take, drop, sym, ◌∙◌, take-append-drop}, specs.{Prelude.{Option}, Io.KnownBytes.{Appends}}}
+use Rattle.zr_io.{specs.Moved.{Gained}, proofs.Moved.{Gained-added}}
 use Rattle.run_report.specs.Report.{report_of}
 use Rattle.run_report.proofs.report.write_report.Goals as goal
 

@@ -1,6 +1,5 @@
 use Rattle.std.proofs.Common.{◌≡◌, ℕ, ◌-◌, ◌^◌, ◌<◌, ◌≤◌, true}
-use Rattle.tcp_reorder.specs.Queue.{is_kept}
-use Rattle.tcp_reorder.specs.Pieces.{all_kept}
+use Rattle.tcp_reorder.specs.{Queue.{is_kept}, Pieces.{all_kept}}
 use Rattle.tcp_reorder.proofs.piece.first_free.Given as goal
 
 abbrev pub invariant-loop-position : goal.invariant-loop-position

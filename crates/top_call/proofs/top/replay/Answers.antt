@@ -1,7 +1,6 @@
 -- The outcome is told, and the board is in the card; or there was no memory for a board or an outcome.
 use Rattle.std.proofs.Common.{inl, inr, refl, ◌∙◌, None}
-use Rattle.top_call.specs.StreamTheorem.{asked_by}
-use Rattle.top_call.proofs.Statuses.{replays}
+use Rattle.top_call.{specs.StreamTheorem.{asked_by}, proofs.Statuses.{replays}}
 use Rattle.top_call.proofs.top.replay.Goals as goal
 
 pub returns-in-Ok : goal.returns-in-Ok

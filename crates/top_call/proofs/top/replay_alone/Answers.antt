@@ -1,8 +1,7 @@
 -- The outcome is told, and the board is in the card; or there was no memory for a board or an outcome.
 use Rattle.std.proofs.Common.{inl, inr, refl, sym, subst, ◌∙◌, length, Some, None}
 use Rattle.replay_turns.specs.Schedule.{AreTurns}
-use Rattle.top_call.specs.StreamTheorem.{asked_by}
-use Rattle.top_call.proofs.Statuses.{replays}
+use Rattle.top_call.{specs.StreamTheorem.{asked_by}, proofs.Statuses.{replays}}
 use Rattle.top_call.proofs.top.replay_alone.Goals as goal
 
 pub play_turns-requires-clause-turns : goal.play_turns-requires-clause-turns

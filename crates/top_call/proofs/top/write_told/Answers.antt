@@ -1,10 +1,7 @@
 -- The report goes out first, and the record behind it.
-use Rattle.std.proofs.Common.{subst}
-use Rattle.std.proofs.lemmas.Result.{err_from_is_err_and}
-use Rattle.std.proofs.KnownBytes.{Appends-trans}
+use Rattle.std.proofs.{Common.{subst}, lemmas.Result.{err_from_is_err_and}, KnownBytes.{Appends-trans}}
 use Rattle.zr_io.specs.Moved.{Rose}
-use Rattle.top_call.specs.Records.{record_in}
-use Rattle.top_call.proofs.Recording.{front-within, lost-behind}
+use Rattle.top_call.{specs.Records.{record_in}, proofs.Recording.{front-within, lost-behind}}
 use Rattle.top_call.proofs.top.write_told.Goals as goal
 
 pub returns-in_err-write_report-clause-gained : goal.returns-in_err-write_report-clause-gained

@@ -1,7 +1,5 @@
 -- The ports differ.
-use Rattle.std.proofs.Common.{◌∷◌, [], refl, sym, subst}
-use Rattle.std.specs.Prelude.{nat_eq}
-use Rattle.std.specs.List.{IsDistinct}
+use Rattle.std.{proofs.Common.{◌∷◌, [], refl, sym, subst}, specs.{Prelude.{nat_eq}, List.{IsDistinct}}}
 use Rattle.turn_runs.proofs.runs.ports_of.Goals as goal
 
 one-port : IsDistinct nat_eq (9000 ∷ [])

@@ -1,7 +1,6 @@
 -- What is left of a word's buffers is fewer than 64, so the cache has room for them.
 use Rattle.std.proofs.Common.{length, ap, arith, length-append}
-use Rattle.ref_words.specs.FreeSteps.{found_in}
-use Rattle.ref_words.proofs.Found.{found-few}
+use Rattle.ref_words.{specs.FreeSteps.{found_in}, proofs.Found.{found-few}}
 use Rattle.word_board.proofs.found.cache_found.Goals as goal
 
 pub push-requires : goal.push-requires

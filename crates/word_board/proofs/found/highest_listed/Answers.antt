@@ -1,13 +1,7 @@
-use Rattle.std.proofs.Common.{◌≡◌, ⊎_elim, ℕ, suc, ◌-◌, ◌*◌, ◌%◌, ◌^◌, ◌<◌, ◌≤◌, ◌∷◌, ap, ◌∙◌}
-use Rattle.std.proofs.Common.{arith, subst}
-use Rattle.std.specs.Prelude.{bit_and}
-use Rattle.std.specs.Int.{bit_at, bit_not, w64, leading_zeros}
-use Rattle.std.proofs.lemmas.Nat.{leading_top}
-use Rattle.std.proofs.lemmas.Nat.Bits.{bit_at_and, bit_at_above, bit_at_clear_same, bit_at_clear_other}
-use Rattle.std.proofs.lemmas.Bool.{cases_lt}
-use Rattle.std.proofs.lemmas.Bool.Decides.{eqb_tells}
-use Rattle.ref_words.specs.FreeSteps.{found_in}
-use Rattle.ref_words.proofs.Found.{found-first}
+use Rattle.std.{proofs.Common.{◌≡◌, ⊎_elim, ℕ, suc, ◌-◌, ◌*◌, ◌%◌, ◌^◌, ◌<◌, ◌≤◌, ◌∷◌, ap, ◌∙◌, arith, subst}, specs.Prelude.{bit_and}}
+use Rattle.std.{specs.Int.{bit_at, bit_not, w64, leading_zeros}, proofs.lemmas.Nat.{leading_top}}
+use Rattle.std.proofs.lemmas.{Nat.Bits.{bit_at_and, bit_at_above, bit_at_clear_same, bit_at_clear_other}, Bool.{cases_lt, Decides.{eqb_tells}}}
+use Rattle.ref_words.{specs.FreeSteps.{found_in}, proofs.Found.{found-first}}
 use Rattle.word_board.proofs.found.highest_listed.Goals as goal
 
 -- the bits of a number that is cut by its highest one

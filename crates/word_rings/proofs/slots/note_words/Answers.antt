@@ -1,10 +1,6 @@
-use Rattle.std.proofs.Common.{◌≡◌, ◌*◌, ◌<◌, ◌≤◌, ℕ, List, [], ◌++◌, length, take, drop, replicate, slice_index, ap}
-use Rattle.std.proofs.Common.{◌∙◌, rules, arith}
-use Rattle.std.proofs.lemmas.List.{append-nil}
+use Rattle.std.proofs.{Common.{◌≡◌, ◌*◌, ◌<◌, ◌≤◌, ℕ, List, [], ◌++◌, length, take, drop, replicate, slice_index, ap, ◌∙◌, rules, arith}, lemmas.List.{append-nil}}
 use Rattle.byteorder.specs.Endian.{little_number}
-use Rattle.word_rings.specs.Slots.{words_of, pair, bytes_of}
-use Rattle.word_rings.proofs.Words.{words_are, padded_words, text_back}
-use Rattle.word_rings.proofs.NoteSlots.{slot_is, note_back, is_slot}
+use Rattle.word_rings.{specs.Slots.{words_of, pair, bytes_of}, proofs.{Words.{words_are, padded_words, text_back}, NoteSlots.{slot_is, note_back, is_slot}}}
 use Rattle.word_rings.proofs.slots.note_words.Goals as goal
 
 -- the words that were read of the payload

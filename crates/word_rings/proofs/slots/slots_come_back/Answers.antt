@@ -1,8 +1,5 @@
-use Rattle.std.proofs.Common.{◌≡◌, ◌+◌, ℕ, length, drop, sym, ap, ◌∙◌, arith}
-use Rattle.std.proofs.lemmas.List.{get_or-drop, length-drop}
-use Rattle.word_rings.specs.Slots.{words_of, linear_of}
-use Rattle.word_rings.proofs.Words.{words_back}
-use Rattle.word_rings.proofs.NoteSlots.{slot_back}
+use Rattle.std.proofs.{Common.{◌≡◌, ◌+◌, ℕ, length, drop, sym, ap, ◌∙◌, arith}, lemmas.List.{get_or-drop, length-drop}}
+use Rattle.word_rings.{specs.Slots.{words_of, linear_of}, proofs.{Words.{words_back}, NoteSlots.{slot_back}}}
 use Rattle.word_rings.proofs.slots.slots_come_back.Goals as goal
 
 pub returns : goal.returns

@@ -1,9 +1,6 @@
-use Rattle.std.proofs.Common.{◌≡◌, ℕ, ◌*◌, ◌-◌, ◌++◌, List, length, take, drop, replicate, sym, ap, ◌∙◌, arith}
-use Rattle.std.proofs.lemmas.List.{length-drop, take_all}
-use Rattle.byteorder.specs.Endian.{little_number}
-use Rattle.byteorder.specs.Numbers.{little_from-take}
-use Rattle.word_rings.specs.Texts.{text_count}
-use Rattle.word_rings.proofs.TextWords.{padded-number, word-is}
+use Rattle.std.proofs.{Common.{◌≡◌, ℕ, ◌*◌, ◌-◌, ◌++◌, List, length, take, drop, replicate, sym, ap, ◌∙◌, arith}, lemmas.List.{length-drop, take_all}}
+use Rattle.byteorder.specs.{Endian.{little_number}, Numbers.{little_from-take}}
+use Rattle.word_rings.{specs.Texts.{text_count}, proofs.TextWords.{padded-number, word-is}}
 use Rattle.word_rings.proofs.texts.text_word.Goals as goal
 
 -- the bytes from a word on

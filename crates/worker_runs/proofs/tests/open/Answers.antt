@@ -1,6 +1,5 @@
 -- A hand with nothing, and an application that has taken no turn, are those of a board that was just opened.
-use Rattle.std.proofs.Common.{rules, ◌≡◌, sym}
-use Rattle.std.proofs.lemmas.Bool.{false≢true}
+use Rattle.std.proofs.{Common.{rules, ◌≡◌, sym}, lemmas.Bool.{false≢true}}
 use Rattle.worker_runs.proofs.Opening.{begun, fresh, here}
 use Rattle.worker_runs.proofs.tests.open.Goals as goal
 

@@ -1,14 +1,8 @@
 use Rattle.std.proofs.Common.{rules, ◌≡◌, ◌≢◌, ◌∙◌, ap, nat_eq, Option, Some, ℕ, ◌+◌, ◌-◌, ◌≤◌, length, take, drop, length-append, subst, arith, min}
-use Rattle.std.specs.Prelude.{IfSome}
-use Rattle.std.specs.Map.{lookup}
-use Rattle.std.specs.Io.KnownBytes.{Appends, Keeps}
-use Rattle.std.proofs.KnownBytes.{Keeps-trans}
-use Rattle.std.proofs.lemmas.List.{length-drop}
-use Rattle.zr_io.specs.Moved.{AddsPiece, Gained}
-use Rattle.zr_io.proofs.Moved.{Gained-weaker}
+use Rattle.std.{specs.{Prelude.{IfSome}, Map.{lookup}, Io.KnownBytes.{Appends, Keeps}}, proofs.{KnownBytes.{Keeps-trans}, lemmas.List.{length-drop}}}
+use Rattle.zr_io.{specs.Moved.{AddsPiece, Gained}, proofs.Moved.{Gained-weaker}}
 use Rattle.board_face.specs.declared.views.app.AppView.{AppView}
-use Rattle.flow_queues.proofs.ReadLemmas.{IsReadTo, read-of, still-out}
-use Rattle.flow_queues.specs.Core.{IsReadOf, lent_piece}
+use Rattle.flow_queues.{proofs.ReadLemmas.{IsReadTo, read-of, still-out}, specs.Core.{IsReadOf, lent_piece}}
 use Rattle.zc_poll.proofs.Appending.{read-more, one-more-at, some-more-at}
 use Rattle.zc_forward.proofs.carrying.carry_loan.Goals as goal
 

@@ -1,10 +1,7 @@
 -- The first bytes were read and carried.
-use Rattle.std.specs.Prelude.{◌≡◌, ◌≢◌, ℕ, ◌-◌, ◌<◌, ◌≤◌, length}
-use Rattle.std.specs.Io.KnownBytes.{Keeps}
+use Rattle.std.specs.{Prelude.{◌≡◌, ◌≢◌, ℕ, ◌-◌, ◌<◌, ◌≤◌, length}, Io.KnownBytes.{Keeps}}
 use Rattle.zr_io.specs.Moved.{Gained}
-use Rattle.flow_queues.specs.declared.queues.Lending.{Lending}
-use Rattle.flow_queues.specs.Core.{IsIn, lent_piece, OnlyReads}
-use Rattle.flow_queues.proofs.ReadLemmas.{IsReadTo}
+use Rattle.flow_queues.{specs.{declared.queues.Lending.{Lending}, Core.{IsIn, lent_piece, OnlyReads}}, proofs.ReadLemmas.{IsReadTo}}
 use Rattle.zc_poll.specs.Standing.{StreamStands}
 use Rattle.zc_forward.proofs.carrying.carry_loan.Given as goal
 

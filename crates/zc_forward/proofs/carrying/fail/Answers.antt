@@ -1,8 +1,6 @@
 use Rattle.std.proofs.Common.{List, sym, ap, subst}
-use Rattle.board_face.specs.declared.views.app.TakenNote.{TakenNote}
-use Rattle.board_face.specs.declared.views.app.AppView.{AppView}
-use Rattle.zc_poll.specs.Standing.{Desk}
-use Rattle.zc_poll.specs.Items.{HasGiven}
+use Rattle.board_face.specs.declared.views.app.{TakenNote.{TakenNote}, AppView.{AppView}}
+use Rattle.zc_poll.specs.{Standing.{Desk}, Items.{HasGiven}}
 use Rattle.zc_forward.proofs.carrying.fail.Goals as goal
 
 pub returns-clause-items : goal.returns-clause-items

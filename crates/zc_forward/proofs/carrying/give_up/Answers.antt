@@ -1,11 +1,8 @@
 use Rattle.std.proofs.Common.{◌≡◌, ℕ, [], sym, ap, subst, ◌∙◌, append-nil, take, ◌-◌}
 use Rattle.zr_kinds.specs.declared.place.Place.{Place}
-use Rattle.board_face.specs.declared.views.app.LentPiece.{LentPiece}
-use Rattle.board_face.specs.declared.views.app.AppView.{AppView}
+use Rattle.board_face.specs.declared.views.app.{LentPiece.{LentPiece}, AppView.{AppView}}
 use Rattle.flow_queues.specs.Core.{total}
-use Rattle.zc_forward.specs.Sending.{of_sent}
-use Rattle.zc_forward.specs.GivenUp.{GaveUp}
-use Rattle.zc_forward.proofs.Live.{has-out, last-out, last-gone, no-loans, one-given-up}
+use Rattle.zc_forward.{specs.{Sending.{of_sent}, GivenUp.{GaveUp}}, proofs.Live.{has-out, last-out, last-gone, no-loans, one-given-up}}
 use Rattle.zc_forward.proofs.carrying.give_up.Goals as goal
 
 pub abandon-requires-clause-out : goal.abandon-requires-clause-out

@@ -4,8 +4,7 @@ use Rattle.zr_kinds.specs.declared.place.Place.{Place}
 use Rattle.board_face.specs.declared.views.app.LentPiece.{LentPiece}
 use Rattle.flow_queues.specs.Core.{total}
 use Rattle.zc_poll.specs.Standing.{StreamStands}
-use Rattle.zc_forward.specs.Sending.{of_sent}
-use Rattle.zc_forward.specs.GivenUp.{GaveUp}
+use Rattle.zc_forward.specs.{Sending.{of_sent}, GivenUp.{GaveUp}}
 use Rattle.zc_forward.proofs.carrying.give_up.Given as goal
 
 abbrev pub invariant-loop-sent : goal.invariant-loop-sent

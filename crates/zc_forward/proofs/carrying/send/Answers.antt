@@ -1,6 +1,5 @@
 use Rattle.std.proofs.Common.{rules, arith}
-use Rattle.zc_forward.proofs.Live.{loan-has}
-use Rattle.zc_forward.proofs.Sents.{found-push}
+use Rattle.zc_forward.proofs.{Live.{loan-has}, Sents.{found-push}}
 use Rattle.zc_forward.proofs.carrying.send.Goals as goal
 
 pub returns-then-is_err-clause-tags : goal.returns-then-is_err-clause-tags

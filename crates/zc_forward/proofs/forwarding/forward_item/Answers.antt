@@ -1,23 +1,11 @@
-use Rattle.std.proofs.Common.{rules, inl, inr, false, ◌≡◌, ◌<◌, ◌∙◌, ◌++◌, ◌∷◌, [], ℕ, true, None, Some, nat_eq, refl, sym, ap, subst}
-use Rattle.std.specs.Map.{lookup}
+use Rattle.std.{proofs.Common.{rules, inl, inr, false, ◌≡◌, ◌<◌, ◌∙◌, ◌++◌, ◌∷◌, [], ℕ, true, None, Some, nat_eq, refl, sym, ap, subst}, specs.Map.{lookup}}
 use Rattle.zr_kinds.specs.declared.behaviour.Stopped.TheVariants as stop
-use Rattle.board_face.specs.declared.views.app.LentPiece.{LentPiece}
-use Rattle.board_face.specs.declared.views.app.AppView.{AppView}
+use Rattle.board_face.specs.declared.views.app.{LentPiece.{LentPiece}, AppView.{AppView}}
 use Rattle.flow_queues.specs.Core.{total}
-use Rattle.zc_poll.specs.Standing.{Desk, StreamStands}
-use Rattle.zc_poll.specs.Items.{HasGiven}
-use Rattle.zc_poll.specs.Counting.{TallyState, AddsTo, item_counted}
-use Rattle.zc_poll.specs.TallyOf.{tally_of}
-use Rattle.zc_poll.proofs.ItemPoured.{Roomy}
+use Rattle.zc_poll.{specs.{Standing.{Desk, StreamStands}, Items.{HasGiven}, Counting.{TallyState, AddsTo, item_counted}, TallyOf.{tally_of}}, proofs.ItemPoured.{Roomy}}
 use Rattle.zc_poll.proofs.PourTurns.{only-reads-none}
-use Rattle.zc_forward.specs.declared.outbox.Outbox.{Outbox as Kept}
-use Rattle.zc_forward.specs.declared.sent.Sent.{Sent}
-use Rattle.zc_forward.specs.OutboxOf.{outbox_of}
-use Rattle.zc_forward.specs.Sending.{of_sent}
-use Rattle.zc_forward.specs.Tags.{Tags}
-use Rattle.zc_forward.specs.Forwarding.{ForwardStands}
-use Rattle.zc_forward.proofs.Items.{carries, fails, is-roomy, wants}
-use Rattle.zc_forward.proofs.Live.{pushed-sum}
+use Rattle.zc_forward.specs.{declared.{outbox.Outbox.{Outbox as Kept}, sent.Sent.{Sent}}, OutboxOf.{outbox_of}, Sending.{of_sent}, Tags.{Tags}}
+use Rattle.zc_forward.{specs.Forwarding.{ForwardStands}, proofs.{Items.{carries, fails, is-roomy, wants}, Live.{pushed-sum}}}
 use Rattle.zc_forward.proofs.forwarding.forward_item.Goals as goal
 
 pub returns-then-is_err-clause-gives : goal.returns-then-is_err-clause-gives

@@ -1,10 +1,7 @@
 use Rattle.std.proofs.Common.{Some, sym, subst}
 use Rattle.zr_kinds.specs.declared.place.Place.{Place}
 use Rattle.board_face.specs.declared.views.app.AppLook.TheVariants.{RefillInUse}
-use Rattle.zc_forward.specs.OutboxOf.{outbox_of}
-use Rattle.zc_forward.specs.Forwarding.{ForwardStands}
-use Rattle.zc_forward.specs.Turns.{with_due}
-use Rattle.zc_forward.proofs.Forwards.{gave-forwards, saw-forwards}
+use Rattle.zc_forward.{specs.{OutboxOf.{outbox_of}, Forwarding.{ForwardStands}, Turns.{with_due}}, proofs.Forwards.{gave-forwards, saw-forwards}}
 use Rattle.zc_forward.proofs.forwarding.give_back.Goals as goal
 
 pub returns-in-Ok-clause-gives : goal.returns-in-Ok-clause-gives

@@ -1,12 +1,7 @@
 use Rattle.std.proofs.Common.{rules, ◌≡◌, Some, sym, subst}
 use Rattle.board_face.specs.declared.views.app.AppView.{AppView}
-use Rattle.zc_forward.specs.OutboxOf.{outbox_of}
-use Rattle.zc_forward.specs.Tags.{Tags, TakesTag}
-use Rattle.zc_forward.specs.Sending.{OutboxState}
-use Rattle.zc_forward.specs.Forwarding.{ForwardStands}
-use Rattle.zc_forward.specs.Turns.{Stage, TurnDoes, stage_of, with_due}
-use Rattle.zc_forward.proofs.Live.{has-out}
-use Rattle.zc_forward.proofs.Forwards.{due-out}
+use Rattle.zc_forward.specs.{OutboxOf.{outbox_of}, Tags.{Tags, TakesTag}, Sending.{OutboxState}, Forwarding.{ForwardStands}}
+use Rattle.zc_forward.{specs.Turns.{Stage, TurnDoes, stage_of, with_due}, proofs.{Live.{has-out}, Forwards.{due-out}}}
 use Rattle.zc_forward.proofs.forwarding.go_on.Goals as goal
 
 pub give_back-requires-clause-out : goal.give_back-requires-clause-out

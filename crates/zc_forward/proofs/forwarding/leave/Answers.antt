@@ -1,19 +1,10 @@
 use Rattle.std.proofs.Common.{rules, ◌≡◌, ◌∙◌, true, None, Option, refl, sym, ap, subst}
 use Rattle.zr_kinds.specs.declared.place.Place.{Place}
-use Rattle.board_face.specs.declared.views.app.AppLook.TheVariants.{NotQuiet}
-use Rattle.board_face.specs.declared.views.app.AppView.{AppView}
-use Rattle.flow_queues.specs.Ends.{AppEnd, HasLeft}
-use Rattle.flow_queues.specs.Returned.{HasReturned}
-use Rattle.zc_poll.specs.Standing.{Desk}
-use Rattle.zc_poll.specs.Pouring.{OnlyDue}
-use Rattle.zc_poll.specs.PourTurns.{pour_end}
-use Rattle.zc_poll.specs.TallyOf.{tally_of}
-use Rattle.zc_poll.proofs.PourEnds.{left-pours, returned-pours, work_end}
+use Rattle.board_face.specs.declared.views.app.{AppLook.TheVariants.{NotQuiet}, AppView.{AppView}}
+use Rattle.flow_queues.specs.{Ends.{AppEnd, HasLeft}, Returned.{HasReturned}}
+use Rattle.zc_poll.{specs.{Standing.{Desk}, Pouring.{OnlyDue}, PourTurns.{pour_end}, TallyOf.{tally_of}}, proofs.PourEnds.{left-pours, returned-pours, work_end}}
 use Rattle.zc_poll.proofs.PourTurns.{saw-pours}
-use Rattle.zc_forward.specs.declared.outbox.Outbox.{Outbox as Kept}
-use Rattle.zc_forward.specs.OutboxOf.{outbox_of}
-use Rattle.zc_forward.specs.Sending.{tags_of}
-use Rattle.zc_forward.specs.Forwarding.{ForwardStands}
+use Rattle.zc_forward.specs.{declared.outbox.Outbox.{Outbox as Kept}, OutboxOf.{outbox_of}, Sending.{tags_of}, Forwarding.{ForwardStands}}
 use Rattle.zc_forward.proofs.Ends.{ends-pours, may-give-up, waits-forwards}
 use Rattle.zc_forward.proofs.forwarding.leave.Goals as goal
 

@@ -1,10 +1,7 @@
 use Rattle.std.proofs.Common.{◌≤◌, length, refl, arith}
 use Rattle.zr_kinds.specs.declared.place.Place.{Place}
 use Rattle.board_face.specs.declared.views.app.AppView.{AppView}
-use Rattle.zc_forward.specs.declared.outbox.Outbox.{Outbox as Kept}
-use Rattle.zc_forward.specs.OutboxOf.{outbox_of}
-use Rattle.zc_forward.proofs.Live.{has-out}
-use Rattle.zc_forward.proofs.Forwards.{goes-back, sent-out, told-forwards}
+use Rattle.zc_forward.{specs.{declared.outbox.Outbox.{Outbox as Kept}, OutboxOf.{outbox_of}}, proofs.{Live.{has-out}, Forwards.{goes-back, sent-out, told-forwards}}}
 use Rattle.zc_forward.proofs.forwarding.take_notice.Goals as goal
 
 pub give_back-requires-clause-out : goal.give_back-requires-clause-out

@@ -1,5 +1,4 @@
-use Rattle.std.proofs.Common.{rules, ◌≡◌, true, arith}
-use Rattle.std.specs.Prelude.{is_some}
+use Rattle.std.{proofs.Common.{rules, ◌≡◌, true, arith}, specs.Prelude.{is_some}}
 use Rattle.zc_forward.proofs.Sents.{lower-most, taken-lower}
 use Rattle.zc_forward.proofs.sent.free_tag.Goals as goal
 

@@ -1,8 +1,5 @@
-use Rattle.std.proofs.Common.{◌≡◌, ◌+◌, suc, nat_eq, take, None, ◌∙◌, ap, subst, sym, arith}
-use Rattle.std.specs.Map.{lookup}
-use Rattle.zc_forward.specs.declared.sent.Sent.{Sent}
-use Rattle.zc_forward.specs.Sending.{tags_of}
-use Rattle.zc_forward.proofs.Sents.{at-same, first-gone, none-yet}
+use Rattle.std.{proofs.Common.{◌≡◌, ◌+◌, suc, nat_eq, take, None, ◌∙◌, ap, subst, sym, arith}, specs.Map.{lookup}}
+use Rattle.zc_forward.{specs.{declared.sent.Sent.{Sent}, Sending.{tags_of}}, proofs.Sents.{at-same, first-gone, none-yet}}
 use Rattle.zc_forward.proofs.sent.place_of.Goals as goal
 
 pub returns-then-out-i : goal.returns-then-out-i

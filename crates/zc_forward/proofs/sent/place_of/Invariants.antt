@@ -1,6 +1,5 @@
 -- The first loans have other tags.
-use Rattle.std.proofs.Common.{◌≡◌, nat_eq, take, None}
-use Rattle.std.specs.Map.{lookup}
+use Rattle.std.{proofs.Common.{◌≡◌, nat_eq, take, None}, specs.Map.{lookup}}
 use Rattle.zc_forward.specs.Sending.{tags_of}
 use Rattle.zc_forward.proofs.sent.place_of.Given as goal
 

@@ -1,8 +1,6 @@
 use Rattle.std.proofs.Common.{◌≡◌, ◌<◌, ◌+◌, List, length, slice_index_or, subst, sym}
 use Rattle.flow_queues.specs.Core.{IsIn}
-use Rattle.zc_forward.specs.declared.sent.Sent.{Sent}
-use Rattle.zc_forward.specs.Sending.{of_sent}
-use Rattle.zc_forward.proofs.Sents.{at-gone, at-is-in}
+use Rattle.zc_forward.{specs.{declared.sent.Sent.{Sent}, Sending.{of_sent}}, proofs.Sents.{at-gone, at-is-in}}
 use Rattle.zc_forward.proofs.sent.take_sent.Goals as goal
 
 pub returns-clause-was : goal.returns-clause-was

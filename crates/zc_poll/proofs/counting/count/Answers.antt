@@ -1,11 +1,6 @@
-use Rattle.std.proofs.Common.{rules, ◌≡◌, ℕ, ◌+◌, subst}
-use Rattle.std.specs.Prelude.{Some, None, IsSome}
-use Rattle.std.specs.Ordering.{nat_cmp}
-use Rattle.std.specs.Map.{lookup, set_value}
-use Rattle.std.specs.BTreeMap.{is_at}
+use Rattle.std.{proofs.Common.{rules, ◌≡◌, ℕ, ◌+◌, subst}, specs.{Prelude.{Some, None, IsSome}, Ordering.{nat_cmp}, Map.{lookup, set_value}, BTreeMap.{is_at}}}
 use Rattle.flow_queues.specs.Ends.{bytes_in}
-use Rattle.zc_poll.proofs.Counts.{adds-more, counted-is}
-use Rattle.zc_poll.proofs.counting.count.Goals.{in-Some, in_default}
+use Rattle.zc_poll.proofs.{Counts.{adds-more, counted-is}, counting.count.Goals.{in-Some, in_default}}
 use Rattle.zc_poll.proofs.counting.count.Goals as goal
 
 no-some : {P : Type 0} → IsSome {T = ℕ} None → P

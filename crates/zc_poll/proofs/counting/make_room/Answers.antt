@@ -1,8 +1,4 @@
-use Rattle.std.proofs.Common.{rules, ◌≡◌}
-use Rattle.std.specs.Prelude.{None}
-use Rattle.std.specs.Ordering.{nat_cmp}
-use Rattle.std.specs.Map.{lookup}
-use Rattle.std.specs.BTreeMap.{insert_entry, is_at}
+use Rattle.std.{proofs.Common.{rules, ◌≡◌}, specs.{Prelude.{None}, Ordering.{nat_cmp}, Map.{lookup}, BTreeMap.{insert_entry, is_at}}}
 use Rattle.zc_poll.proofs.Counts.{adds-new}
 use Rattle.zc_poll.proofs.counting.make_room.Goals as goal
 

@@ -1,7 +1,6 @@
 use Rattle.std.proofs.Common.{rules, ◌≡◌, ◌<◌, length, refl, true, false}
 use Rattle.board_face.specs.declared.views.app.AppView.{AppView}
-use Rattle.zc_poll.specs.DeskOf.{desk_of}
-use Rattle.zc_poll.proofs.Lends.{item-is, none-active, next-out, next-notes, next-spare, desk-back, none-next, held-stepped}
+use Rattle.zc_poll.{specs.DeskOf.{desk_of}, proofs.Lends.{item-is, none-active, next-out, next-notes, next-spare, desk-back, none-next, held-stepped}}
 use Rattle.zc_poll.proofs.lending.offer.Goals as goal
 
 pub returns-then-st-len-clause-offers : goal.returns-then-st-len-clause-offers

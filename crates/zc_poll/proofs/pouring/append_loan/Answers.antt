@@ -1,12 +1,8 @@
-use Rattle.std.proofs.Common.{rules, ◌≡◌, ℕ, ◌+◌, ◌-◌, ◌≤◌, length, take, drop, length-append, subst, arith, min}
-use Rattle.std.specs.Io.KnownBytes.{Appends}
-use Rattle.std.proofs.KnownBytes.{Keeps-trans}
-use Rattle.std.proofs.lemmas.List.{length-drop}
-use Rattle.zr_io.specs.Moved.{Gained}
-use Rattle.zr_io.proofs.Moved.{Gained-weaker}
+use Rattle.std.{proofs.Common.{rules, ◌≡◌, ℕ, ◌+◌, ◌-◌, ◌≤◌, length, take, drop, length-append, subst, arith, min}, specs.Io.KnownBytes.{Appends}}
+use Rattle.std.proofs.{KnownBytes.{Keeps-trans}, lemmas.List.{length-drop}}
+use Rattle.zr_io.{specs.Moved.{Gained}, proofs.Moved.{Gained-weaker}}
 use Rattle.board_face.specs.declared.views.app.AppView.{AppView}
-use Rattle.flow_queues.proofs.ReadLemmas.{IsReadTo, read-of, still-out}
-use Rattle.flow_queues.specs.Core.{IsReadOf, lent_piece}
+use Rattle.flow_queues.{proofs.ReadLemmas.{IsReadTo, read-of, still-out}, specs.Core.{IsReadOf, lent_piece}}
 use Rattle.zc_poll.proofs.Appending.{read-more, one-more-at, some-more-at}
 use Rattle.zc_poll.proofs.pouring.append_loan.Goals as goal
 

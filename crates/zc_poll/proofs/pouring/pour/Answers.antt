@@ -1,15 +1,7 @@
-use Rattle.std.specs.Prelude.{None, Option}
+use Rattle.std.{specs.Prelude.{None, Option}, proofs.Common.{rules, ◌≡◌, ◌<◌, ◌≤◌, Bool, [], length, vec_capacity, Some, refl, sym, ap, subst, ◌∙◌}}
 use Rattle.zr_kinds.specs.declared.place.Place.{Place}
-use Rattle.std.proofs.Common.{rules, ◌≡◌, ◌<◌, ◌≤◌, Bool, [], length, vec_capacity, Some, refl, sym, ap, subst, ◌∙◌}
-use Rattle.zc_poll.specs.Standing.{Desk, StreamStands}
-use Rattle.zc_poll.specs.Items.{HasGiven}
-use Rattle.zc_poll.specs.Pouring.{PourStands}
-use Rattle.zc_poll.specs.Counting.{TallyState, AddsTo, item_counted}
-use Rattle.zc_poll.specs.TallyOf.{tally_of}
-use Rattle.zc_poll.specs.declared.counting.PourTally.{PourTally as Kept}
-use Rattle.zc_poll.proofs.ItemPoured.{Roomy}
-use Rattle.zc_poll.proofs.Pours.{wants, fails, wrote}
-use Rattle.zc_poll.proofs.PourTurns.{only-reads-none}
+use Rattle.zc_poll.specs.{Standing.{Desk, StreamStands}, Items.{HasGiven}, Pouring.{PourStands}, Counting.{TallyState, AddsTo, item_counted}, TallyOf.{tally_of}}
+use Rattle.zc_poll.{specs.declared.counting.PourTally.{PourTally as Kept}, proofs.{ItemPoured.{Roomy}, Pours.{wants, fails, wrote}, PourTurns.{only-reads-none}}}
 use Rattle.zc_poll.proofs.pouring.pour.Goals as goal
 
 is-roomy : (u v w : Kept) (copied : Bool) → tally_of v ≡ item_counted (tally_of u) copied → w ≡ record v { counts = w.counts; flows = w.flows }

@@ -1,6 +1,5 @@
 use Rattle.std.proofs.Common.{rules, ◌≡◌, ◌+◌, false, []}
-use Rattle.zc_poll.specs.DeskOf.{desk_of}
-use Rattle.zc_poll.proofs.Noted.{held-out, piece-past, now-out, now-apart, piece-wanted, piece-dropped, piece-entered}
+use Rattle.zc_poll.{specs.DeskOf.{desk_of}, proofs.Noted.{held-out, piece-past, now-out, now-apart, piece-wanted, piece-dropped, piece-entered}}
 use Rattle.zc_poll.proofs.taking.take_held.Goals as goal
 
 pub returns-then-st-clause-takes : goal.returns-then-st-clause-takes

@@ -1,9 +1,6 @@
 use Rattle.std.proofs.Common.{◌∙◌, ap, map, true}
 use Rattle.flow_queues.specs.Flows.{facts_of}
-use Rattle.zc_poll.specs.Standing.{Desk}
-use Rattle.zc_poll.specs.DeskOf.{desk_of}
-use Rattle.zc_poll.proofs.Passing.{none-stepped}
-use Rattle.zc_poll.proofs.Released.{may-end, memory-stepped, ended-stepped}
+use Rattle.zc_poll.{specs.{Standing.{Desk}, DeskOf.{desk_of}}, proofs.{Passing.{none-stepped}, Released.{may-end, memory-stepped, ended-stepped}}}
 use Rattle.zc_poll.proofs.taking.take_note.Goals as goal
 
 pub returns-in-NoNote-clause-takes : goal.returns-in-NoNote-clause-takes

@@ -1,6 +1,5 @@
 use Rattle.std.proofs.Common.{rules, ◌≡◌, ◌+◌, false, []}
-use Rattle.zc_poll.specs.DeskOf.{desk_of}
-use Rattle.zc_poll.proofs.Noted.{short-past, short-wanted, short-dropped, short-entered}
+use Rattle.zc_poll.{specs.DeskOf.{desk_of}, proofs.Noted.{short-past, short-wanted, short-dropped, short-entered}}
 use Rattle.zc_poll.proofs.taking.take_short.Goals as goal
 
 pub returns-then-st-clause-takes : goal.returns-then-st-clause-takes

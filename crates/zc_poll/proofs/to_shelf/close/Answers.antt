@@ -1,12 +1,7 @@
 use Rattle.std.proofs.Common.{rules, ◌≡◌, sym, subst}
-use Rattle.board_face.specs.declared.views.app.AppLook.TheVariants.{NotQuiet}
-use Rattle.board_face.specs.declared.views.app.AppView.{AppView}
-use Rattle.flow_queues.specs.Ends.{AppEnd, HasLeft}
-use Rattle.flow_queues.specs.Returned.{HasReturned}
-use Rattle.zc_poll.specs.PourTurns.{pour_end}
-use Rattle.zc_poll.specs.TallyOf.{tally_of}
-use Rattle.zc_poll.proofs.PourEnds.{left-pours, returned-pours, work_end}
-use Rattle.zc_poll.proofs.PourTurns.{saw-pours}
+use Rattle.board_face.specs.declared.views.app.{AppLook.TheVariants.{NotQuiet}, AppView.{AppView}}
+use Rattle.flow_queues.specs.{Ends.{AppEnd, HasLeft}, Returned.{HasReturned}}
+use Rattle.zc_poll.{specs.{PourTurns.{pour_end}, TallyOf.{tally_of}}, proofs.{PourEnds.{left-pours, returned-pours, work_end}, PourTurns.{saw-pours}}}
 use Rattle.zc_poll.proofs.to_shelf.close.Goals as goal
 
 pub returns-then-not-leave-clause-gives : goal.returns-then-not-leave-clause-gives

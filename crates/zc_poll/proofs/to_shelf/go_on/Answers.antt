@@ -1,7 +1,6 @@
 use Rattle.std.proofs.Common.{refl}
 use Rattle.zr_kinds.specs.declared.behaviour.Stopped.TheVariants as stop
-use Rattle.zc_poll.specs.TallyOf.{tally_of}
-use Rattle.zc_poll.proofs.PourTurns.{step-pours, memory-pours, same-counts}
+use Rattle.zc_poll.{specs.TallyOf.{tally_of}, proofs.PourTurns.{step-pours, memory-pours, same-counts}}
 use Rattle.zc_poll.proofs.to_shelf.go_on.Goals as goal
 
 pub returns-in-Waiting-clause-gives : goal.returns-in-Waiting-clause-gives

@@ -1,9 +1,5 @@
-use Rattle.std.proofs.Common.{rules, ◌≡◌, sym, subst}
-use Rattle.std.specs.Prelude.{None}
-use Rattle.zc_poll.specs.Counting.{TallyState}
-use Rattle.zc_poll.specs.Pouring.{PourStands}
-use Rattle.zc_poll.specs.PourTurns.{TurnDoes}
-use Rattle.zc_poll.specs.TallyOf.{tally_of}
+use Rattle.std.{proofs.Common.{rules, ◌≡◌, sym, subst}, specs.Prelude.{None}}
+use Rattle.zc_poll.specs.{Counting.{TallyState}, Pouring.{PourStands}, PourTurns.{TurnDoes}, TallyOf.{tally_of}}
 use Rattle.zc_poll.proofs.to_shelf.take_turn.Goals as goal
 
 pub returns-then-has_ended-clause-does : goal.returns-then-has_ended-clause-does

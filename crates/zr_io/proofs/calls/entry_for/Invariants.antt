@@ -1,5 +1,4 @@
-use Rattle.std.proofs.Common.{◌≡◌, nat_eq, drop}
-use Rattle.std.specs.Map.{lookup}
+use Rattle.std.{proofs.Common.{◌≡◌, nat_eq, drop}, specs.Map.{lookup}}
 use Rattle.zr_io.proofs.calls.entry_for.Given as goal
 
 abbrev pub invariant-loop-number : goal.invariant-loop-number

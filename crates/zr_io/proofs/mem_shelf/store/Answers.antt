@@ -1,5 +1,4 @@
-use Rattle.std.proofs.Common.{arith}
-use Rattle.std.proofs.lemmas.Grind.{common_steps}
+use Rattle.std.proofs.{Common.{arith}, lemmas.Grind.{common_steps}}
 use Rattle.zr_io.proofs.Kept.{store_some}
 use Rattle.zr_io.proofs.mem_shelf.store.Goals as goal
 

@@ -1,12 +1,6 @@
-use Rattle.std.proofs.Common.{rules, ◌≡◌, Some, None, length, get_or, sym, ap, ◌∙◌, arith}
-use Rattle.std.specs.Vec.{vec_len}
-use Rattle.flow_queues.specs.declared.queues.FlowQueue.{FlowQueue}
-use Rattle.app_worker.specs.Kept.{flow_bytes}
-use Rattle.app_worker.specs.State.{State}
-use Rattle.flow_queues.specs.Flows.{place_in}
-use Rattle.app_worker.specs.StateOf.{state_of}
-use Rattle.flow_queues.proofs.Indexing.{found-at, none-at}
-use Rattle.app_worker.proofs.FlowBytes.{bytes-at, bytes-none, bytes-sum}
+use Rattle.std.{proofs.Common.{rules, ◌≡◌, Some, None, length, get_or, sym, ap, ◌∙◌, arith}, specs.Vec.{vec_len}}
+use Rattle.flow_queues.{specs.{declared.queues.FlowQueue.{FlowQueue}, Flows.{place_in}}, proofs.Indexing.{found-at, none-at}}
+use Rattle.app_worker.{specs.{Kept.{flow_bytes}, State.{State}, StateOf.{state_of}}, proofs.FlowBytes.{bytes-at, bytes-none, bytes-sum}}
 use Rattle.app_worker.proofs.state.AppState.flow_bytes.Goals as goal
 
 pub index-requires : goal.index-requires

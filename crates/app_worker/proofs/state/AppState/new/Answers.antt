@@ -1,8 +1,6 @@
 use Rattle.std.proofs.Common.{rules}
 use Rattle.flow_queues.proofs.GivenBack.{fresh_given, fresh_front}
-use Rattle.app_worker.proofs.Written.{fresh_blocks}
-use Rattle.app_worker.proofs.Origins.{fresh_origins}
-use Rattle.app_worker.proofs.ReadWhole.{fresh_whole}
+use Rattle.app_worker.proofs.{Written.{fresh_blocks}, Origins.{fresh_origins}, ReadWhole.{fresh_whole}}
 use Rattle.app_worker.proofs.state.AppState.new.Goals as goal
 
 pub returns-clause-stands : goal.returns-clause-stands

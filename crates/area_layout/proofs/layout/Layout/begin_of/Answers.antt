@@ -1,7 +1,5 @@
 use Rattle.std.proofs.Common.{◌≡◌, ◌*◌, ◌<◌, length, get_or, arith}
-use Rattle.area_layout.specs.Layout.{Shape, no_area}
-use Rattle.area_layout.proofs.Areas.{upto-here, upto-later, upto-behind}
-use Rattle.area_layout.proofs.Words.{first_size, upto-now, part-few}
+use Rattle.area_layout.{specs.Layout.{Shape, no_area}, proofs.{Areas.{upto-here, upto-later, upto-behind}, Words.{first_size, upto-now, part-few}}}
 use Rattle.area_layout.proofs.layout.Layout.begin_of.Goals as goal
 
 pub returns-then-left-area-clause-value : goal.returns-then-left-area-clause-value

@@ -1,6 +1,5 @@
 use Rattle.std.proofs.Common.{◌≡◌, ◌+◌, drop, get_or}
-use Rattle.area_layout.specs.Layout.{no_area}
-use Rattle.area_layout.proofs.Areas.{bytes_upto}
+use Rattle.area_layout.{specs.Layout.{no_area}, proofs.Areas.{bytes_upto}}
 use Rattle.area_layout.proofs.layout.Layout.begin_of.Given as goal
 
 abbrev pub invariant-loop-area : goal.invariant-loop-area

@@ -1,6 +1,5 @@
 use Rattle.std.proofs.Common.{ap, arith}
-use Rattle.area_layout.specs.Layout.{Shape, area_at, area_of}
-use Rattle.area_layout.proofs.Words.{get_or-le-buffers}
+use Rattle.area_layout.{specs.Layout.{Shape, area_at, area_of}, proofs.Words.{get_or-le-buffers}}
 use Rattle.area_layout.proofs.layout.Layout.judge.Goals as goal
 
 pub returns-then-buffer-area-clause-within : goal.returns-then-buffer-area-clause-within

@@ -1,6 +1,5 @@
 use Rattle.std.proofs.Common.{refl, rules, arith}
-use Rattle.area_layout.specs.Layout.{MakeLayout}
-use Rattle.area_layout.proofs.Making.{made}
+use Rattle.area_layout.{specs.Layout.{MakeLayout}, proofs.Making.{made}}
 use Rattle.area_layout.proofs.layout.Layout.of.Goals as goal
 
 pub sums-buffers-requires-clause-each : goal.sums-buffers-requires-clause-each

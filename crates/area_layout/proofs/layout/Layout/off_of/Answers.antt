@@ -1,6 +1,5 @@
 use Rattle.std.proofs.Common.{◌≡◌, ◌*◌, arith}
-use Rattle.area_layout.specs.Layout.{begin_in_area}
-use Rattle.area_layout.proofs.Words.{place-within}
+use Rattle.area_layout.{specs.Layout.{begin_in_area}, proofs.Words.{place-within}}
 use Rattle.area_layout.proofs.layout.Layout.off_of.Goals as goal
 
 pub returns-clause-fits : goal.returns-clause-fits

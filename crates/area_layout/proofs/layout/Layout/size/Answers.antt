@@ -1,7 +1,5 @@
 use Rattle.std.proofs.Common.{◌≡◌, ℕ, ◌≤◌, ◌∙◌, sym, ap, subst, arith}
-use Rattle.area_layout.specs.Layout.{Shape, IsBufferSize, least_size, size_of}
-use Rattle.area_layout.proofs.Areas.{least-end}
-use Rattle.area_layout.proofs.Words.{first_size, layout-now, in_order}
+use Rattle.area_layout.{specs.Layout.{Shape, IsBufferSize, least_size, size_of}, proofs.{Areas.{least-end}, Words.{first_size, layout-now, in_order}}}
 use Rattle.area_layout.proofs.layout.Layout.size.Goals as goal
 
 least-found : (c : goal.After-loop-area) → c.loop-area.least ≡ least_size c.args.self.now

@@ -1,6 +1,5 @@
 use Rattle.std.proofs.Common.{◌≡◌, ◌∙◌, sym, ap, subst, ℕ}
-use Rattle.area_layout.specs.Layout.{Shape, IsBufferSize, area_at, area_of_buffer}
-use Rattle.area_layout.proofs.Words.{size-fits}
+use Rattle.area_layout.{specs.Layout.{Shape, IsBufferSize, area_at, area_of_buffer}, proofs.Words.{size-fits}}
 use Rattle.area_layout.proofs.layout.Layout.size_of.Goals as goal
 
 pub returns-clause-within : goal.returns-clause-within

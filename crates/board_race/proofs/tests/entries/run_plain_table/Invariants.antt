@@ -1,6 +1,5 @@
 -- Each hand is that of its role's side.
-use Rattle.face_table.specs.CardHand.{IsCardHand}
-use Rattle.face_table.specs.AppHand.{IsAppHand}
+use Rattle.face_table.specs.{CardHand.{IsCardHand}, AppHand.{IsAppHand}}
 use Rattle.plain_board.specs.Board.{side_of}
 use Rattle.board_race.proofs.tests.entries.run_plain_table.Given as goal
 

@@ -1,6 +1,5 @@
 -- Each hand is that of its role's seat.
-use Rattle.face_table.specs.CardHand.{IsCardHand}
-use Rattle.face_table.specs.AppHand.{IsAppHand}
+use Rattle.face_table.specs.{CardHand.{IsCardHand}, AppHand.{IsAppHand}}
 use Rattle.board_race.proofs.tests.spares.second_spare.Given as goal
 
 abbrev pub invariant-loop-row : goal.invariant-loop-row

@@ -1,6 +1,5 @@
 -- The application of a flow.
-use Rattle.std.proofs.Common.{◌==◌, Some, ap, ◌∙◌, arith, option_map}
-use Rattle.std.proofs.lemmas.List.Quantifiers.{position-Some}
+use Rattle.std.proofs.{Common.{◌==◌, Some, ap, ◌∙◌, arith, option_map}, lemmas.List.Quantifiers.{position-Some}}
 use Rattle.flow_table.specs.Flows.{Flow}
 use Rattle.card_feed.proofs.Lines.{told_of}
 use Rattle.card_feed.proofs.feed.Feed.flow_app.Goals as goal

@@ -1,8 +1,6 @@
 -- The frame is counted, its flow sees it, and it is at hand where it is offered; or it ends the reading.
-use Rattle.std.proofs.Common.{◌≡◌, ◌∙◌, ap, refl}
-use Rattle.std.proofs.lemmas.Result.{err_from_is_err_and}
-use Rattle.frame_headers.specs.FrameClass.{class_of}
-use Rattle.frame_headers.specs.Seen.{class_seen}
+use Rattle.std.proofs.{Common.{◌≡◌, ◌∙◌, ap, refl}, lemmas.Result.{err_from_is_err_and}}
+use Rattle.frame_headers.specs.{FrameClass.{class_of}, Seen.{class_seen}}
 use Rattle.card_feed.proofs.Taking.{frame-taken, frame-ends, frame-limit}
 use Rattle.card_feed.proofs.intake.Intake.take.Goals as goal
 

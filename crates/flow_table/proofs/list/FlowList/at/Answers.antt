@@ -1,7 +1,5 @@
-use Rattle.std.proofs.Common.{◌≡◌, length, map, sym, ap, ◌∙◌, Some, arith}
-use Rattle.std.specs.List.{slice_get}
-use Rattle.flow_table.specs.Kept.{entry_shown}
-use Rattle.flow_table.proofs.Entries.{shown_at}
+use Rattle.std.{proofs.Common.{◌≡◌, length, map, sym, ap, ◌∙◌, Some, arith}, specs.List.{slice_get}}
+use Rattle.flow_table.{specs.Kept.{entry_shown}, proofs.Entries.{shown_at}}
 use Rattle.flow_table.proofs.list.FlowList.at.Goals as goal
 
 pub returns : goal.returns

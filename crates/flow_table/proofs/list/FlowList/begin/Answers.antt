@@ -1,8 +1,6 @@
-use Rattle.std.proofs.Common.{◌≡◌, ◌++◌, ◌∷◌, [], length, map, true, Result, Ok, Err, is_ok, if◌then◌else◌, OnOk, sym, ap, ◌∙◌}
-use Rattle.std.proofs.Common.{arith, length-append}
+use Rattle.std.proofs.Common.{◌≡◌, ◌++◌, ◌∷◌, [], length, map, true, Result, Ok, Err, is_ok, if◌then◌else◌, OnOk, sym, ap, ◌∙◌, arith, length-append}
 use Rattle.std.proofs.lemmas.List.{length-map}
-use Rattle.flow_table.specs.Kept.{entry_shown}
-use Rattle.flow_table.proofs.Entries.{HasNewest-begun}
+use Rattle.flow_table.{specs.Kept.{entry_shown}, proofs.Entries.{HasNewest-begun}}
 use Rattle.flow_table.proofs.list.FlowList.begin.Goals as goal
 
 on_ok : {T E P : Type 0} (r : Result T E) → is_ok r ≡ true → OnOk r P → P

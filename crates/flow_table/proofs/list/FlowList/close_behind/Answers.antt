@@ -1,9 +1,6 @@
 use Rattle.std.proofs.Common.{Some, sym, ap, ◌∙◌, option_map, arith}
 use Rattle.frame_headers.specs.Seen.{shown}
-use Rattle.flow_table.specs.Flows.{Flow}
-use Rattle.flow_table.specs.Placing.{steered_to}
-use Rattle.flow_table.specs.Kept.{entry_shown}
-use Rattle.flow_table.proofs.FlowLaws.{with_segment-here, with_segment-next}
+use Rattle.flow_table.{specs.{Flows.{Flow}, Placing.{steered_to}, Kept.{entry_shown}}, proofs.FlowLaws.{with_segment-here, with_segment-next}}
 use Rattle.flow_table.proofs.list.FlowList.close_behind.Goals as goal
 
 pub returns-then-number-count : goal.returns-then-number-count

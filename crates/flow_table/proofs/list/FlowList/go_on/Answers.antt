@@ -1,11 +1,6 @@
-use Rattle.std.proofs.Common.{◌≡◌, ◌<◌, length, map, set, ap, ◌∙◌, arith}
-use Rattle.std.proofs.Math.ListN.{length-set}
-use Rattle.std.proofs.lemmas.List.{length-map}
+use Rattle.std.proofs.{Common.{◌≡◌, ◌<◌, length, map, set, ap, ◌∙◌, arith}, Math.ListN.{length-set}, lemmas.List.{length-map}}
 use Rattle.frame_headers.specs.Seen.{shown}
-use Rattle.flow_table.specs.Flows.{seen_by, with_segment}
-use Rattle.flow_table.specs.Placing.{steered_to}
-use Rattle.flow_table.specs.Kept.{entry_shown}
-use Rattle.flow_table.proofs.Entries.{entries-seen, HasNewest-seen}
+use Rattle.flow_table.{specs.{Flows.{seen_by, with_segment}, Placing.{steered_to}, Kept.{entry_shown}}, proofs.Entries.{entries-seen, HasNewest-seen}}
 use Rattle.flow_table.proofs.list.FlowList.go_on.Goals as goal
 
 pub invariant_of-self : goal.invariant_of-self

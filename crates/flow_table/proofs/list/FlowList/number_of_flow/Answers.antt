@@ -1,10 +1,6 @@
-use Rattle.std.proofs.Common.{sym, ◌∙◌, arith}
-use Rattle.std.proofs.lemmas.Bool.{cond-true, cond-false}
-use Rattle.std.proofs.lemmas.Option.{slice_get_within}
+use Rattle.std.proofs.{Common.{sym, ◌∙◌, arith}, lemmas.{Bool.{cond-true, cond-false}, Option.{slice_get_within}}}
 use Rattle.frame_headers.specs.Seen.{shown}
-use Rattle.flow_table.specs.Flows.{key_of}
-use Rattle.flow_table.specs.Kept.{entry_shown}
-use Rattle.flow_table.proofs.Listing.{newest-numbered, number_among-newest}
+use Rattle.flow_table.{specs.{Flows.{key_of}, Kept.{entry_shown}}, proofs.Listing.{newest-numbered, number_among-newest}}
 use Rattle.flow_table.proofs.list.FlowList.number_of_flow.Goals as goal
 
 pub at-requires : goal.at-requires

@@ -1,9 +1,6 @@
 use Rattle.std.proofs.Common.{◌≡◌, ◌+◌, ◌<◌, List, length, subst, sym, arith, if◌then◌else◌, ◌==◌}
 use Rattle.frame_headers.specs.Seen.{shown}
-use Rattle.flow_table.specs.Flows.{Flow}
-use Rattle.flow_table.specs.Placing.{steered_to}
-use Rattle.flow_table.specs.Kept.{entry_shown}
-use Rattle.flow_table.proofs.Listing.{begun-with_segment, with_segment-seen}
+use Rattle.flow_table.{specs.{Flows.{Flow}, Placing.{steered_to}, Kept.{entry_shown}}, proofs.Listing.{begun-with_segment, with_segment-seen}}
 use Rattle.flow_table.proofs.list.FlowList.see.Goals as goal
 
 pub returns-then-number-count-clause-flows : goal.returns-then-number-count-clause-flows

@@ -1,6 +1,5 @@
 use Rattle.std.proofs.Common.{◌≡◌, map, drop}
-use Rattle.flow_table.specs.Flows.{flows_after, flows_of}
-use Rattle.flow_table.specs.Plain.{flow_shown, steered_shown}
+use Rattle.flow_table.specs.{Flows.{flows_after, flows_of}, Plain.{flow_shown, steered_shown}}
 use Rattle.flow_table.proofs.plain.flows.flows_of.Given as goal
 
 abbrev pub invariant-loop-one : goal.invariant-loop-one

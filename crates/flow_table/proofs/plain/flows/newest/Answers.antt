@@ -1,8 +1,6 @@
 use Rattle.std.proofs.Common.{arith}
 use Rattle.frame_headers.specs.Seen.{shown}
-use Rattle.flow_table.specs.Flows.{key_of}
-use Rattle.flow_table.specs.Plain.{flow_shown}
-use Rattle.flow_table.proofs.Newest.{newest_found, newest_passed}
+use Rattle.flow_table.{specs.{Flows.{key_of}, Plain.{flow_shown}}, proofs.Newest.{newest_found, newest_passed}}
 use Rattle.flow_table.proofs.plain.flows.newest.Goals as goal
 
 pub returns-then-has_key_of : goal.returns-then-has_key_of

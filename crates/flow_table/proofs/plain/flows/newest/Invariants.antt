@@ -1,7 +1,6 @@
 use Rattle.std.proofs.Common.{◌≡◌, ◌≤◌, map, take, length}
 use Rattle.frame_headers.specs.Seen.{shown}
-use Rattle.flow_table.specs.Flows.{key_of, newest}
-use Rattle.flow_table.specs.Plain.{flow_shown}
+use Rattle.flow_table.specs.{Flows.{key_of, newest}, Plain.{flow_shown}}
 use Rattle.flow_table.proofs.plain.flows.newest.Given as goal
 
 -- no flow from this number on has the key

@@ -1,6 +1,5 @@
 use Rattle.std.proofs.Common.{◌≡◌, ◌++◌, map, drop}
-use Rattle.flow_table.specs.Flows.{of_flow_after, of_flow}
-use Rattle.flow_table.specs.Plain.{flow_shown, steered_shown}
+use Rattle.flow_table.specs.{Flows.{of_flow_after, of_flow}, Plain.{flow_shown, steered_shown}}
 use Rattle.flow_table.proofs.plain.flows.of_flow.Given as goal
 
 abbrev pub invariant-loop-one : goal.invariant-loop-one

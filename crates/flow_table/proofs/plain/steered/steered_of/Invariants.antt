@@ -1,7 +1,6 @@
 use Rattle.std.proofs.Common.{◌≡◌, ◌+◌, ◌++◌, map, drop, length, ◌≤◌}
 use Rattle.frame_headers.specs.Seen.{segment_seen}
-use Rattle.flow_table.specs.Steered.{steered_from, steered_of}
-use Rattle.flow_table.specs.Plain.{steered_shown}
+use Rattle.flow_table.specs.{Steered.{steered_from, steered_of}, Plain.{steered_shown}}
 use Rattle.flow_table.proofs.plain.steered.steered_of.Given as goal
 
 -- what is steered so far and what is steered of the rest make the whole

@@ -1,7 +1,6 @@
 use Rattle.std.proofs.Common.{◌∙◌, ap, inr, refl}
 use Rattle.frame_headers.specs.Seen.{shown}
-use Rattle.flow_table.specs.Steered.{app_of}
-use Rattle.flow_table.proofs.Steering.{too_many-for, counted-for}
+use Rattle.flow_table.{specs.Steered.{app_of}, proofs.Steering.{too_many-for, counted-for}}
 use Rattle.flow_table.proofs.table.FlowTable.admits.Goals as goal
 
 pub returns-in_err-len-clause-refuses : goal.returns-in_err-len-clause-refuses

@@ -1,7 +1,6 @@
 use Rattle.std.proofs.Common.{ap, ◌∙◌}
 use Rattle.frame_headers.specs.Seen.{shown}
-use Rattle.flow_table.specs.Steered.{app_of}
-use Rattle.flow_table.proofs.Steering.{begins-for, begins-among, few-for, few-among}
+use Rattle.flow_table.{specs.Steered.{app_of}, proofs.Steering.{begins-for, begins-among, few-for, few-among}}
 use Rattle.flow_table.proofs.table.FlowTable.begins.Goals as goal
 
 pub returns-in-Some : goal.returns-in-Some

@@ -1,9 +1,6 @@
-use Rattle.std.proofs.Common.{ap, refl, ◌∙◌}
-use Rattle.std.proofs.lemmas.Result.{err_from_is_err_and}
+use Rattle.std.proofs.{Common.{ap, refl, ◌∙◌}, lemmas.Result.{err_from_is_err_and}}
 use Rattle.frame_headers.specs.Seen.{shown}
-use Rattle.flow_table.specs.Steered.{app_of}
-use Rattle.flow_table.specs.Kept.{entry_shown}
-use Rattle.flow_table.specs.declared.placed.FlowFault.TheVariants.{TooManyFlows, Memory}
+use Rattle.flow_table.specs.{Steered.{app_of}, Kept.{entry_shown}, declared.placed.FlowFault.TheVariants.{TooManyFlows, Memory}}
 use Rattle.flow_table.proofs.Steering.{too_many-for, begins-for, is_placed, handed_on, told_by, no_fault}
 use Rattle.flow_table.proofs.table.FlowTable.place.Goals as goal
 

@@ -1,8 +1,5 @@
-use Rattle.std.proofs.Common.{◌≡◌, ◌∙◌, None, sym, subst, ap}
-use Rattle.std.specs.Prelude.{nat_eq}
-use Rattle.std.specs.Map.{lookup}
-use Rattle.zc_forward.specs.Carriage.{AreOut}
-use Rattle.zc_forward.proofs.Out.{one_more}
+use Rattle.std.{proofs.Common.{◌≡◌, ◌∙◌, None, sym, subst, ap}, specs.{Prelude.{nat_eq}, Map.{lookup}}}
+use Rattle.zc_forward.{specs.Carriage.{AreOut}, proofs.Out.{one_more}}
 use Rattle.forward_runs.proofs.moody.MoodyCarrier.begin.Goals as goal
 
 pub invariant_of-self : goal.invariant_of-self

@@ -1,9 +1,6 @@
 -- The first four bytes of a file header, and what is behind them.
-use Rattle.std.proofs.Common.{arith}
-use Rattle.std.proofs.lemmas.Result.{err_from_is_err_and}
-use Rattle.pcap_reader.specs.Records.{header_fault}
-use Rattle.pcap_reader.proofs.HeaderLaws.{header_fault-cut}
-use Rattle.pcap_reader.proofs.Joined.{HeaderStops-broken, Opens-behind}
+use Rattle.std.proofs.{Common.{arith}, lemmas.Result.{err_from_is_err_and}}
+use Rattle.pcap_reader.{specs.Records.{header_fault}, proofs.{HeaderLaws.{header_fault-cut}, Joined.{HeaderStops-broken, Opens-behind}}}
 use Rattle.pcap_reader.proofs.capture.Capture.open.Goals as goal
 
 pub returns-in_err-fill_whole-clause-opens : goal.returns-in_err-fill_whole-clause-opens

@@ -1,14 +1,10 @@
 -- A file header is a magic and the fields behind it.
-use Rattle.std.proofs.Common.{◌≡◌, ℕ, List, ◌++◌, ◌∙◌, length, Option, Some, None, Ok, Err, refl, ap, append_assoc, arith, sym}
-use Rattle.std.proofs.lemmas.Result.{err_from_is_err_and}
+use Rattle.std.proofs.{Common.{◌≡◌, ℕ, List, ◌++◌, ◌∙◌, length, Option, Some, None, Ok, Err, refl, ap, append_assoc, arith, sym}, lemmas.Result.{err_from_is_err_and}}
 use Rattle.std.specs.Option.{ok_or}
-use Rattle.zr_kinds.specs.declared.fault.Fault.{Fault}
-use Rattle.zr_kinds.specs.declared.fault.Fault.TheVariants.{NotPcap}
+use Rattle.zr_kinds.specs.declared.fault.Fault.{Fault, TheVariants.{NotPcap}}
 use Rattle.zr_io.proofs.Moved.{Took-weaker}
-use Rattle.pcap_reader.specs.Records.{ByteOrder, order_of, header_fault, records_of, records_in}
-use Rattle.pcap_reader.specs.Steps.{IsMagicOf, fault_of_fields, behind_magic_in}
-use Rattle.pcap_reader.proofs.HeaderLaws.{records_of-told, header_fault-told, header_fault-other}
-use Rattle.pcap_reader.proofs.Joined.{HeaderStops-nothing, HeaderStops-within, fronts-weaker}
+use Rattle.pcap_reader.specs.{Records.{ByteOrder, order_of, header_fault, records_of, records_in}, Steps.{IsMagicOf, fault_of_fields, behind_magic_in}}
+use Rattle.pcap_reader.proofs.{HeaderLaws.{records_of-told, header_fault-told, header_fault-other}, Joined.{HeaderStops-nothing, HeaderStops-within, fronts-weaker}}
 use Rattle.pcap_reader.proofs.capture.Capture.open_rest.Goals as goal
 
 opened : (order : ByteOrder) (magic fields : List ℕ) → IsMagicOf order magic

@@ -1,9 +1,7 @@
 -- The next record in either form.
 use Rattle.std.proofs.Common.{sym, ap, ◌∙◌}
-use Rattle.pcapng_reader.specs.Forms.{reading_of}
-use Rattle.pcapng_reader.proofs.Forms.{classic-gives, order-kept}
+use Rattle.pcapng_reader.{specs.Forms.{reading_of}, proofs.{Forms.{classic-gives, order-kept}, any.AnyCapture.next.Goals.{in-Classic, in-Blocks}}}
 use Rattle.pcapng_reader.proofs.any.AnyCapture.next.Goals as goal
-use Rattle.pcapng_reader.proofs.any.AnyCapture.next.Goals.{in-Classic, in-Blocks}
 
 pub returns-clause-gives : goal.returns-clause-gives
 returns-clause-gives g c = elim c.match-self.branch [

@@ -1,8 +1,6 @@
 -- The first four bytes tell the form.
-use Rattle.std.proofs.Common.{length, sym, ◌∙◌, arith}
-use Rattle.std.proofs.lemmas.Result.{err_from_is_err_and}
-use Rattle.pcapng_reader.specs.Steps.{told}
-use Rattle.pcapng_reader.proofs.Forms.{opening-broken, opens-blocks-fault, opens-classic-fault, took-blocks, took-classic}
+use Rattle.std.proofs.{Common.{length, sym, ◌∙◌, arith}, lemmas.Result.{err_from_is_err_and}}
+use Rattle.pcapng_reader.{specs.Steps.{told}, proofs.Forms.{opening-broken, opens-blocks-fault, opens-classic-fault, took-blocks, took-classic}}
 use Rattle.pcapng_reader.proofs.Forms.{alone-blocks, alone-classic}
 use Rattle.pcapng_reader.proofs.any.AnyCapture.open.Goals as goal
 

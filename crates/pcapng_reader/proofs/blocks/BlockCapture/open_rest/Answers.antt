@@ -1,16 +1,11 @@
 -- The first section header, whose type was read before.
-use Rattle.std.proofs.Common.{◌≡◌, ◌-◌, ◌<◌, ◌++◌, ℕ, Option, List, [], length, ap, refl, arith, sym, subst, ◌∙◌, length-append}
-use Rattle.std.proofs.lemmas.Result.{err_from_is_err_and}
+use Rattle.std.proofs.{Common.{◌≡◌, ◌-◌, ◌<◌, ◌++◌, ℕ, Option, List, [], length, ap, refl, arith, sym, subst, ◌∙◌, length-append}, lemmas.Result.{err_from_is_err_and}}
 use Rattle.std.proofs.lemmas.List.{take_at, take_all}
 use Rattle.zr_kinds.specs.declared.fault.Fault.{Fault}
 use Rattle.zr_io.proofs.Moved.{Took-weaker}
-use Rattle.pcap_reader.proofs.Joined.{fronts-short}
-use Rattle.pcap_reader.specs.declared.order.ByteOrder.TheVariants.{Little}
-use Rattle.pcapng_reader.specs.Blocks.{Section, block_fault, blocks_in, no_section}
-use Rattle.pcapng_reader.specs.Steps.{told, head_bytes, fault_from, BlockStops, IsCutBefore, IsHeaderFault}
-use Rattle.pcapng_reader.proofs.BlockLaws.{fault-start}
-use Rattle.pcapng_reader.proofs.BlockSteps.{stops-broken, stops-behind, cut-behind, took-behind}
-use Rattle.pcapng_reader.proofs.Heads.{kind_of_first, head_cut}
+use Rattle.pcap_reader.{proofs.Joined.{fronts-short}, specs.declared.order.ByteOrder.TheVariants.{Little}}
+use Rattle.pcapng_reader.specs.{Blocks.{Section, block_fault, blocks_in, no_section}, Steps.{told, head_bytes, fault_from, BlockStops, IsCutBefore, IsHeaderFault}}
+use Rattle.pcapng_reader.proofs.{BlockLaws.{fault-start}, BlockSteps.{stops-broken, stops-behind, cut-behind, took-behind}, Heads.{kind_of_first, head_cut}}
 use Rattle.pcapng_reader.proofs.WholeBlocks.{section-same}
 use Rattle.pcapng_reader.proofs.blocks.BlockCapture.open_rest.Goals as goal
 

@@ -1,13 +1,9 @@
 -- It is logged with the count that its buffer has then.
 use Rattle.std.proofs.Common.{refl}
-use Rattle.board_face.specs.Laws.{pool_of}
-use Rattle.board_face.specs.AppEvents.{cut}
+use Rattle.board_face.specs.{Laws.{pool_of}, AppEvents.{cut}, Sides.{app_at}}
 use Rattle.run_records.specs.declared.event.Event.TheVariants as event
 use Rattle.event_log.proofs.AppLaws.{cut-law}
-use Rattle.board_face.specs.Sides.{app_at}
-use Rattle.plain_board.specs.Stand.{side_of, sides_of}
-use Rattle.plain_board.proofs.AppFrames.{here-of}
-use Rattle.plain_board.proofs.Logging.{by-view, sides-sound, same-spares, app-logs}
+use Rattle.plain_board.{specs.Stand.{side_of, sides_of}, proofs.{AppFrames.{here-of}, Logging.{by-view, sides-sound, same-spares, app-logs}}}
 use Rattle.plain_board.proofs.app.PlainAppAppFace.cut.Goals as goal
 
 pub invariant_of-self : goal.invariant_of-self

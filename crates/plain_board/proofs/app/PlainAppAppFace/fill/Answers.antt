@@ -1,11 +1,7 @@
 -- No event tells of it.
-use Rattle.board_face.specs.AppEvents.{filled}
-use Rattle.event_log.proofs.AppLaws.{app-unlogged}
-use Rattle.event_log.proofs.ShortFills.{fills-law}
-use Rattle.board_face.specs.Sides.{app_at}
-use Rattle.plain_board.specs.Stand.{side_of, sides_of}
-use Rattle.plain_board.proofs.AppFrames.{here-of}
-use Rattle.plain_board.proofs.Logging.{by-view, app-keeps}
+use Rattle.board_face.specs.{AppEvents.{filled}, Sides.{app_at}}
+use Rattle.event_log.proofs.{AppLaws.{app-unlogged}, ShortFills.{fills-law}}
+use Rattle.plain_board.{specs.Stand.{side_of, sides_of}, proofs.{AppFrames.{here-of}, Logging.{by-view, app-keeps}}}
 use Rattle.plain_board.proofs.app.PlainAppAppFace.fill.Goals as goal
 
 pub invariant_of-self : goal.invariant_of-self

@@ -1,14 +1,9 @@
 -- A loan that is given back is logged with the user count that stays, and a look at a full ring isn't.
 use Rattle.std.proofs.Common.{refl}
-use Rattle.board_face.specs.Laws.{user_of}
-use Rattle.board_face.specs.AppEvents.{app_saw, gave}
-use Rattle.board_face.specs.Sides.{app_at}
-use Rattle.board_face.specs.declared.views.app.AppLook.TheVariants.{RefillInUse}
+use Rattle.board_face.specs.{Laws.{user_of}, AppEvents.{app_saw, gave}, Sides.{app_at}, declared.views.app.AppLook.TheVariants.{RefillInUse}}
 use Rattle.run_records.specs.declared.event.Event.TheVariants as event
 use Rattle.event_log.proofs.AppLaws.{app-unlogged, back-law}
-use Rattle.plain_board.specs.Stand.{side_of, sides_of}
-use Rattle.plain_board.proofs.AppFrames.{here-of}
-use Rattle.plain_board.proofs.Logging.{by-view, sides-sound, same-spares, app-keeps, app-logs}
+use Rattle.plain_board.{specs.Stand.{side_of, sides_of}, proofs.{AppFrames.{here-of}, Logging.{by-view, sides-sound, same-spares, app-keeps, app-logs}}}
 use Rattle.plain_board.proofs.app.PlainAppAppFace.give.Goals as goal
 
 pub invariant_of-self : goal.invariant_of-self

@@ -1,13 +1,8 @@
 -- No event tells of it.
 use Rattle.std.proofs.Common.{◌≡◌, refl}
-use Rattle.board_face.specs.AppCalls.{AppOnlySaw}
-use Rattle.board_face.specs.AppEvents.{app_saw, pushed_raw}
-use Rattle.board_face.specs.declared.views.app.AppLook.TheVariants.{RefillInUse}
-use Rattle.board_face.specs.declared.views.app.AppView.{AppView}
+use Rattle.board_face.specs.{AppCalls.{AppOnlySaw}, AppEvents.{app_saw, pushed_raw}, declared.views.app.{AppLook.TheVariants.{RefillInUse}, AppView.{AppView}}}
 use Rattle.event_log.proofs.AppLaws.{app-unlogged}
-use Rattle.plain_board.specs.Stand.{side_of, sides_of}
-use Rattle.plain_board.proofs.AppFrames.{here-of}
-use Rattle.plain_board.proofs.Logging.{by-view, same-spares, app-keeps, by-result}
+use Rattle.plain_board.{specs.Stand.{side_of, sides_of}, proofs.{AppFrames.{here-of}, Logging.{by-view, same-spares, app-keeps, by-result}}}
 use Rattle.plain_board.proofs.app.PlainAppAppFace.push_raw.Goals as goal
 
 pub invariant_of-self : goal.invariant_of-self

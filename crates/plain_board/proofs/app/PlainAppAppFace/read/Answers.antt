@@ -1,11 +1,8 @@
 -- No event tells of it.
 use Rattle.std.proofs.Common.{refl}
-use Rattle.board_face.specs.AppEvents.{has_read}
+use Rattle.board_face.specs.{AppEvents.{has_read}, Sides.{app_at}}
 use Rattle.event_log.proofs.AppLaws.{app-unlogged}
-use Rattle.board_face.specs.Sides.{app_at}
-use Rattle.plain_board.specs.Stand.{side_of, sides_of}
-use Rattle.plain_board.proofs.AppFrames.{here-of}
-use Rattle.plain_board.proofs.Logging.{by-view, same-spares, app-keeps}
+use Rattle.plain_board.{specs.Stand.{side_of, sides_of}, proofs.{AppFrames.{here-of}, Logging.{by-view, same-spares, app-keeps}}}
 use Rattle.plain_board.proofs.app.PlainAppAppFace.read.Goals as goal
 
 pub invariant_of-self : goal.invariant_of-self

@@ -1,15 +1,9 @@
 -- A buffer that nobody had is logged with the count that it has then, and a look isn't.
 use Rattle.std.proofs.Common.{refl}
-use Rattle.board_face.specs.Laws.{pool_of}
-use Rattle.board_face.specs.AppEvents.{app_saw, got_spare}
-use Rattle.board_face.specs.Sides.{app_at}
-use Rattle.board_face.specs.declared.views.app.AppLook.TheVariants.{NoSpare}
+use Rattle.board_face.specs.{Laws.{pool_of}, AppEvents.{app_saw, got_spare}, Sides.{app_at}, declared.views.app.AppLook.TheVariants.{NoSpare}}
 use Rattle.run_records.specs.declared.event.Event.TheVariants as event
-use Rattle.event_log.proofs.AppLaws.{app-unlogged, got_spare-law}
-use Rattle.event_log.proofs.ShortFills.{fills-law}
-use Rattle.plain_board.specs.Stand.{side_of, sides_of}
-use Rattle.plain_board.proofs.AppFrames.{here-of}
-use Rattle.plain_board.proofs.Logging.{by-view, sides-sound, same-spares, app-keeps, app-logs}
+use Rattle.event_log.proofs.{AppLaws.{app-unlogged, got_spare-law}, ShortFills.{fills-law}}
+use Rattle.plain_board.{specs.Stand.{side_of, sides_of}, proofs.{AppFrames.{here-of}, Logging.{by-view, sides-sound, same-spares, app-keeps, app-logs}}}
 use Rattle.plain_board.proofs.app.PlainAppAppFace.spare.Goals as goal
 
 pub invariant_of-self : goal.invariant_of-self

@@ -1,7 +1,6 @@
 -- One loan less is out, and one more is owed.
 use Rattle.std.proofs.Common.{refl}
-use Rattle.plain_board.proofs.AppFrames.{here-of, others-then, side-then}
-use Rattle.plain_board.proofs.Abandoning.{IsSound-abandoned, loan-there, loan-counted}
+use Rattle.plain_board.proofs.{AppFrames.{here-of, others-then, side-then}, Abandoning.{IsSound-abandoned, loan-there, loan-counted}}
 use Rattle.plain_board.proofs.contents.Contents.abandon.Goals as goal
 
 pub lower-requires-clause-there : goal.lower-requires-clause-there

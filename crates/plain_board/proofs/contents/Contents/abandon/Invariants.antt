@@ -1,6 +1,5 @@
 -- What the application's diary says once a loan was abandoned.
-use Rattle.board_face.specs.Sides.{app_at, side_in}
-use Rattle.board_face.specs.AppEvents.{abandoned}
+use Rattle.board_face.specs.{Sides.{app_at, side_in}, AppEvents.{abandoned}}
 use Rattle.plain_board.proofs.contents.Contents.abandon.Given as goal
 
 abbrev pub ghosts-note_at : goal.ghosts-note_at

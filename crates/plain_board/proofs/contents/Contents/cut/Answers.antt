@@ -1,8 +1,6 @@
 -- A held piece lies in a buffer of the area, whose holders are few.
 use Rattle.std.proofs.Common.{refl, arith}
-use Rattle.plain_board.proofs.AppFrames.{here-of, others-then, side-then}
-use Rattle.plain_board.proofs.HeldPieces.{there-pool, held-few, held-ends}
-use Rattle.plain_board.proofs.Cutting.{IsSound-cut}
+use Rattle.plain_board.proofs.{AppFrames.{here-of, others-then, side-then}, HeldPieces.{there-pool, held-few, held-ends}, Cutting.{IsSound-cut}}
 use Rattle.plain_board.proofs.contents.Contents.cut.Goals as goal
 
 pub raise-requires-clause-there : goal.raise-requires-clause-there

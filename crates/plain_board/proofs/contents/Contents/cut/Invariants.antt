@@ -1,6 +1,5 @@
 -- The application's diary says then that it cut the piece.
-use Rattle.board_face.specs.Sides.{app_at, side_in}
-use Rattle.board_face.specs.AppEvents.{cut}
+use Rattle.board_face.specs.{Sides.{app_at, side_in}, AppEvents.{cut}}
 use Rattle.plain_board.proofs.contents.Contents.cut.Given as goal
 
 abbrev pub ghosts-note_at : goal.ghosts-note_at

@@ -1,6 +1,5 @@
 -- The card's diary says then that it ended.
-use Rattle.board_face.specs.Sides.{nic_at}
-use Rattle.board_face.specs.NicEvents.{nic_ended}
+use Rattle.board_face.specs.{Sides.{nic_at}, NicEvents.{nic_ended}}
 use Rattle.plain_board.proofs.contents.Contents.end.Given as goal
 
 abbrev pub ghosts-note : goal.ghosts-note

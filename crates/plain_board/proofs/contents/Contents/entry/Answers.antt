@@ -1,21 +1,14 @@
 -- Where the ring is empty nothing moves. An entry of which something is owed lowers two counts, and any other is a stray.
-use Rattle.std.proofs.Common.{◌≡◌, ℕ, ◌<◌, refl, ap, sym, ◌∙◌, Some, arith}
-use Rattle.board_face.proofs.LookLemmas.{NicRose-nic_saw}
-use Rattle.board_face.specs.declared.views.nic.NicLook.TheVariants.{RingEmpty}
-use Rattle.area_layout.specs.Layout.{judged, pool_buffers}
-use Rattle.std.specs.Prelude.{◌==◌, ◌&&◌, nat_lt, Bool, true, false}
-use Rattle.std.proofs.Common.{◌≤◌, ⊎_elim}
+use Rattle.std.{proofs.Common.{◌≡◌, ℕ, ◌<◌, refl, ap, sym, ◌∙◌, Some, arith, ◌≤◌, ⊎_elim}, specs.Prelude.{◌==◌, ◌&&◌, nat_lt, Bool, true, false}}
 use Rattle.std.proofs.lemmas.Bool.{ltb-true, lt-ltb, cases_lt}
-use Rattle.plain_board.proofs.AppFrames.{here-of}
-use Rattle.plain_board.proofs.Card.{within-setting}
-use Rattle.plain_board.proofs.Freeing.{and-right}
-use Rattle.plain_board.proofs.Still.{IsSound-saw}
-use Rattle.plain_board.proofs.Popping.{rings-same}
+use Rattle.board_face.{proofs.LookLemmas.{NicRose-nic_saw}, specs.declared.views.nic.NicLook.TheVariants.{RingEmpty}}
+use Rattle.area_layout.specs.Layout.{judged, pool_buffers}
+use Rattle.plain_board.proofs.{AppFrames.{here-of}, Card.{within-setting}, Freeing.{and-right}, Still.{IsSound-saw}, Popping.{rings-same}}
 use Rattle.plain_board.proofs.Straying.{IsSound-passed_over, PassedOver-passed_over}
 use Rattle.plain_board.proofs.Honouring.{is_held, owes_one, IsSound-honoured, came-zero, came-pool, came-code, FreedEntry-honoured, HonouredEntry-honoured}
 use Rattle.plain_board.proofs.Seeing.{IsJudged-passed_over, IsJudged-honoured, NicTold-empty, NicTold-passed_over, NicTold-honoured}
-use Rattle.plain_board.proofs.contents.Contents.entry.Goals as goal
 use Rattle.plain_board.proofs.contents.Contents.entry.Goals.{then-free, else-free}
+use Rattle.plain_board.proofs.contents.Contents.entry.Goals as goal
 use Rattle.zr_kinds.proofs.Lists.{front-some, front-none}
 
 and-left : (c d : Bool) → (c && d) ≡ true → c ≡ true

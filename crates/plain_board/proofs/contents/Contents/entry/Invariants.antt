@@ -1,7 +1,5 @@
 -- What the card's diary says by the answer.
-use Rattle.board_face.specs.Sides.{nic_at}
-use Rattle.board_face.specs.NicEvents.{nic_saw, passed_over}
-use Rattle.board_face.specs.declared.views.nic.NicLook.TheVariants.{RingEmpty}
+use Rattle.board_face.specs.{Sides.{nic_at}, NicEvents.{nic_saw, passed_over}, declared.views.nic.NicLook.TheVariants.{RingEmpty}}
 use Rattle.plain_board.proofs.Honouring.{honoured_if}
 use Rattle.plain_board.proofs.contents.Contents.entry.Given as goal
 

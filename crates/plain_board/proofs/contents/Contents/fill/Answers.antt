@@ -1,7 +1,6 @@
 -- The bytes are stored at the begin of the spare's buffer, in which nothing else lies.
 use Rattle.std.proofs.Common.{refl}
-use Rattle.plain_board.proofs.AppFrames.{here-of, others-then, side-then}
-use Rattle.plain_board.proofs.SpareFilled.{spare-there, lies-in, fits-area, fits-token, IsSound-filled}
+use Rattle.plain_board.proofs.{AppFrames.{here-of, others-then, side-then}, SpareFilled.{spare-there, lies-in, fits-area, fits-token, IsSound-filled}}
 use Rattle.plain_board.proofs.contents.Contents.fill.Goals as goal
 
 pub byte_of-at-requires : goal.byte_of-at-requires

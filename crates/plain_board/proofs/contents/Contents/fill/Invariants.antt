@@ -1,6 +1,5 @@
 -- The application's diary says that the spare was filled.
-use Rattle.board_face.specs.Sides.{app_at, side_in}
-use Rattle.board_face.specs.AppEvents.{filled}
+use Rattle.board_face.specs.{Sides.{app_at, side_in}, AppEvents.{filled}}
 use Rattle.plain_board.proofs.contents.Contents.fill.Given as goal
 
 abbrev pub ghosts-note_at : goal.ghosts-note_at

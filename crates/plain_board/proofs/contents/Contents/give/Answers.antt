@@ -1,12 +1,8 @@
 -- The entry is behind the others and the loan out no more, or the ring is full.
 use Rattle.std.proofs.Common.{refl}
 use Rattle.board_face.specs.declared.views.app.AppLook.TheVariants.{RefillInUse}
-use Rattle.plain_board.proofs.AppFrames.{here-of, others-then, side-then}
-use Rattle.plain_board.proofs.AppTold.{IsSound-looked}
-use Rattle.plain_board.proofs.Abandoning.{loan-there, loan-counted}
-use Rattle.plain_board.proofs.Giving.{IsSound-gave, lies, same-entry}
-use Rattle.plain_board.proofs.Writing.{told-in_use}
-use Rattle.plain_board.proofs.NotNow.{full-written}
+use Rattle.plain_board.proofs.{AppFrames.{here-of, others-then, side-then}, AppTold.{IsSound-looked}, Abandoning.{loan-there, loan-counted}}
+use Rattle.plain_board.proofs.{Giving.{IsSound-gave, lies, same-entry}, Writing.{told-in_use}, NotNow.{full-written}}
 use Rattle.plain_board.proofs.contents.Contents.give.Goals as goal
 
 pub off_of-requires : goal.off_of-requires

@@ -1,7 +1,6 @@
 -- No more changes than that the application left.
 use Rattle.std.proofs.Common.{refl}
-use Rattle.plain_board.proofs.AppFrames.{here-of, others-then, side-then}
-use Rattle.plain_board.proofs.Leaving.{IsSound-left}
+use Rattle.plain_board.proofs.{AppFrames.{here-of, others-then, side-then}, Leaving.{IsSound-left}}
 use Rattle.plain_board.proofs.contents.Contents.leave.Goals as goal
 
 pub invariant_of-self : goal.invariant_of-self

@@ -1,6 +1,5 @@
 -- The application's diary says that it left.
-use Rattle.board_face.specs.Sides.{app_at, side_in}
-use Rattle.board_face.specs.AppEvents.{left_board}
+use Rattle.board_face.specs.{Sides.{app_at, side_in}, AppEvents.{left_board}}
 use Rattle.plain_board.proofs.contents.Contents.leave.Given as goal
 
 abbrev pub ghosts-note_at : goal.ghosts-note_at

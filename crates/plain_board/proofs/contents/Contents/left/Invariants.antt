@@ -1,8 +1,6 @@
 -- The card's diary says then what it saw.
 use Rattle.std.specs.Prelude.{if◌then◌else◌}
-use Rattle.board_face.specs.Sides.{nic_at}
-use Rattle.board_face.specs.NicEvents.{saw_leave, nic_saw}
-use Rattle.board_face.specs.declared.views.nic.NicLook.TheVariants.{NotLeft}
+use Rattle.board_face.specs.{Sides.{nic_at}, NicEvents.{saw_leave, nic_saw}, declared.views.nic.NicLook.TheVariants.{NotLeft}}
 use Rattle.plain_board.proofs.contents.Contents.left.Given as goal
 
 abbrev pub ghosts-note : goal.ghosts-note

@@ -1,8 +1,6 @@
 -- The piece's buffer has one user more.
 use Rattle.std.proofs.Common.{refl}
-use Rattle.plain_board.proofs.AppFrames.{here-of, others-then, side-then}
-use Rattle.plain_board.proofs.Lending.{IsSound-lent, held-within}
-use Rattle.plain_board.proofs.OnLoan.{user-there, loan-there, user-few, loan-few}
+use Rattle.plain_board.proofs.{AppFrames.{here-of, others-then, side-then}, Lending.{IsSound-lent, held-within}, OnLoan.{user-there, loan-there, user-few, loan-few}}
 use Rattle.plain_board.proofs.contents.Contents.lend.Goals as goal
 
 pub raise-requires-clause-there : goal.raise-requires-clause-there

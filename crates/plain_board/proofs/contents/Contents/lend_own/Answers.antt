@@ -1,10 +1,7 @@
 -- The spare's buffer has one user more, and its length is booked.
-use Rattle.std.proofs.Common.{◌∙◌, ap, refl, arith}
-use Rattle.std.proofs.lemmas.List.{get_or_read}
+use Rattle.std.proofs.{Common.{◌∙◌, ap, refl, arith}, lemmas.List.{get_or_read}}
 use Rattle.board_face.specs.AppEvents.{begin_place}
-use Rattle.plain_board.proofs.AppFrames.{here-of, others-then, side-then}
-use Rattle.plain_board.proofs.TokensLie.{spare-within}
-use Rattle.plain_board.proofs.OnLoan.{user-there, loan-there, user-few, loan-few}
+use Rattle.plain_board.proofs.{AppFrames.{here-of, others-then, side-then}, TokensLie.{spare-within}, OnLoan.{user-there, loan-there, user-few, loan-few}}
 use Rattle.plain_board.proofs.OwnLending.{IsSound-lent_own, own-there, own-filled}
 use Rattle.plain_board.proofs.contents.Contents.lend_own.Goals as goal
 

@@ -1,6 +1,5 @@
 -- What the application's diary says once a spare was lent.
-use Rattle.board_face.specs.Sides.{app_at, side_in}
-use Rattle.board_face.specs.AppEvents.{lent_own}
+use Rattle.board_face.specs.{Sides.{app_at, side_in}, AppEvents.{lent_own}}
 use Rattle.plain_board.proofs.contents.Contents.lend_own.Given as goal
 
 abbrev pub ghosts-note_at : goal.ghosts-note_at

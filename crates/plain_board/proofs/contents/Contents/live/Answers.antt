@@ -1,11 +1,7 @@
 -- The count of loans says whether one is out, and a buffer behind the area has none.
-use Rattle.std.proofs.Common.{◌∙◌, ◌<◌, arith}
-use Rattle.std.proofs.lemmas.Bool.{le-ltb}
+use Rattle.std.proofs.{Common.{◌∙◌, ◌<◌, arith}, lemmas.{Bool.{le-ltb}, List.{get_or_read}}}
 use Rattle.area_layout.specs.Layout.{total}
-use Rattle.std.proofs.lemmas.List.{get_or_read}
-use Rattle.plain_board.proofs.AppFrames.{here-of}
-use Rattle.plain_board.proofs.TokensLie.{live-if, live-none}
-use Rattle.plain_board.proofs.Users.{loans-there}
+use Rattle.plain_board.proofs.{AppFrames.{here-of}, TokensLie.{live-if, live-none}, Users.{loans-there}}
 use Rattle.plain_board.proofs.contents.Contents.live.Goals as goal
 
 pub returns-then-buffer-total : goal.returns-then-buffer-total

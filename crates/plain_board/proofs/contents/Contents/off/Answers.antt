@@ -1,7 +1,6 @@
 -- A held piece and a loan lie in a buffer of the area.
 use Rattle.std.proofs.Common.{⊎_elim}
-use Rattle.plain_board.proofs.AppFrames.{here-of}
-use Rattle.plain_board.proofs.TokensLie.{held-lies, loan-lies}
+use Rattle.plain_board.proofs.{AppFrames.{here-of}, TokensLie.{held-lies, loan-lies}}
 use Rattle.plain_board.proofs.contents.Contents.off.Goals as goal
 
 pub off_of-requires : goal.off_of-requires

@@ -1,6 +1,5 @@
 -- The card's diary says then that it placed the text.
-use Rattle.board_face.specs.Sides.{nic_at}
-use Rattle.board_face.specs.NicEvents.{placed}
+use Rattle.board_face.specs.{Sides.{nic_at}, NicEvents.{placed}}
 use Rattle.plain_board.proofs.contents.Contents.place.Given as goal
 
 abbrev pub ghosts-note : goal.ghosts-note

@@ -1,12 +1,9 @@
 -- The front of the application's ring is the next note on its way.
 use Rattle.std.proofs.Common.{◌∙◌, refl, sym}
-use Rattle.plain_board.proofs.AppFrames.{here-of, others-then, side-then}
-use Rattle.plain_board.proofs.Popping.{rings-same}
+use Rattle.plain_board.proofs.{AppFrames.{here-of, others-then, side-then}, Popping.{rings-same}}
 use Rattle.plain_board.proofs.Polling.{IsSound-no_note, told-no_note, ToldEnd-told, AppOnlySaw-none, IsSound-took_note, IsSound-took_linear, TookNote-took}
-use Rattle.plain_board.proofs.Polling.{TookLinear-took}
-use Rattle.plain_board.proofs.NotNow.{untold}
+use Rattle.plain_board.proofs.{Polling.{TookLinear-took}, NotNow.{untold}, contents.Contents.poll.Goals.{then-ended, else-ended}}
 use Rattle.plain_board.proofs.contents.Contents.poll.Goals as goal
-use Rattle.plain_board.proofs.contents.Contents.poll.Goals.{then-ended, else-ended}
 use Rattle.zr_kinds.proofs.Lists.{front-none, front-some}
 
 -- no note is there

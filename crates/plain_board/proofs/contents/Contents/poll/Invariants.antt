@@ -1,7 +1,6 @@
 -- What the application's diary says by the answer.
 use Rattle.std.specs.Prelude.{take}
-use Rattle.board_face.specs.Sides.{app_at, side_in}
-use Rattle.board_face.specs.AppEvents.{took_note, took_linear}
+use Rattle.board_face.specs.{Sides.{app_at, side_in}, AppEvents.{took_note, took_linear}}
 use Rattle.plain_board.proofs.Polling.{ended_if}
 use Rattle.plain_board.proofs.contents.Contents.poll.Given as goal
 

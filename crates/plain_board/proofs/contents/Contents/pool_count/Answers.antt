@@ -1,6 +1,5 @@
 -- No buffer has many holders.
-use Rattle.std.proofs.Common.{◌<◌, length, arith}
-use Rattle.std.proofs.lemmas.List.{get_or_read}
+use Rattle.std.proofs.{Common.{◌<◌, length, arith}, lemmas.List.{get_or_read}}
 use Rattle.area_layout.specs.Layout.{total}
 use Rattle.plain_board.proofs.Counting.{holders-few}
 use Rattle.plain_board.proofs.contents.Contents.pool_count.Goals as goal

@@ -1,9 +1,7 @@
 -- Where the ring is full nothing moves. Else the entry is the last on its way.
 use Rattle.std.proofs.Common.{refl, arith}
 use Rattle.board_face.specs.declared.views.app.AppLook.TheVariants.{RefillInUse}
-use Rattle.plain_board.proofs.AppFrames.{here-of, others-then, side-then}
-use Rattle.plain_board.proofs.AppTold.{IsSound-looked}
-use Rattle.plain_board.proofs.Pushing.{IsSound-pushed, ring-length, ring-few, told-full}
+use Rattle.plain_board.proofs.{AppFrames.{here-of, others-then, side-then}, AppTold.{IsSound-looked}, Pushing.{IsSound-pushed, ring-length, ring-few, told-full}}
 use Rattle.plain_board.proofs.NotNow.{full-written}
 use Rattle.plain_board.proofs.contents.Contents.push_raw.Goals as goal
 

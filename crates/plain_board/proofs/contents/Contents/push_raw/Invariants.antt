@@ -1,7 +1,5 @@
 -- What the application's diary says by the answer.
-use Rattle.board_face.specs.Sides.{app_at, side_in}
-use Rattle.board_face.specs.AppEvents.{pushed_raw, app_saw}
-use Rattle.board_face.specs.declared.views.app.AppLook.TheVariants.{RefillInUse}
+use Rattle.board_face.specs.{Sides.{app_at, side_in}, AppEvents.{pushed_raw, app_saw}, declared.views.app.AppLook.TheVariants.{RefillInUse}}
 use Rattle.plain_board.proofs.contents.Contents.push_raw.Given as goal
 
 abbrev pub ghosts-note_at : goal.ghosts-note_at

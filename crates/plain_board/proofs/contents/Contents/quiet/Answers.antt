@@ -1,9 +1,6 @@
 -- It is quiet where no entry lies in the application's refill slots.
-use Rattle.std.proofs.Common.{refl, ap, sym, ◌∙◌}
-use Rattle.std.specs.Prelude.{◌==◌}
-use Rattle.plain_board.proofs.AppFrames.{here-of, others-then, side-then}
-use Rattle.plain_board.proofs.Quieting.{IsSound-quiet, told-quiet}
-use Rattle.plain_board.proofs.NotNow.{some-written}
+use Rattle.std.{proofs.Common.{refl, ap, sym, ◌∙◌}, specs.Prelude.{◌==◌}}
+use Rattle.plain_board.proofs.{AppFrames.{here-of, others-then, side-then}, Quieting.{IsSound-quiet, told-quiet}, NotNow.{some-written}}
 use Rattle.plain_board.proofs.contents.Contents.quiet.Goals as goal
 
 pub invariant_of-self : goal.invariant_of-self

@@ -1,8 +1,6 @@
 -- What the application's diary says by the answer.
 use Rattle.std.specs.Prelude.{if◌then◌else◌}
-use Rattle.board_face.specs.Sides.{app_at, side_in}
-use Rattle.board_face.specs.AppEvents.{fell_quiet, app_saw}
-use Rattle.board_face.specs.declared.views.app.AppLook.TheVariants.{NotQuiet}
+use Rattle.board_face.specs.{Sides.{app_at, side_in}, AppEvents.{fell_quiet, app_saw}, declared.views.app.AppLook.TheVariants.{NotQuiet}}
 use Rattle.plain_board.proofs.contents.Contents.quiet.Given as goal
 
 abbrev pub ghosts-note_at : goal.ghosts-note_at

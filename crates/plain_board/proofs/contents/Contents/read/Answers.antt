@@ -1,7 +1,6 @@
 -- What the area has at the loan's place is the loan's text.
 use Rattle.std.proofs.Common.{refl, length}
-use Rattle.plain_board.proofs.AppFrames.{here-of, others-then, side-then}
-use Rattle.plain_board.proofs.Reading.{IsSound-read, bytes-there, shows-copy, lies}
+use Rattle.plain_board.proofs.{AppFrames.{here-of, others-then, side-then}, Reading.{IsSound-read, bytes-there, shows-copy, lies}}
 use Rattle.plain_board.proofs.contents.Contents.read.Goals as goal
 
 pub byte_of-requires : goal.byte_of-requires

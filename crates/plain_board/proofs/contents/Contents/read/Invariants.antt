@@ -1,6 +1,5 @@
 -- What the application's diary says once bytes were read.
-use Rattle.board_face.specs.Sides.{app_at, side_in}
-use Rattle.board_face.specs.AppEvents.{has_read}
+use Rattle.board_face.specs.{Sides.{app_at, side_in}, AppEvents.{has_read}}
 use Rattle.plain_board.proofs.contents.Contents.read.Given as goal
 
 abbrev pub ghosts-note_at : goal.ghosts-note_at

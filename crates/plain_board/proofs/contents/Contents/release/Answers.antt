@@ -1,8 +1,6 @@
 -- A held piece's buffer has a holder, so its count can be lowered.
 use Rattle.std.proofs.Common.{refl, arith}
-use Rattle.plain_board.proofs.AppFrames.{here-of, others-then, side-then}
-use Rattle.plain_board.proofs.HeldPieces.{there-pool, held-count, is_held}
-use Rattle.plain_board.proofs.Releasing.{IsSound-released}
+use Rattle.plain_board.proofs.{AppFrames.{here-of, others-then, side-then}, HeldPieces.{there-pool, held-count, is_held}, Releasing.{IsSound-released}}
 use Rattle.plain_board.proofs.contents.Contents.release.Goals as goal
 
 pub lower-left-requires-clause-there : goal.lower-left-requires-clause-there

@@ -1,6 +1,5 @@
 -- The application's diary says then that it gave the piece up.
-use Rattle.board_face.specs.Sides.{app_at, side_in}
-use Rattle.board_face.specs.AppEvents.{released}
+use Rattle.board_face.specs.{Sides.{app_at, side_in}, AppEvents.{released}}
 use Rattle.plain_board.proofs.contents.Contents.release.Given as goal
 
 abbrev pub ghosts-note_at : goal.ghosts-note_at

@@ -1,6 +1,5 @@
 -- The user counts of the application are what it owes, of which each carries a reference.
-use Rattle.plain_board.proofs.AppFrames.{here-of, others-then, side-then}
-use Rattle.plain_board.proofs.Scrubbing.{few-users, IsSound-scrubbed, takes-all}
+use Rattle.plain_board.proofs.{AppFrames.{here-of, others-then, side-then}, Scrubbing.{few-users, IsSound-scrubbed, takes-all}}
 use Rattle.plain_board.proofs.contents.Contents.scrub.Goals as goal
 
 pub take_back-requires-clause-few : goal.take_back-requires-clause-few

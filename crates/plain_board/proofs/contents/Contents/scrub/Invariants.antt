@@ -1,6 +1,5 @@
 -- The application's diary says what the scrub takes of each buffer.
-use Rattle.board_face.proofs.AppLemmas.{scrubbed_side}
-use Rattle.board_face.specs.Sides.{side_in}
+use Rattle.board_face.{proofs.AppLemmas.{scrubbed_side}, specs.Sides.{side_in}}
 use Rattle.plain_board.proofs.Scrubbing.{took_of}
 use Rattle.plain_board.proofs.contents.Contents.scrub.Given as goal
 

@@ -1,12 +1,7 @@
 -- Where the ring is full nothing moves. Else the note is the last on its way, and its piece only changes its kind.
 use Rattle.std.proofs.Common.{arith, refl}
 use Rattle.board_face.specs.declared.views.nic.NicLook.TheVariants.{NoteInUse}
-use Rattle.plain_board.proofs.AppFrames.{here-of}
-use Rattle.plain_board.proofs.Card.{within-setting}
-use Rattle.plain_board.proofs.Still.{IsSound-saw}
-use Rattle.plain_board.proofs.NotesSent.{IsSound-sent}
-use Rattle.plain_board.proofs.Seeing.{NicTold-full}
-use Rattle.plain_board.proofs.NotNow.{full-sent}
+use Rattle.plain_board.proofs.{AppFrames.{here-of}, Card.{within-setting}, Still.{IsSound-saw}, NotesSent.{IsSound-sent}, Seeing.{NicTold-full}, NotNow.{full-sent}}
 use Rattle.plain_board.proofs.contents.Contents.send.Goals as goal
 
 pub invariant_of-self : goal.invariant_of-self

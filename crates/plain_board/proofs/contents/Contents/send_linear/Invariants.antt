@@ -1,7 +1,5 @@
 -- What the card's diary says by the answer.
-use Rattle.board_face.specs.Sides.{nic_at}
-use Rattle.board_face.specs.NicEvents.{nic_saw, sent_linear}
-use Rattle.board_face.specs.declared.views.nic.NicLook.TheVariants.{NoteInUse}
+use Rattle.board_face.specs.{Sides.{nic_at}, NicEvents.{nic_saw, sent_linear}, declared.views.nic.NicLook.TheVariants.{NoteInUse}}
 use Rattle.plain_board.proofs.contents.Contents.send_linear.Given as goal
 
 abbrev pub ghosts-note : goal.ghosts-note

@@ -1,10 +1,6 @@
 -- It is settled where the count of entries up to the last raw one is 0.
-use Rattle.std.proofs.Common.{ap, refl, sym, ◌∙◌}
-use Rattle.std.specs.Prelude.{◌==◌}
-use Rattle.std.proofs.lemmas.List.{get_or_read}
-use Rattle.plain_board.proofs.AppFrames.{here-of, others-then, side-then}
-use Rattle.plain_board.proofs.Settling.{IsSound-settled, told-settled, still-settled, there-raw}
-use Rattle.plain_board.proofs.NotNow.{raw-pushed}
+use Rattle.std.{proofs.{Common.{ap, refl, sym, ◌∙◌}, lemmas.List.{get_or_read}}, specs.Prelude.{◌==◌}}
+use Rattle.plain_board.proofs.{AppFrames.{here-of, others-then, side-then}, Settling.{IsSound-settled, told-settled, still-settled, there-raw}, NotNow.{raw-pushed}}
 use Rattle.plain_board.proofs.contents.Contents.settle.Goals as goal
 
 pub invariant_of-self : goal.invariant_of-self

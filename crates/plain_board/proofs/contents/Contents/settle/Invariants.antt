@@ -1,8 +1,6 @@
 -- What the application's diary says by the answer.
 use Rattle.std.specs.Prelude.{if◌then◌else◌}
-use Rattle.board_face.specs.Sides.{app_at, side_in}
-use Rattle.board_face.specs.AppEvents.{came_to_rest, app_saw}
-use Rattle.board_face.specs.declared.views.app.AppLook.TheVariants.{RawOnItsWay}
+use Rattle.board_face.specs.{Sides.{app_at, side_in}, AppEvents.{came_to_rest, app_saw}, declared.views.app.AppLook.TheVariants.{RawOnItsWay}}
 use Rattle.plain_board.proofs.contents.Contents.settle.Given as goal
 
 abbrev pub ghosts-note_at : goal.ghosts-note_at

@@ -1,8 +1,6 @@
 -- The buffer of a token has a holder, so its count can be lowered.
-use Rattle.std.proofs.Common.{ap, ◌∙◌, refl, arith}
-use Rattle.std.specs.Prelude.{◌==◌}
-use Rattle.plain_board.proofs.Shutting.{of_pool, is_held, came-zero, came-code, IsSound-shut}
-use Rattle.plain_board.proofs.Seeing.{NicTold-shut}
+use Rattle.std.{proofs.Common.{ap, ◌∙◌, refl, arith}, specs.Prelude.{◌==◌}}
+use Rattle.plain_board.proofs.{Shutting.{of_pool, is_held, came-zero, came-code, IsSound-shut}, Seeing.{NicTold-shut}}
 use Rattle.plain_board.proofs.contents.Contents.shut.Goals as goal
 
 pub lower-last-requires-clause-some : goal.lower-last-requires-clause-some

@@ -1,6 +1,5 @@
 -- The card's diary says then that it closed the buffer.
-use Rattle.board_face.specs.Sides.{nic_at}
-use Rattle.board_face.specs.NicEvents.{shut}
+use Rattle.board_face.specs.{Sides.{nic_at}, NicEvents.{shut}}
 use Rattle.plain_board.proofs.contents.Contents.shut.Given as goal
 
 abbrev pub ghosts-note : goal.ghosts-note

@@ -1,9 +1,7 @@
 -- The lowest listed buffer has no holder, and neither has the reserve where its count is 0.
 use Rattle.std.proofs.Common.{refl, arith}
-use Rattle.board_face.specs.declared.views.app.AppLook.TheVariants.{NoSpare}
-use Rattle.board_face.proofs.TokenLemmas.{FitsBuffer-fresh}
-use Rattle.plain_board.proofs.AppFrames.{here-of, others-then, side-then}
-use Rattle.plain_board.proofs.AppTold.{IsSound-looked}
+use Rattle.board_face.{specs.declared.views.app.AppLook.TheVariants.{NoSpare}, proofs.TokenLemmas.{FitsBuffer-fresh}}
+use Rattle.plain_board.proofs.{AppFrames.{here-of, others-then, side-then}, AppTold.{IsSound-looked}}
 use Rattle.plain_board.proofs.Sparing.{is_unheld, there-pool, none-count, IsSound-got_spare, GotSpare-got, told-got, told-none, AppOnlySaw-spare}
 use Rattle.plain_board.proofs.NotNow.{used-reserve, found-lowest}
 use Rattle.plain_board.proofs.contents.Contents.spare.Goals as goal

@@ -1,7 +1,5 @@
 -- The application's diary says then that it saw no spare, or was given one.
-use Rattle.board_face.specs.Sides.{app_at, side_in}
-use Rattle.board_face.specs.AppEvents.{app_saw, got_spare}
-use Rattle.board_face.specs.declared.views.app.AppLook.TheVariants.{NoSpare}
+use Rattle.board_face.specs.{Sides.{app_at, side_in}, AppEvents.{app_saw, got_spare}, declared.views.app.AppLook.TheVariants.{NoSpare}}
 use Rattle.plain_board.proofs.contents.Contents.spare.Given as goal
 
 abbrev pub ghosts-note_at : goal.ghosts-note_at

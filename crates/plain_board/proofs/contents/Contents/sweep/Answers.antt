@@ -1,8 +1,6 @@
 -- The listed buffers of the word come to be cached, and no buffer is lost that no spare was for.
-use Rattle.std.proofs.Common.{◌≡◌, ℕ, ◌++◌, List, drop, length, ap, sym, ◌∙◌, arith}
-use Rattle.std.proofs.Math.Seq.{drop-append_seam}
-use Rattle.plain_board.proofs.Sweeping.{IsSound-swept, SweptWord-swept}
-use Rattle.plain_board.proofs.Losing.{lost-bound}
+use Rattle.std.proofs.{Common.{◌≡◌, ℕ, ◌++◌, List, drop, length, ap, sym, ◌∙◌, arith}, Math.Seq.{drop-append_seam}}
+use Rattle.plain_board.proofs.{Sweeping.{IsSound-swept, SweptWord-swept}, Losing.{lost-bound}}
 use Rattle.plain_board.proofs.contents.Contents.sweep.Goals as goal
 
 seam : (cache cache' found now : List ℕ) → cache ≡ cache' → now ≡ cache ++ found → drop (length cache') now ≡ found

@@ -1,7 +1,6 @@
 -- The card's diary says then that it swept the word, and found what the cache has more.
 use Rattle.std.proofs.Common.{length, drop}
-use Rattle.board_face.specs.Sides.{nic_at}
-use Rattle.board_face.specs.NicEvents.{swept}
+use Rattle.board_face.specs.{Sides.{nic_at}, NicEvents.{swept}}
 use Rattle.plain_board.proofs.contents.Contents.sweep.Given as goal
 
 abbrev pub ghosts-note : goal.ghosts-note

@@ -1,6 +1,5 @@
 -- The card's diary says then that it took the buffer, or what it said before.
-use Rattle.board_face.specs.Sides.{nic_at}
-use Rattle.board_face.specs.NicEvents.{took}
+use Rattle.board_face.specs.{Sides.{nic_at}, NicEvents.{took}}
 use Rattle.plain_board.proofs.contents.Contents.take.Given as goal
 
 abbrev pub ghosts-note : goal.ghosts-note

@@ -1,9 +1,7 @@
 -- No application has many loans in a buffer.
-use Rattle.std.proofs.Common.{◌<◌, ◌∙◌, arith}
-use Rattle.std.proofs.lemmas.List.{get_or_read}
+use Rattle.std.proofs.{Common.{◌<◌, ◌∙◌, arith}, lemmas.List.{get_or_read}}
 use Rattle.area_layout.specs.Layout.{total}
-use Rattle.plain_board.proofs.Counting.{users-few}
-use Rattle.plain_board.proofs.Users.{users-there}
+use Rattle.plain_board.proofs.{Counting.{users-few}, Users.{users-there}}
 use Rattle.plain_board.proofs.contents.Contents.user_count.Goals as goal
 
 pub overflow_cast-result : goal.overflow_cast-result

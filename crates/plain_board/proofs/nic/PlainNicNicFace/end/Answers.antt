@@ -1,7 +1,6 @@
 -- No event tells of it.
 use Rattle.event_log.proofs.CardLaws.{card-unlogged}
-use Rattle.plain_board.specs.Stand.{sides_of}
-use Rattle.plain_board.proofs.Logging.{card-keeps}
+use Rattle.plain_board.{specs.Stand.{sides_of}, proofs.Logging.{card-keeps}}
 use Rattle.plain_board.proofs.nic.PlainNicNicFace.end.Goals as goal
 
 pub invariant_of-self : goal.invariant_of-self

@@ -1,14 +1,9 @@
 -- A return is logged with the counts that it leaves, a stray as one, and that nothing was there isn't.
 use Rattle.std.proofs.Common.{refl}
-use Rattle.board_face.specs.Laws.{pool_of, user_of}
-use Rattle.board_face.specs.NicEvents.{gave_up, honoured, passed_over, nic_saw}
-use Rattle.board_face.specs.declared.views.nic.NicLook.TheVariants.{RingEmpty}
+use Rattle.board_face.specs.{Laws.{pool_of, user_of}, NicEvents.{gave_up, honoured, passed_over, nic_saw}, declared.views.nic.NicLook.TheVariants.{RingEmpty}}
 use Rattle.run_records.specs.declared.event.Event.TheVariants as event
 use Rattle.event_log.proofs.CardLaws.{honoured-law, passed_over-law, card-unlogged}
-use Rattle.plain_board.specs.Stand.{sides_of}
-use Rattle.plain_board.proofs.Logging.{sides-sound, nic-by, only-looked, card-logs, card-keeps}
-use Rattle.plain_board.proofs.AppFrames.{here-of}
-use Rattle.plain_board.proofs.Card.{within-setting}
+use Rattle.plain_board.{specs.Stand.{sides_of}, proofs.{Logging.{sides-sound, nic-by, only-looked, card-logs, card-keeps}, AppFrames.{here-of}, Card.{within-setting}}}
 use Rattle.plain_board.proofs.nic.PlainNicNicFace.entry.Goals as goal
 
 pub invariant_of-self : goal.invariant_of-self

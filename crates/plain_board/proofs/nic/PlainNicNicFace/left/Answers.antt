@@ -1,8 +1,7 @@
 -- No event tells of it.
 use Rattle.event_log.proofs.CardLaws.{card-unlogged}
 use Rattle.board_face.specs.declared.views.nic.NicLook.TheVariants.{NotLeft}
-use Rattle.plain_board.specs.Stand.{sides_of}
-use Rattle.plain_board.proofs.Logging.{by-answer, card-keeps}
+use Rattle.plain_board.{specs.Stand.{sides_of}, proofs.Logging.{by-answer, card-keeps}}
 use Rattle.plain_board.proofs.nic.PlainNicNicFace.left.Goals as goal
 
 pub invariant_of-self : goal.invariant_of-self

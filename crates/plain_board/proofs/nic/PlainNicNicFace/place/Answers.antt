@@ -1,11 +1,9 @@
 -- It is logged with the count that its buffer has then.
 use Rattle.std.proofs.Common.{refl, length}
-use Rattle.board_face.specs.Laws.{pool_of}
-use Rattle.board_face.specs.NicEvents.{placed}
+use Rattle.board_face.specs.{Laws.{pool_of}, NicEvents.{placed}}
 use Rattle.run_records.specs.declared.event.Event.TheVariants as event
 use Rattle.event_log.proofs.CardLaws.{placed-law}
-use Rattle.plain_board.specs.Stand.{sides_of}
-use Rattle.plain_board.proofs.Logging.{sides-sound, card-logs}
+use Rattle.plain_board.{specs.Stand.{sides_of}, proofs.Logging.{sides-sound, card-logs}}
 use Rattle.plain_board.proofs.nic.PlainNicNicFace.place.Goals as goal
 
 pub invariant_of-self : goal.invariant_of-self

@@ -3,10 +3,7 @@ use Rattle.std.proofs.Common.{refl}
 use Rattle.board_face.specs.NicEvents.{sent}
 use Rattle.run_records.specs.declared.event.Event.TheVariants as event
 use Rattle.event_log.proofs.CardLaws.{sent-law}
-use Rattle.plain_board.specs.Stand.{sides_of}
-use Rattle.plain_board.proofs.Logging.{sides-sound, card-logs}
-use Rattle.plain_board.proofs.AppFrames.{here-of}
-use Rattle.plain_board.proofs.Card.{within-setting}
+use Rattle.plain_board.{specs.Stand.{sides_of}, proofs.{Logging.{sides-sound, card-logs}, AppFrames.{here-of}, Card.{within-setting}}}
 use Rattle.plain_board.proofs.nic.PlainNicNicFace.send.Goals as goal
 
 pub invariant_of-self-2 : goal.invariant_of-self-2

@@ -1,10 +1,7 @@
 -- No event tells of it.
 use Rattle.board_face.specs.declared.views.nic.NicLook.TheVariants.{NoteInUse}
 use Rattle.event_log.proofs.CardLaws.{card-unlogged}
-use Rattle.plain_board.specs.Stand.{sides_of}
-use Rattle.plain_board.proofs.Logging.{sides-sound, by-answer, card-keeps}
-use Rattle.plain_board.proofs.AppFrames.{here-of}
-use Rattle.plain_board.proofs.Card.{within-setting}
+use Rattle.plain_board.{specs.Stand.{sides_of}, proofs.{Logging.{sides-sound, by-answer, card-keeps}, AppFrames.{here-of}, Card.{within-setting}}}
 use Rattle.plain_board.proofs.nic.PlainNicNicFace.send_linear.Goals as goal
 
 pub invariant_of-self : goal.invariant_of-self

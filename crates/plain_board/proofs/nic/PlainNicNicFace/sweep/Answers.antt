@@ -2,8 +2,7 @@
 use Rattle.std.proofs.Common.{refl}
 use Rattle.board_face.specs.NicEvents.{swept}
 use Rattle.event_log.proofs.CardLaws.{card-unlogged}
-use Rattle.plain_board.specs.Stand.{sides_of}
-use Rattle.plain_board.proofs.Logging.{nic-by, card-keeps}
+use Rattle.plain_board.{specs.Stand.{sides_of}, proofs.Logging.{nic-by, card-keeps}}
 use Rattle.plain_board.proofs.nic.PlainNicNicFace.sweep.Goals as goal
 
 pub invariant_of-self : goal.invariant_of-self

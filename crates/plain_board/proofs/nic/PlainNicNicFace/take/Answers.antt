@@ -1,11 +1,9 @@
 -- It is logged with the count that its buffer has then.
 use Rattle.std.proofs.Common.{refl}
-use Rattle.board_face.specs.Laws.{pool_of}
-use Rattle.board_face.specs.NicEvents.{took}
+use Rattle.board_face.specs.{Laws.{pool_of}, NicEvents.{took}}
 use Rattle.run_records.specs.declared.event.Event.TheVariants as event
 use Rattle.event_log.proofs.CardLaws.{took-law}
-use Rattle.plain_board.specs.Stand.{sides_of}
-use Rattle.plain_board.proofs.Logging.{sides-sound, nic-by, card-logs}
+use Rattle.plain_board.{specs.Stand.{sides_of}, proofs.Logging.{sides-sound, nic-by, card-logs}}
 use Rattle.plain_board.proofs.nic.PlainNicNicFace.take.Goals as goal
 
 pub invariant_of-self-2 : goal.invariant_of-self-2

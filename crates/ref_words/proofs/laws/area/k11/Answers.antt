@@ -1,8 +1,6 @@
-use Rattle.std.proofs.Common.{refl, arith}
+use Rattle.std.proofs.Common.{refl, arith, length, ◌++◌, ◌∷◌, []}
 use Rattle.ref_words.specs.AreaSteps.{made_words, one_word_more}
-use Rattle.board_face.specs.AppEvents.{begin_place}
-use Rattle.board_face.specs.Tokens.{next_place}
-use Rattle.std.proofs.Common.{length, ◌++◌, ◌∷◌, []}
+use Rattle.board_face.specs.{AppEvents.{begin_place}, Tokens.{next_place}}
 use Rattle.ref_words.proofs.AreaApp as theirs
 use Rattle.ref_words.proofs.AreaCard as card
 use Rattle.ref_words.proofs.AreaStoring as texts

@@ -1,12 +1,7 @@
 use Rattle.std.proofs.Common.{refl, sym, subst, ◌+◌, ◌%◌, ◌++◌, length, set}
-use Rattle.board_face.specs.AppCalls.{ShowsCopy}
-use Rattle.board_face.specs.AppEvents.{loan_origin, reads_with}
-use Rattle.board_face.specs.Texts.{further}
-use Rattle.ref_words.specs.AreaLaws.{part_of}
-use Rattle.ref_words.specs.AreaSteps.{side_loaded}
-use Rattle.ref_words.specs.Rule.{BoardRule}
+use Rattle.board_face.specs.{AppCalls.{ShowsCopy}, AppEvents.{loan_origin, reads_with}, Texts.{further}}
+use Rattle.ref_words.{specs.{AreaLaws.{part_of}, AreaSteps.{side_loaded}, Rule.{BoardRule}}, proofs.SlotSteps.{no-word}}
 use Rattle.ref_words.proofs.AreaApp as theirs
-use Rattle.ref_words.proofs.SlotSteps.{no-word}
 use Rattle.ref_words.proofs.PhasesByArea as phased
 use Rattle.ref_words.proofs.TextsRead as read
 use Rattle.ref_words.proofs.laws.area.k12.Goals as goal

@@ -1,5 +1,4 @@
-use Rattle.std.proofs.Common.{refl}
-use Rattle.std.specs.Prelude.{◌/◌}
+use Rattle.std.{proofs.Common.{refl}, specs.Prelude.{◌/◌}}
 use Rattle.board_face.specs.NicEvents.{word_bits}
 use Rattle.ref_words.specs.Words.{listed_in}
 use Rattle.ref_words.proofs.PhasesByFree as phased

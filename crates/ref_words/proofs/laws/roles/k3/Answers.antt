@@ -1,7 +1,5 @@
 use Rattle.std.proofs.Common.{arith, ◌+◌, ◌<◌, refl, length}
-use Rattle.ref_words.specs.Seated.{due_view}
-use Rattle.ref_words.proofs.Roles.{card-enters, app-enters, role-taken}
-use Rattle.ref_words.proofs.Seating.{due-untaken}
+use Rattle.ref_words.{specs.Seated.{due_view}, proofs.{Roles.{card-enters, app-enters, role-taken}, Seating.{due-untaken}}}
 use Rattle.ref_words.proofs.laws.roles.k3.Goals as goal
 
 pub returns : goal.returns

@@ -1,6 +1,4 @@
-use Rattle.ref_words.proofs.Opening.{seated, rule}
-use Rattle.ref_words.proofs.PhasesOpened.{opened-phases}
-use Rattle.ref_words.proofs.TextsOpened.{texts}
+use Rattle.ref_words.proofs.{Opening.{seated, rule}, PhasesOpened.{opened-phases}, TextsOpened.{texts}}
 use Rattle.ref_words.proofs.laws.roles.opened.Goals as goal
 
 pub returns : goal.returns

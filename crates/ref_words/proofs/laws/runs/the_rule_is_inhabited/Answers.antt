@@ -1,8 +1,6 @@
 use Rattle.std.proofs.Common.{◌≡◌, ◌∷◌, [], refl, arith}
-use Rattle.area_layout.specs.Layout.{IsLayout}
-use Rattle.area_layout.proofs.Making.{made}
-use Rattle.ref_words.specs.Runs.{MayRun, opened_state}
-use Rattle.ref_words.specs.Middle.{small, steps}
+use Rattle.area_layout.{specs.Layout.{IsLayout}, proofs.Making.{made}}
+use Rattle.ref_words.specs.{Runs.{MayRun, opened_state}, Middle.{small, steps}}
 use Rattle.ref_words.proofs.laws.runs.the_rule_is_inhabited.Goals as goal
 
 layout : IsLayout small.layout

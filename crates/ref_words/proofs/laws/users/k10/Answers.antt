@@ -1,9 +1,7 @@
-use Rattle.ref_words.proofs.UserSteps.{RefRule-user}
+use Rattle.ref_words.{proofs.{UserSteps.{RefRule-user}, SideSteps.{mine}}, specs.Sides.{HasScrubLists}}
 use Rattle.ref_words.proofs.ScrubTaking as scrub
 use Rattle.ref_words.proofs.PhasesByApp as taken
 use Rattle.ref_words.proofs.TextsByApp as theirs
-use Rattle.ref_words.proofs.SideSteps.{mine}
-use Rattle.ref_words.specs.Sides.{HasScrubLists}
 use Rattle.std.proofs.Common.{arith}
 use Rattle.ref_words.proofs.laws.users.k10.Goals as goal
 

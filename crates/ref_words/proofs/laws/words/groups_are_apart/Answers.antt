@@ -1,7 +1,5 @@
-use Rattle.std.proofs.Common.{◌≡◌, ⊎_elim, arith, ap}
-use Rattle.std.proofs.lemmas.Bool.{cases_lt}
-use Rattle.ref_words.specs.Words.{group_sizes, begins}
-use Rattle.ref_words.proofs.Laying.{begins-apart}
+use Rattle.std.proofs.{Common.{◌≡◌, ⊎_elim, arith, ap}, lemmas.Bool.{cases_lt}}
+use Rattle.ref_words.{specs.Words.{group_sizes, begins}, proofs.Laying.{begins-apart}}
 use Rattle.ref_words.proofs.laws.words.groups_are_apart.Goals as goal
 
 pub returns : goal.returns

@@ -1,8 +1,7 @@
 use Rattle.std.proofs.Common.{◌+◌, ◌<◌, ◌/◌, ap, subst, arith}
 use Rattle.area_layout.specs.Layout.{area_words}
 use Rattle.board_face.specs.declared.views.parts.Setting.{Setting}
-use Rattle.ref_words.specs.Words.{IsMap}
-use Rattle.ref_words.proofs.AreaWords.{within-area}
+use Rattle.ref_words.{specs.Words.{IsMap}, proofs.AreaWords.{within-area}}
 use Rattle.ref_words.proofs.word_map.WordMap.text.Goals as goal
 
 module _ (c : goal.After-from) where

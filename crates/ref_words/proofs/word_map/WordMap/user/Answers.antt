@@ -1,9 +1,7 @@
 use Rattle.std.proofs.Common.{◌+◌, ◌*◌, ◌<◌, ap, sym, subst, arith}
 use Rattle.area_layout.specs.Layout.{total}
-use Rattle.board_face.specs.NicCalls.{apps_of}
-use Rattle.board_face.specs.declared.views.parts.Setting.{Setting}
-use Rattle.ref_words.specs.Words.{table_words}
-use Rattle.ref_words.proofs.Laying.{row-bound}
+use Rattle.board_face.specs.{NicCalls.{apps_of}, declared.views.parts.Setting.{Setting}}
+use Rattle.ref_words.{specs.Words.{table_words}, proofs.Laying.{row-bound}}
 use Rattle.ref_words.proofs.word_map.WordMap.user.Goals as goal
 
 pub returns-clause-within : goal.returns-clause-within

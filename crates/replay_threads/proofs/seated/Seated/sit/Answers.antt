@@ -1,8 +1,6 @@
 -- It has taken no turn.
 use Rattle.std.proofs.Common.{subst}
-use Rattle.replay_threads.specs.declared.seated.Turning.{Turning}
-use Rattle.replay_threads.specs.Seated.{IsStart}
-use Rattle.replay_threads.proofs.Beginnings.{turning-begins}
+use Rattle.replay_threads.{specs.{declared.seated.Turning.{Turning}, Seated.{IsStart}}, proofs.Beginnings.{turning-begins}}
 use Rattle.replay_threads.proofs.seated.Seated.sit.Goals as goal
 
 pub returns-in-Turning-clause-begins : goal.returns-in-Turning-clause-begins

@@ -1,10 +1,8 @@
-use Rattle.std.proofs.Common.{◌≡◌, [], ◌∷◌, ◌∙◌, true, sym, arith}
-use Rattle.std.specs.List.{list_any}
+use Rattle.std.{proofs.Common.{◌≡◌, [], ◌∷◌, ◌∙◌, true, sym, arith}, specs.List.{list_any}}
 use Rattle.run_records.specs.declared.holding.Holding.TheVariants as holding
 use Rattle.run_records.specs.Holders.{is_same}
 use Rattle.run_check.specs.declared.places.Hand.TheVariants as hand
-use Rattle.run_check.specs.Places.{all_placed}
-use Rattle.run_check.proofs.Changing.{by_flag, given_back, none_there_then, not_changed, owed_fits}
+use Rattle.run_check.{specs.Places.{all_placed}, proofs.Changing.{by_flag, given_back, none_there_then, not_changed, owed_fits}}
 use Rattle.run_check.proofs.buffer.Buffer.back.Goals as goal
 
 pub overflow_add-self : goal.overflow_add-self

@@ -1,11 +1,8 @@
-use Rattle.std.proofs.Common.{◌≡◌, ◌∙◌, ◌+◌, ◌-◌, ◌<◌, [], ◌∷◌, true, sym, arith}
-use Rattle.std.specs.List.{list_any}
-use Rattle.std.proofs.lemmas.Bool.{lt-ltb}
+use Rattle.std.{proofs.{Common.{◌≡◌, ◌∙◌, ◌+◌, ◌-◌, ◌<◌, [], ◌∷◌, true, sym, arith}, lemmas.Bool.{lt-ltb}}, specs.List.{list_any}}
 use Rattle.run_records.specs.declared.holding.Holding.TheVariants as holding
 use Rattle.run_records.specs.Holders.{is_same}
 use Rattle.run_check.specs.declared.places.Hand.TheVariants as hand
-use Rattle.run_check.specs.Places.{all_placed}
-use Rattle.run_check.proofs.Changing.{by_flag, none_there_then, not_changed, shortened, were_cut}
+use Rattle.run_check.{specs.Places.{all_placed}, proofs.Changing.{by_flag, none_there_then, not_changed, shortened, were_cut}}
 use Rattle.run_check.proofs.buffer.Buffer.cut.Goals as goal
 
 pub invariant_of-self-in_err-insert-2 : goal.invariant_of-self-in_err-insert-2

@@ -1,10 +1,8 @@
-use Rattle.std.proofs.Common.{◌≡◌, [], ◌∙◌, true, sym}
-use Rattle.std.specs.List.{list_any}
+use Rattle.std.{proofs.Common.{◌≡◌, [], ◌∙◌, true, sym}, specs.List.{list_any}}
 use Rattle.run_records.specs.declared.holding.Holding.TheVariants as holding
 use Rattle.run_records.specs.Holders.{is_same}
 use Rattle.run_check.specs.declared.places.Hand.TheVariants as hand
-use Rattle.run_check.specs.Places.{all_placed}
-use Rattle.run_check.proofs.Changing.{by_flag, freed, none_there_then, not_changed}
+use Rattle.run_check.{specs.Places.{all_placed}, proofs.Changing.{by_flag, freed, none_there_then, not_changed}}
 use Rattle.run_check.proofs.buffer.Buffer.free.Goals as goal
 
 pub invariant_of-self : goal.invariant_of-self

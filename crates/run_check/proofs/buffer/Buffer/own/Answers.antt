@@ -1,10 +1,7 @@
-use Rattle.std.proofs.Common.{◌≡◌, ◌∙◌, ◌<◌, [], ◌∷◌, true, sym, arith}
-use Rattle.std.specs.List.{list_any}
-use Rattle.std.proofs.lemmas.Bool.{lt-ltb}
+use Rattle.std.{proofs.{Common.{◌≡◌, ◌∙◌, ◌<◌, [], ◌∷◌, true, sym, arith}, lemmas.Bool.{lt-ltb}}, specs.List.{list_any}}
 use Rattle.run_records.specs.declared.holding.Holding.TheVariants as holding
 use Rattle.run_records.specs.Holders.{is_same}
-use Rattle.run_check.specs.Buffer.{kept_by}
-use Rattle.run_check.proofs.Changing.{by_flag, not_changed, own_lent, spare_there}
+use Rattle.run_check.{specs.Buffer.{kept_by}, proofs.Changing.{by_flag, not_changed, own_lent, spare_there}}
 use Rattle.run_check.proofs.buffer.Buffer.own.Goals as goal
 
 pub invariant_of-self-then-is_spare : goal.invariant_of-self-then-is_spare

@@ -1,9 +1,7 @@
-use Rattle.std.proofs.Common.{◌≡◌, [], ◌∙◌, true, sym}
-use Rattle.std.specs.List.{list_any}
+use Rattle.std.{proofs.Common.{◌≡◌, [], ◌∙◌, true, sym}, specs.List.{list_any}}
 use Rattle.run_records.specs.declared.holding.Holding.TheVariants as holding
 use Rattle.run_records.specs.Holders.{is_same}
-use Rattle.run_check.specs.Buffer.{kept_by}
-use Rattle.run_check.proofs.Changing.{by_flag, not_changed, own_there, shut_now}
+use Rattle.run_check.{specs.Buffer.{kept_by}, proofs.Changing.{by_flag, not_changed, own_there, shut_now}}
 use Rattle.run_check.proofs.buffer.Buffer.shut.Goals as goal
 
 pub returns-then-is_card : goal.returns-then-is_card

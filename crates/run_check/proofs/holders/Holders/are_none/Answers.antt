@@ -1,6 +1,4 @@
-use Rattle.std.proofs.Common.{◌≡◌, length, rules}
-use Rattle.std.proofs.lemmas.Bool.Decides.{nat_tests}
-use Rattle.std.proofs.lemmas.Iterator.{YieldsList-from_slice, cases_from_all}
+use Rattle.std.proofs.{Common.{◌≡◌, length, rules}, lemmas.{Bool.Decides.{nat_tests}, Iterator.{YieldsList-from_slice, cases_from_all}}}
 use Rattle.run_check.proofs.Events.{none_from_cases}
 use Rattle.run_check.proofs.holders.Holders.are_none.Goals as goal
 

@@ -1,8 +1,7 @@
 -- An event out of range, one of no buffer, one whose buffer isn't as it needs, and the others.
 use Rattle.std.proofs.Common.{◌≡◌, ◌<◌, ◌∙◌, sym, ap, refl, subst, Some, length, arith, true, false}
 use Rattle.run_records.specs.Holders.{buffer_of, changed, is_in_range}
-use Rattle.run_check.specs.Holding.{Changes, holdings_of}
-use Rattle.run_check.proofs.Events.{after_nowhere, after_out, after_unfit, buffer_below, finished, held_here, small_app}
+use Rattle.run_check.{specs.Holding.{Changes, holdings_of}, proofs.Events.{after_nowhere, after_out, after_unfit, buffer_below, finished, held_here, small_app}}
 use Rattle.run_check.proofs.holders.Holders.change.Goals as goal
 
 pub change-requires-clause-few : goal.change-requires-clause-few

@@ -1,7 +1,6 @@
 -- The source ended, or there were too many bytes.
 use Rattle.std.proofs.Common.{◌≡◌, subst, arith}
-use Rattle.run_check.specs.Coming.{ahead, GivesByte}
-use Rattle.run_check.proofs.Coming.{ended_within, too_long}
+use Rattle.run_check.{specs.Coming.{ahead, GivesByte}, proofs.Coming.{ended_within, too_long}}
 use Rattle.run_check.proofs.lines.Lines.read.Goals as goal
 
 pub returns-in-None-clause-reads : goal.returns-in-None-clause-reads

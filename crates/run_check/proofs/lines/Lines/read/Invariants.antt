@@ -1,7 +1,6 @@
 -- The bytes that were read so far are the begin of one line, and no read failed.
 use Rattle.std.proofs.Common.{◌≡◌}
-use Rattle.run_check.specs.Coming.{ahead}
-use Rattle.run_check.proofs.Coming.{HasReadPart}
+use Rattle.run_check.{specs.Coming.{ahead}, proofs.Coming.{HasReadPart}}
 use Rattle.run_check.proofs.lines.Lines.read.Given as goal
 
 abbrev pub invariant-loop : goal.invariant-loop

@@ -1,7 +1,5 @@
-use Rattle.std.proofs.Common.{refl}
-use Rattle.std.proofs.Output.{has_written_append, has_written_of_eq}
-use Rattle.run_report.specs.Report.{flow_line}
-use Rattle.run_report.proofs.Numbered.{numbered_more}
+use Rattle.std.proofs.{Common.{refl}, Output.{has_written_append, has_written_of_eq}}
+use Rattle.run_report.{specs.Report.{flow_line}, proofs.Numbered.{numbered_more}}
 use Rattle.run_report.proofs.lines.FlowLinesDisplay.fmt.Goals as goal
 
 pub loop-number-preserved : goal.loop-number-preserved

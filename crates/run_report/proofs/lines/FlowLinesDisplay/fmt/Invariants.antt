@@ -1,5 +1,4 @@
-use Rattle.std.proofs.Common.{take}
-use Rattle.std.specs.Fmt.{HasWritten, IsPlainFormatter}
+use Rattle.std.{proofs.Common.{take}, specs.Fmt.{HasWritten, IsPlainFormatter}}
 use Rattle.run_report.specs.Report.{flow_line, numbered}
 use Rattle.run_report.proofs.lines.FlowLinesDisplay.fmt.Given as goal
 

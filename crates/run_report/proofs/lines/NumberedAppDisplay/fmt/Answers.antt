@@ -1,5 +1,4 @@
-use Rattle.std.proofs.Common.{append_assoc, arith}
-use Rattle.std.proofs.lemmas.Grind.{common_steps}
+use Rattle.std.proofs.{Common.{append_assoc, arith}, lemmas.Grind.{common_steps}}
 use Rattle.run_report.specs.Report.{app_line}
 use Rattle.run_report.proofs.lines.NumberedAppDisplay.fmt.Goals as goal
 

@@ -1,7 +1,5 @@
-use Rattle.std.proofs.Common.{refl}
-use Rattle.std.proofs.Output.{has_written_append, has_written_of_eq}
-use Rattle.run_report.proofs.Numbered.{mapped_more}
-use Rattle.run_report.specs.Report.{refused_line}
+use Rattle.std.proofs.{Common.{refl}, Output.{has_written_append, has_written_of_eq}}
+use Rattle.run_report.{proofs.Numbered.{mapped_more}, specs.Report.{refused_line}}
 use Rattle.run_report.proofs.lines.RefusedLinesDisplay.fmt.Goals as goal
 
 pub loop-frame-preserved : goal.loop-frame-preserved

@@ -1,7 +1,5 @@
 use Rattle.std.proofs.Common.{◌^◌, ◌≤◌, arith}
-use Rattle.tcp_reorder.specs.Queue.{next_of}
-use Rattle.tcp_reorder.specs.Pieces.{queue_of}
-use Rattle.tcp_reorder.proofs.Sound.{next_of-low}
+use Rattle.tcp_reorder.{specs.{Queue.{next_of}, Pieces.{queue_of}}, proofs.Sound.{next_of-low}}
 use Rattle.tcp_reorder.proofs.queue.RecvQueue.accepts.Goals as goal
 
 pub overflow_add-result : goal.overflow_add-result

@@ -1,7 +1,5 @@
 use Rattle.std.proofs.Common.{◌≡◌, ℕ, List, [], ◌∷◌, Option, None, Some, refl, ap, ◌∙◌}
-use Rattle.tcp_reorder.specs.declared.piece.KeptPiece.{KeptPiece}
-use Rattle.tcp_reorder.specs.Queue.{Queue}
-use Rattle.tcp_reorder.specs.Pieces.{all_kept, with_first}
+use Rattle.tcp_reorder.specs.{declared.piece.KeptPiece.{KeptPiece}, Queue.{Queue}, Pieces.{all_kept, with_first}}
 use Rattle.tcp_reorder.proofs.queue.RecvQueue.destroy_empty.Goals as goal
 
 no_entries : {H : Type 0} (popped : ℕ) (first : Option (KeptPiece H)) (es : List (ℕ × KeptPiece H)) → all_kept (with_first popped first es) ≡ []

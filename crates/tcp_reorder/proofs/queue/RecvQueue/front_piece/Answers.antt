@@ -1,7 +1,5 @@
-use Rattle.std.proofs.Common.{rules, ◌≡◌, [], Some, None, refl, sym, ap, ◌∙◌}
-use Rattle.std.specs.Option.{option_map}
-use Rattle.tcp_reorder.specs.Queue.{Kept, front_of}
-use Rattle.tcp_reorder.specs.Pieces.{kept_of, all_kept, with_first, queue_of}
+use Rattle.std.{proofs.Common.{rules, ◌≡◌, [], Some, None, refl, sym, ap, ◌∙◌}, specs.Option.{option_map}}
+use Rattle.tcp_reorder.specs.{Queue.{Kept, front_of}, Pieces.{kept_of, all_kept, with_first, queue_of}}
 use Rattle.tcp_reorder.proofs.Sound.{first_entry, front_of-in_order, front_of-behind, first_in_order, first_behind, no_first}
 use Rattle.tcp_reorder.proofs.queue.RecvQueue.front_piece.Goals as goal
 use Rattle.zr_kinds.proofs.Lists.{front-none}

@@ -1,15 +1,9 @@
-use Rattle.std.proofs.Common.{◌≡◌, ℕ, ◌+◌, ◌^◌, ◌<◌, ◌≤◌, false, min, refl, sym, subst, ◌∙◌, arith}
-use Rattle.tcp_reorder.specs.Queue.{Queue, next_of}
-use Rattle.tcp_reorder.specs.Gaps.{origin, wants, IsFirstGap}
-use Rattle.tcp_reorder.specs.Pieces.{queue_of}
-use Rattle.tcp_reorder.specs.declared.places.Gap.{Gap}
-use Rattle.std.proofs.lemmas.Bool.{both_ways}
-use Rattle.tcp_reorder.proofs.Judging.{accepted}
-use Rattle.tcp_reorder.proofs.Sound.{next_of-low}
-use Rattle.tcp_reorder.proofs.Rest.{first_end, first_end-low, rest_kept, rest_apart, rest_within}
+use Rattle.std.proofs.{Common.{◌≡◌, ℕ, ◌+◌, ◌^◌, ◌<◌, ◌≤◌, false, min, refl, sym, subst, ◌∙◌, arith}, lemmas.Bool.{both_ways}}
+use Rattle.tcp_reorder.{specs.{Queue.{Queue, next_of}, Gaps.{origin, wants, IsFirstGap}, Pieces.{queue_of}, declared.places.Gap.{Gap}}, proofs.Judging.{accepted}}
+use Rattle.tcp_reorder.proofs.{Sound.{next_of-low}, Rest.{first_end, first_end-low, rest_kept, rest_apart, rest_within}}
 use Rattle.tcp_reorder.proofs.Gapping.{IsThereUntil, IsMissingUntil, there_until, origin-is, unwanted_until, missing_to_next, missing_to_limit, first_gap}
-use Rattle.tcp_reorder.proofs.queue.RecvQueue.gap.Goals as goal
 use Rattle.tcp_reorder.proofs.queue.RecvQueue.gap.Goals.{in-Some, in-None}
+use Rattle.tcp_reorder.proofs.queue.RecvQueue.gap.Goals as goal
 
 pub first_free-start-requires-clause-apart : goal.first_free-start-requires-clause-apart
 first_free-start-requires-clause-apart g c = rest_apart c.self.inside.popped c.self.inside.popped c.self.inside.first c.self.inside.pieces.entries c.self.invariant.0.apart

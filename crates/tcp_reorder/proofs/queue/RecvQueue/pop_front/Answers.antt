@@ -1,8 +1,5 @@
-use Rattle.std.proofs.Common.{◌≡◌, ◌+◌, None, sym, ap, ◌∙◌}
-use Rattle.std.proofs.lemmas.Bool.{both_ways}
-use Rattle.tcp_reorder.specs.Queue.{next_of}
-use Rattle.tcp_reorder.specs.Pieces.{kept_of, all_kept, queue_of}
-use Rattle.tcp_reorder.proofs.Sound.{IsAt, front_is_popped}
+use Rattle.std.proofs.{Common.{◌≡◌, ◌+◌, None, sym, ap, ◌∙◌}, lemmas.Bool.{both_ways}}
+use Rattle.tcp_reorder.{specs.{Queue.{next_of}, Pieces.{kept_of, all_kept, queue_of}}, proofs.Sound.{IsAt, front_is_popped}}
 use Rattle.tcp_reorder.proofs.queue.RecvQueue.pop_front.Given as given
 use Rattle.tcp_reorder.proofs.queue.RecvQueue.pop_front.Goals as goal
 

@@ -1,7 +1,5 @@
 use Rattle.std.proofs.Common.{◌≡◌, ◌^◌, ◌≤◌, max, ◌∷◌, ap, subst, arith}
-use Rattle.tcp_reorder.specs.Queue.{Kept, next_of, end_of, AreApart, EndWithin}
-use Rattle.tcp_reorder.specs.Pieces.{kept_of, all_kept, queue_of}
-use Rattle.tcp_reorder.proofs.Positions.{AreApart-lower}
+use Rattle.tcp_reorder.{specs.{Queue.{Kept, next_of, end_of, AreApart, EndWithin}, Pieces.{kept_of, all_kept, queue_of}}, proofs.Positions.{AreApart-lower}}
 use Rattle.tcp_reorder.proofs.Sound.{next_of-low, apart_from_0, pulled_is_at}
 use Rattle.tcp_reorder.proofs.queue.RecvQueue.pull.Goals as goal
 

@@ -1,8 +1,6 @@
 use Rattle.std.proofs.Common.{◌≡◌, ℕ, ◌^◌, ◌<◌, ◌≤◌, List, [], length, ◌∙◌, sym, subst, arith, refl, true}
-use Rattle.tcp_reorder.specs.Queue.{Kept, is_kept, next_of, with_kept, AreApart, EndWithin}
-use Rattle.tcp_reorder.specs.Pieces.{all_kept, with_first, queue_of}
-use Rattle.tcp_reorder.proofs.Positions.{EndWithin-with_kept}
-use Rattle.tcp_reorder.proofs.Sound.{no_entry, next_of-low, apart_with_kept, taken_is_at}
+use Rattle.tcp_reorder.specs.{Queue.{Kept, is_kept, next_of, with_kept, AreApart, EndWithin}, Pieces.{all_kept, with_first, queue_of}}
+use Rattle.tcp_reorder.proofs.{Positions.{EndWithin-with_kept}, Sound.{no_entry, next_of-low, apart_with_kept, taken_is_at}}
 use Rattle.tcp_reorder.proofs.Rest.{first_end, first_end-low, rest_kept, rest_apart, rest_within}
 use Rattle.tcp_reorder.proofs.Taking.{IsTake, queue, one, place_is, may, kept_then, nothing_there, alone}
 use Rattle.tcp_reorder.proofs.queue.RecvQueue.take.Goals as goal

@@ -1,13 +1,7 @@
 -- The application is over.
-use Rattle.std.proofs.Common.{◌≡◌, ◌∷◌, map, refl, ap, sym, ◌∙◌, subst}
-use Rattle.std.specs.Prelude.{is_none}
-use Rattle.std.proofs.lemmas.List.{append-nil}
-use Rattle.ref_words.specs.Over.{AppIsOver}
-use Rattle.ref_words.specs.Seated.{both_sides, app_view}
-use Rattle.ref_words.specs.declared.view.View.{View}
-use Rattle.word_board.specs.Board.{HasDealt, TheApp}
-use Rattle.word_board.specs.Desk.{AreOver, AreServed, cache_back}
-use Rattle.word_board.proofs.AtDesk.{HasDealt-both, AreOver-app}
+use Rattle.std.{proofs.{Common.{◌≡◌, ◌∷◌, map, refl, ap, sym, ◌∙◌, subst}, lemmas.List.{append-nil}}, specs.Prelude.{is_none}}
+use Rattle.ref_words.specs.{Over.{AppIsOver}, Seated.{both_sides, app_view}, declared.view.View.{View}}
+use Rattle.word_board.{specs.{Board.{HasDealt, TheApp}, Desk.{AreOver, AreServed, cache_back}}, proofs.AtDesk.{HasDealt-both, AreOver-app}}
 use Rattle.word_board.proofs.app_seat.AppSeat.back.Goals as goal
 
 pub look_served-requires-clause-over : goal.look_served-requires-clause-over

@@ -1,8 +1,7 @@
 -- The text has room in the spare's buffer, and its length is kept.
 use Rattle.std.proofs.Common.{rules, length, arith}
 use Rattle.zr_kinds.specs.declared.place.Place.{Place}
-use Rattle.board_face.specs.AppCalls.{HasSpare}
-use Rattle.board_face.specs.AppEvents.{begin_place}
+use Rattle.board_face.specs.{AppCalls.{HasSpare}, AppEvents.{begin_place}}
 use Rattle.word_board.proofs.SparesKept.{spare-room, text-lies, lengths-there, AppKeeps-filled}
 use Rattle.word_board.proofs.app_seat.AppSeatAppFace.fill.Goals as goal
 

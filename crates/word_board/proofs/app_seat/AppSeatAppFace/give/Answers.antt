@@ -1,11 +1,6 @@
 use Rattle.std.proofs.Common.{sym, ◌∙◌, ap, subst, refl}
-use Rattle.board_face.specs.AppCalls.{HasLoan}
-use Rattle.board_face.specs.declared.views.app.AppLook.TheVariants.{RefillInUse}
-use Rattle.board_face.specs.declared.views.parts.Setting.{Setting}
-use Rattle.word_board.specs.Board.{TheApp}
-use Rattle.word_board.proofs.AppKept.{loan-lies, loan-some, kept-saw, kept-gave}
-use Rattle.board_face.specs.NotNow.{HasWrittenRingful}
-use Rattle.word_board.proofs.Implied.{full-written}
+use Rattle.board_face.specs.{AppCalls.{HasLoan}, declared.views.{app.AppLook.TheVariants.{RefillInUse}, parts.Setting.{Setting}}, NotNow.{HasWrittenRingful}}
+use Rattle.word_board.{specs.Board.{TheApp}, proofs.{AppKept.{loan-lies, loan-some, kept-saw, kept-gave}, Implied.{full-written}}}
 use Rattle.word_board.proofs.app_seat.AppSeatAppFace.give.Goals as goal
 
 pub off_of-requires : goal.off_of-requires

@@ -1,10 +1,7 @@
 -- The length that is kept is that of the spare's text, and the loan is counted.
 use Rattle.std.proofs.Common.{rules, ◌≡◌, subst, length, arith}
-use Rattle.board_face.specs.AppCalls.{HasSpare}
-use Rattle.board_face.specs.AppEvents.{begin_place, own_bytes}
-use Rattle.board_face.specs.declared.views.parts.Filling.{Filling}
-use Rattle.word_board.specs.Board.{TheApp}
-use Rattle.word_board.proofs.SparesKept.{spare-within, loans-there, lengths-there, few-counted, place-own, AppKeeps-lent_own}
+use Rattle.board_face.specs.{AppCalls.{HasSpare}, AppEvents.{begin_place, own_bytes}, declared.views.parts.Filling.{Filling}}
+use Rattle.word_board.{specs.Board.{TheApp}, proofs.SparesKept.{spare-within, loans-there, lengths-there, few-counted, place-own, AppKeeps-lent_own}}
 use Rattle.word_board.proofs.app_seat.AppSeatAppFace.lend_own.Goals as goal
 
 pub index-len-requires : goal.index-len-requires

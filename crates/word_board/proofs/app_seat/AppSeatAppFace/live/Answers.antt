@@ -1,9 +1,7 @@
 -- The count that is kept of the buffer's loans tells whether one is out there.
-use Rattle.std.proofs.Common.{◌∙◌, ap, subst, length, get_or, false, arith}
-use Rattle.std.specs.Prelude.{◌↔◌, nat_lt, IsTrue}
+use Rattle.std.{proofs.Common.{◌∙◌, ap, subst, length, get_or, false, arith}, specs.Prelude.{◌↔◌, nat_lt, IsTrue}}
 use Rattle.board_face.specs.AppCalls.{IsLive}
-use Rattle.word_board.specs.Board.{TheApp}
-use Rattle.word_board.proofs.SparesKept.{live-tells, none-beyond}
+use Rattle.word_board.{specs.Board.{TheApp}, proofs.SparesKept.{live-tells, none-beyond}}
 use Rattle.word_board.proofs.app_seat.AppSeatAppFace.live.Goals as goal
 
 pub returns-in-Some : goal.returns-in-Some

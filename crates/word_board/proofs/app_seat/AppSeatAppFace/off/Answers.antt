@@ -1,5 +1,4 @@
-use Rattle.std.proofs.Common.{sym, subst}
-use Rattle.std.proofs.Common.{⊎_elim}
+use Rattle.std.proofs.Common.{sym, subst, ⊎_elim}
 use Rattle.board_face.specs.AppCalls.{HasPlace}
 use Rattle.word_board.proofs.AppKept.{held-lies, loan-lies}
 use Rattle.word_board.proofs.app_seat.AppSeatAppFace.off.Goals as goal

@@ -1,15 +1,7 @@
-use Rattle.std.proofs.Common.{◌≡◌, ◌+◌, ◌%◌, sym, ◌∙◌, ap, subst, arith}
-use Rattle.std.proofs.Common.{true, false, ⊎_elim}
-use Rattle.std.specs.Prelude.{if◌then◌else◌}
-use Rattle.word_board.specs.Board.{TheApp}
-use Rattle.word_board.specs.Hands.{AppKeeps}
-use Rattle.word_board.proofs.AppKept.{note-within, is_note, none-noted, kept-polled}
-use Rattle.word_board.proofs.app_seat.AppSeatAppFace.poll.Goals.{in_default, in-Note, in-Note-2}
-use Rattle.board_face.specs.AppEvents.{app_gist}
-use Rattle.board_face.specs.Looks.{AppTold}
-use Rattle.board_face.specs.declared.views.parts.Setting.{Setting}
-use Rattle.word_board.specs.Told.{AppTells}
-use Rattle.word_board.proofs.Telling.{told-polled}
+use Rattle.std.{proofs.Common.{◌≡◌, ◌+◌, ◌%◌, sym, ◌∙◌, ap, subst, arith, true, false, ⊎_elim}, specs.Prelude.{if◌then◌else◌}}
+use Rattle.word_board.{specs.{Board.{TheApp}, Hands.{AppKeeps}}, proofs.AppKept.{note-within, is_note, none-noted, kept-polled}}
+use Rattle.word_board.{proofs.{app_seat.AppSeatAppFace.poll.Goals.{in_default, in-Note, in-Note-2}, Telling.{told-polled}}, specs.Told.{AppTells}}
+use Rattle.board_face.specs.{AppEvents.{app_gist}, Looks.{AppTold}, declared.views.parts.Setting.{Setting}}
 use Rattle.word_board.proofs.app_seat.AppSeatAppFace.poll.Goals as goal
 
 pub poll-polled-requires-clause-within : goal.poll-polled-requires-clause-within

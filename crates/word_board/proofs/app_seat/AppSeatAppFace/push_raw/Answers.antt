@@ -1,10 +1,6 @@
 use Rattle.std.proofs.Common.{◌<◌, ◌∙◌, ap, arith, refl, subst}
-use Rattle.board_face.specs.declared.views.app.AppLook.TheVariants.{RefillInUse}
-use Rattle.board_face.specs.declared.views.parts.Setting.{Setting}
-use Rattle.word_board.specs.Board.{TheApp}
-use Rattle.word_board.proofs.AppKept.{entry-within, kept-saw, kept-pushed}
-use Rattle.board_face.specs.NotNow.{HasWrittenRingful}
-use Rattle.word_board.proofs.Implied.{full-written}
+use Rattle.board_face.specs.{declared.views.{app.AppLook.TheVariants.{RefillInUse}, parts.Setting.{Setting}}, NotNow.{HasWrittenRingful}}
+use Rattle.word_board.{specs.Board.{TheApp}, proofs.{AppKept.{entry-within, kept-saw, kept-pushed}, Implied.{full-written}}}
 use Rattle.word_board.proofs.app_seat.AppSeatAppFace.push_raw.Goals as goal
 
 pub invariant_of-self : goal.invariant_of-self

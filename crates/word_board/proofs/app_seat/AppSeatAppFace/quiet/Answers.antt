@@ -1,9 +1,7 @@
 -- No entry is on its way where each refill slot was seen free.
 use Rattle.std.proofs.Common.{subst}
 use Rattle.board_face.specs.NotNow.{HasWritten}
-use Rattle.word_board.specs.Board.{TheApp}
-use Rattle.word_board.proofs.AppKept.{kept-quieted}
-use Rattle.word_board.proofs.Implied.{some-written}
+use Rattle.word_board.{specs.Board.{TheApp}, proofs.{AppKept.{kept-quieted}, Implied.{some-written}}}
 use Rattle.word_board.proofs.app_seat.AppSeatAppFace.quiet.Goals as goal
 
 pub invariant_of-self : goal.invariant_of-self

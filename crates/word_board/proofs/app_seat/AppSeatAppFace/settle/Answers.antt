@@ -1,9 +1,6 @@
 use Rattle.std.proofs.Common.{◌∙◌, ap, refl, subst}
-use Rattle.word_board.specs.Board.{TheApp}
-use Rattle.word_board.proofs.AppKept.{raw-none, kept-saw}
-use Rattle.board_face.specs.NotNow.{HasPushedRaw}
-use Rattle.board_face.specs.declared.views.app.AppLook.TheVariants.{RawOnItsWay}
-use Rattle.word_board.proofs.Implied.{raw-pushed}
+use Rattle.word_board.{specs.Board.{TheApp}, proofs.{AppKept.{raw-none, kept-saw}, Implied.{raw-pushed}}}
+use Rattle.board_face.specs.{NotNow.{HasPushedRaw}, declared.views.app.AppLook.TheVariants.{RawOnItsWay}}
 use Rattle.word_board.proofs.app_seat.AppSeatAppFace.settle.Goals as goal
 
 pub returns-else-at_rest-clause-still : goal.returns-else-at_rest-clause-still

@@ -1,19 +1,9 @@
 -- A spare is given whose buffer holds nothing of the application.
 use Rattle.std.proofs.Common.{refl, ap, sym, subst}
 use Rattle.area_layout.specs.Layout.{IsLayout}
-use Rattle.board_face.proofs.TokenLemmas.{FitsBuffer-fresh}
-use Rattle.board_face.specs.declared.views.app.AppSide.{AppSide}
-use Rattle.word_board.specs.Board.{TheApp}
-use Rattle.word_board.proofs.SparesKept.{given-there, AppKeeps-got_spare}
-use Rattle.board_face.specs.AppEvents.{app_saw, app_gist}
-use Rattle.board_face.specs.Looks.{AppTold}
-use Rattle.board_face.specs.NotNow.{HasUsedReserve}
-use Rattle.board_face.specs.declared.views.parts.Setting.{Setting}
-use Rattle.board_face.specs.declared.views.app.AppLook.TheVariants.{NoSpare}
-use Rattle.board_face.proofs.LookLemmas.{AppTold-one}
-use Rattle.word_board.specs.Told.{AppTells}
-use Rattle.word_board.proofs.AppKept.{kept-saw}
-use Rattle.word_board.proofs.Implied.{used-reserve}
+use Rattle.board_face.{proofs.TokenLemmas.{FitsBuffer-fresh}, specs.{declared.views.app.AppSide.{AppSide}, AppEvents.{app_saw, app_gist}, Looks.{AppTold}}}
+use Rattle.board_face.{specs.{NotNow.{HasUsedReserve}, declared.views.{parts.Setting.{Setting}, app.AppLook.TheVariants.{NoSpare}}}, proofs.LookLemmas.{AppTold-one}}
+use Rattle.word_board.{specs.{Board.{TheApp}, Told.{AppTells}}, proofs.{SparesKept.{given-there, AppKeeps-got_spare}, AppKept.{kept-saw}, Implied.{used-reserve}}}
 use Rattle.word_board.proofs.Telling.{told-spare, if-none}
 use Rattle.word_board.proofs.app_seat.AppSeatAppFace.spare.Goals as goal
 

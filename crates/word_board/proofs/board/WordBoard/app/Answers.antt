@@ -1,18 +1,10 @@
 -- The desk has the seat's hand until it is given; its seat tells the same of the role.
-use Rattle.std.proofs.Common.{◌≡◌, ℕ, ◌+◌, ◌<◌, Bool, true, false, List, ◌∷◌, length, map, set, get_or, ap, sym, ◌∙◌, arith, subst}
-use Rattle.std.proofs.Common.{Option, is_none, IfSome}
+use Rattle.std.proofs.Common.{◌≡◌, ℕ, ◌+◌, ◌<◌, Bool, true, false, List, ◌∷◌, length, map, set, get_or, ap, sym, ◌∙◌, arith, subst, Option, is_none, IfSome}
 use Rattle.std.proofs.lemmas.List.{length-set, length-map}
-use Rattle.atomic_table.specs.Table.{Me}
-use Rattle.atomic_table.specs.Seated.{TableId}
-use Rattle.board_face.specs.NicCalls.{apps_of}
-use Rattle.board_face.specs.Opened.{new_app}
-use Rattle.board_face.specs.declared.views.parts.Setting.{Setting}
-use Rattle.ref_words.specs.declared.view.View.{View}
-use Rattle.ref_words.specs.Seated.{dealt_out}
-use Rattle.word_board.specs.declared.hands.AppHand.{AppHand}
-use Rattle.word_board.specs.Board.{TheBoard, TheDesk, app_of, gave_role}
-use Rattle.word_board.specs.Hands.{IsNew}
-use Rattle.word_board.proofs.Dealing.{HasDealt-given, undealt}
+use Rattle.atomic_table.specs.{Table.{Me}, Seated.{TableId}}
+use Rattle.board_face.specs.{NicCalls.{apps_of}, Opened.{new_app}, declared.views.parts.Setting.{Setting}}
+use Rattle.ref_words.specs.{declared.view.View.{View}, Seated.{dealt_out}}
+use Rattle.word_board.{specs.{declared.hands.AppHand.{AppHand}, Board.{TheBoard, TheDesk, app_of, gave_role}, Hands.{IsNew}}, proofs.Dealing.{HasDealt-given, undealt}}
 use Rattle.word_board.proofs.HandsGiven.{given-set, given-before, none-left, at-some, not-given, rest-kept, AppKeeps-new}
 use Rattle.word_board.proofs.board.WordBoard.app.Goals as goal
 

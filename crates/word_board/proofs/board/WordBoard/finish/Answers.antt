@@ -1,14 +1,10 @@
 -- All are back, so nobody has a buffer, and each pool buffer is listed or cached.
-use Rattle.std.proofs.Common.{◌≡◌, ◌<◌, ◌≤◌, ◌++◌, length, nat_eq, refl, ap, sym, ◌∙◌, arith, subst}
-use Rattle.std.specs.Prelude.{count_by}
-use Rattle.std.proofs.lemmas.List.{length-set}
+use Rattle.std.{proofs.{Common.{◌≡◌, ◌<◌, ◌≤◌, ◌++◌, length, nat_eq, refl, ap, sym, ◌∙◌, arith, subst}, lemmas.List.{length-set}}, specs.Prelude.{count_by}}
 use Rattle.area_layout.specs.Layout.{pool_buffers}
 use Rattle.board_face.specs.Ended.{IsEachOnce}
-use Rattle.board_parts.specs.Free.{listed_below}
-use Rattle.board_parts.proofs.FreeLists.{IsEachOnce-free, free-fit}
+use Rattle.board_parts.{specs.Free.{listed_below}, proofs.FreeLists.{IsEachOnce-free, free-fit}}
 use Rattle.ref_words.specs.declared.view.View.{View}
-use Rattle.word_board.specs.Board.{TheBoard, TheDesk, card_of}
-use Rattle.word_board.specs.Desk.{AllAreBack, AreOver, AreServed, HasNoHolders}
+use Rattle.word_board.specs.{Board.{TheBoard, TheDesk, card_of}, Desk.{AllAreBack, AreOver, AreServed, HasNoHolders}}
 use Rattle.word_board.proofs.AtDesk.{cached-back, looked-more, StandInOrder-free}
 use Rattle.word_board.proofs.board.WordBoard.finish.Goals as goal
 

@@ -1,6 +1,5 @@
 -- Each buffer below this one was looked at, and is listed or cached. No reserve is cached.
-use Rattle.std.proofs.Common.{◌≡◌, ℕ, ◌+◌, ◌<◌, ◌≤◌, false, length, nat_eq, slice_index_or}
-use Rattle.std.specs.Prelude.{count_by}
+use Rattle.std.{proofs.Common.{◌≡◌, ℕ, ◌+◌, ◌<◌, ◌≤◌, false, length, nat_eq, slice_index_or}, specs.Prelude.{count_by}}
 use Rattle.area_layout.specs.Layout.{pool_buffers}
 use Rattle.board_face.proofs.Tallies.{weight}
 use Rattle.word_board.proofs.board.WordBoard.finish.Given as goal

@@ -1,10 +1,6 @@
 -- The desk's flag and its seat tell the same of the role that was given, and the rest of the desk is as it was.
-use Rattle.std.proofs.Common.{rules, ◌≡◌, true, false, ◌∷◌, map, ap, sym, ◌∙◌, arith, subst}
-use Rattle.std.specs.Prelude.{is_none}
-use Rattle.word_board.specs.Board.{HasDealt}
-use Rattle.word_board.proofs.LeftKept.{KnowsLeft-new}
-use Rattle.word_board.specs.Desk.{AreOver, cache_back}
-use Rattle.word_board.proofs.Dealing.{HasDealt-given}
+use Rattle.std.{proofs.Common.{rules, ◌≡◌, true, false, ◌∷◌, map, ap, sym, ◌∙◌, arith, subst}, specs.Prelude.{is_none}}
+use Rattle.word_board.{specs.{Board.{HasDealt}, Desk.{AreOver, cache_back}}, proofs.{LeftKept.{KnowsLeft-new}, Dealing.{HasDealt-given}}}
 use Rattle.word_board.proofs.board.WordBoard.nic.Goals as goal
 
 pub invariant_of-desk : goal.invariant_of-desk

@@ -2,8 +2,7 @@
 use Rattle.std.proofs.Common.{◌<◌, ap, sym, ◌∙◌, subst, arith, length}
 use Rattle.area_layout.specs.Layout.{IsLayout}
 use Rattle.board_face.specs.declared.views.parts.Setting.{Setting}
-use Rattle.ref_words.specs.Words.{opened_words, table_words}
-use Rattle.ref_words.proofs.Laying.{table-length}
+use Rattle.ref_words.{specs.Words.{opened_words, table_words}, proofs.Laying.{table-length}}
 use Rattle.word_board.proofs.board.WordBoard.open.Goals as goal
 
 pub invariant_of-words : goal.invariant_of-words

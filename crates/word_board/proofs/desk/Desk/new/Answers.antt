@@ -1,15 +1,9 @@
 -- A desk that gave nothing, and to which nobody went back.
-use Rattle.std.proofs.Common.{◌≡◌, ℕ, suc, ◌∷◌, [], false, get_or, refl, ap, sym, ◌∙◌, arith, subst, length-append}
-use Rattle.std.specs.Prelude.{IfSome, Option, Some}
+use Rattle.std.{proofs.Common.{◌≡◌, ℕ, suc, ◌∷◌, [], false, get_or, refl, ap, sym, ◌∙◌, arith, subst, length-append}, specs.Prelude.{IfSome, Option, Some}}
 use Rattle.std.proofs.lemmas.List.Elements.{All-nil}
-use Rattle.board_face.specs.NicCalls.{apps_of}
-use Rattle.board_face.proofs.Tallies.{weight}
-use Rattle.ref_words.specs.declared.view.View.{View}
-use Rattle.ref_words.specs.Over.{CardIsOver, AppIsOver}
-use Rattle.ref_words.specs.Seated.{times_in}
-use Rattle.word_board.specs.Desk.{AreOver, cache_back}
-use Rattle.word_board.specs.Hands.{IsNew}
-use Rattle.word_board.specs.declared.hands.AppHand.{AppHand}
+use Rattle.board_face.{specs.NicCalls.{apps_of}, proofs.Tallies.{weight}}
+use Rattle.ref_words.specs.{declared.view.View.{View}, Over.{CardIsOver, AppIsOver}, Seated.{times_in}}
+use Rattle.word_board.specs.{Desk.{AreOver, cache_back}, Hands.{IsNew}, declared.hands.AppHand.{AppHand}}
 use Rattle.word_board.proofs.AtDesk.{hands-push, none-given, none-more, HasDealt-none}
 use Rattle.word_board.proofs.desk.Desk.new.Goals as goal
 

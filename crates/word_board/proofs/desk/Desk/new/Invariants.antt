@@ -1,6 +1,5 @@
 -- The applications below this one have what their seats are to keep, and none was given.
-use Rattle.std.proofs.Common.{◌≡◌, ℕ, false, length, map}
-use Rattle.std.specs.Prelude.{IfSome, None, is_none, replicate, slice_index_or}
+use Rattle.std.{proofs.Common.{◌≡◌, ℕ, false, length, map}, specs.Prelude.{IfSome, None, is_none, replicate, slice_index_or}}
 use Rattle.word_board.specs.Hands.{IsNew}
 use Rattle.word_board.proofs.desk.Desk.new.Given as goal
 

@@ -1,6 +1,5 @@
 use Rattle.std.proofs.Common.{refl}
-use Rattle.word_board.proofs.HeldPlaces.{held-ends}
-use Rattle.word_board.proofs.Stepping.{raises}
+use Rattle.word_board.proofs.{HeldPlaces.{held-ends}, Stepping.{raises}}
 use Rattle.word_board.proofs.kinds.app_counts.cut_piece.Goals as goal
 
 pub add-requires-clause-may : goal.add-requires-clause-may

@@ -1,7 +1,6 @@
 -- The side after the step, by the number that it found.
 use Rattle.std.specs.Prelude.{◌+◌, ◌^◌, ◌<◌}
-use Rattle.board_face.specs.AppEvents.{cut}
-use Rattle.board_face.specs.Sides.{app_at}
+use Rattle.board_face.specs.{AppEvents.{cut}, Sides.{app_at}}
 use Rattle.word_board.proofs.kinds.app_counts.cut_piece.Given as goal
 
 abbrev pub ghosts-add : goal.ghosts-add

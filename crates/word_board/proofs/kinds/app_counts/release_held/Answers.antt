@@ -1,8 +1,6 @@
 use Rattle.std.proofs.Common.{ℕ, ◌-◌, ◌==◌, set, refl, ap, ◌∙◌, arith}
-use Rattle.board_face.specs.declared.views.app.AppSide.{AppSide}
-use Rattle.board_face.specs.Steps.{side_released}
-use Rattle.ref_words.specs.Words.{pool_at, with_pool, pool_of}
-use Rattle.ref_words.specs.Rule.{BoardRule}
+use Rattle.board_face.specs.{declared.views.app.AppSide.{AppSide}, Steps.{side_released}}
+use Rattle.ref_words.specs.{Words.{pool_at, with_pool, pool_of}, Rule.{BoardRule}}
 use Rattle.word_board.proofs.Stepping.{lowers, of-count}
 use Rattle.word_board.proofs.kinds.app_counts.release_held.Goals as goal
 

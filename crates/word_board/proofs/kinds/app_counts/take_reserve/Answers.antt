@@ -1,6 +1,5 @@
 use Rattle.std.proofs.Common.{set, refl, sym, subst, arith}
-use Rattle.board_face.specs.AppCalls.{HasNoneIn}
-use Rattle.board_face.specs.Steps.{side_spare_begun}
+use Rattle.board_face.specs.{AppCalls.{HasNoneIn}, Steps.{side_spare_begun}}
 use Rattle.ref_words.specs.Laws.{RaisesFree}
 use Rattle.word_board.proofs.Stepping.{raises}
 use Rattle.word_board.proofs.kinds.app_counts.take_reserve.Goals as goal

@@ -1,6 +1,5 @@
 -- The side after the step, by the number that it found.
-use Rattle.board_face.specs.AppCalls.{HasNoneIn}
-use Rattle.board_face.specs.Steps.{side_spare_begun}
+use Rattle.board_face.specs.{AppCalls.{HasNoneIn}, Steps.{side_spare_begun}}
 use Rattle.word_board.proofs.kinds.app_counts.take_reserve.Given as goal
 
 abbrev pub ghosts-add : goal.ghosts-add

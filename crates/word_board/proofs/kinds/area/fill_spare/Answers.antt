@@ -1,7 +1,6 @@
 use Rattle.std.proofs.Common.{◌*◌, ◌<◌, length, refl, subst, arith, rules}
 use Rattle.board_face.specs.AppEvents.{begin_place}
-use Rattle.ref_words.specs.AreaLaws.{next_word}
-use Rattle.ref_words.proofs.AreaWords.{within-area}
+use Rattle.ref_words.{specs.AreaLaws.{next_word}, proofs.AreaWords.{within-area}}
 use Rattle.word_board.proofs.Stepping.{stores-area, bytes-small}
 use Rattle.word_board.proofs.kinds.area.fill_spare.Goals as goal
 

@@ -1,7 +1,6 @@
 use Rattle.std.proofs.Common.{◌*◌, ◌<◌, length, subst, arith, rules}
 use Rattle.board_face.specs.Tokens.{next_place}
-use Rattle.ref_words.specs.AreaLaws.{next_word}
-use Rattle.ref_words.proofs.AreaWords.{within-area}
+use Rattle.ref_words.{specs.AreaLaws.{next_word}, proofs.AreaWords.{within-area}}
 use Rattle.word_board.proofs.Stepping.{stores-area, bytes-small}
 use Rattle.word_board.proofs.kinds.area.place_piece.Goals as goal
 

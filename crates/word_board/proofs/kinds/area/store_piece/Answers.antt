@@ -1,6 +1,5 @@
 use Rattle.std.proofs.Common.{◌+◌, ◌*◌, ◌<◌, subst, arith}
-use Rattle.ref_words.specs.AreaLaws.{next_word}
-use Rattle.ref_words.proofs.AreaWords.{within-area}
+use Rattle.ref_words.{specs.AreaLaws.{next_word}, proofs.AreaWords.{within-area}}
 use Rattle.word_board.proofs.Stepping.{stores-area}
 use Rattle.word_board.proofs.kinds.area.store_piece.Goals as goal
 

@@ -1,8 +1,6 @@
 use Rattle.std.proofs.Common.{ℕ, ◌-◌, ◌==◌, ap, ◌∙◌, arith}
-use Rattle.board_face.specs.declared.views.nic.NicSide.{NicSide}
-use Rattle.board_face.specs.Steps.{side_both_lowered}
-use Rattle.ref_words.specs.Words.{pool_at, with_pool, pool_of}
-use Rattle.ref_words.specs.Rule.{BoardRule}
+use Rattle.board_face.specs.{declared.views.nic.NicSide.{NicSide}, Steps.{side_both_lowered}}
+use Rattle.ref_words.specs.{Words.{pool_at, with_pool, pool_of}, Rule.{BoardRule}}
 use Rattle.word_board.proofs.Stepping.{lowers, of-count}
 use Rattle.word_board.proofs.kinds.card_counts.lower_returned.Goals as goal
 

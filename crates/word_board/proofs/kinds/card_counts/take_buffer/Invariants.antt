@@ -1,7 +1,5 @@
 -- The side after the step, by the number that it found.
-use Rattle.board_face.specs.NicEvents.{took}
-use Rattle.board_face.specs.NicCalls.{HasNothingIn}
-use Rattle.board_face.specs.Sides.{nic_at}
+use Rattle.board_face.specs.{NicEvents.{took}, NicCalls.{HasNothingIn}, Sides.{nic_at}}
 use Rattle.word_board.proofs.kinds.card_counts.take_buffer.Given as goal
 
 abbrev pub ghosts-add : goal.ghosts-add

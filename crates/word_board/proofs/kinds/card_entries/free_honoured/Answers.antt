@@ -1,7 +1,5 @@
 use Rattle.std.proofs.Common.{ℕ, ◌<◌, subst, arith}
-use Rattle.board_face.specs.SlotSteps.{side_dealt}
-use Rattle.board_face.specs.declared.views.nic.Fate.TheVariants.{Honoured}
-use Rattle.board_face.specs.declared.views.nic.NicSide.{NicSide}
+use Rattle.board_face.specs.{SlotSteps.{side_dealt}, declared.views.nic.{Fate.TheVariants.{Honoured}, NicSide.{NicSide}}}
 use Rattle.ref_words.specs.Rings.{takes_entry_at}
 use Rattle.word_board.proofs.Stepping.{stores-refill}
 use Rattle.word_board.proofs.kinds.card_entries.free_honoured.Goals as goal

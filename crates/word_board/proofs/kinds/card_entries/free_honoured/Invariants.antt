@@ -1,6 +1,5 @@
 -- The side after the step, by the number that it found.
-use Rattle.board_face.specs.SlotSteps.{side_dealt}
-use Rattle.board_face.specs.declared.views.nic.Fate.TheVariants.{Honoured}
+use Rattle.board_face.specs.{SlotSteps.{side_dealt}, declared.views.nic.Fate.TheVariants.{Honoured}}
 use Rattle.word_board.proofs.kinds.card_entries.free_honoured.Given as goal
 
 abbrev pub ghosts-swap : goal.ghosts-swap

@@ -1,10 +1,7 @@
 use Rattle.std.proofs.Common.{ℕ, ◌<◌, sym, subst}
-use Rattle.board_face.specs.SlotSteps.{side_entry_loaded}
-use Rattle.board_face.specs.declared.views.nic.NicSide.{NicSide}
+use Rattle.board_face.specs.{SlotSteps.{side_entry_loaded}, declared.views.nic.NicSide.{NicSide}}
 use Rattle.word_rings.specs.Slots.{refill_width}
-use Rattle.ref_words.specs.Rings.{takes_entry_at}
-use Rattle.ref_words.specs.SlotLaws.{refill_words_at}
-use Rattle.ref_words.specs.Rule.{BoardRule}
+use Rattle.ref_words.specs.{Rings.{takes_entry_at}, SlotLaws.{refill_words_at}, Rule.{BoardRule}}
 use Rattle.word_board.proofs.Stepping.{loads, found-refill}
 use Rattle.word_board.proofs.kinds.card_entries.load_entry.Goals as goal
 

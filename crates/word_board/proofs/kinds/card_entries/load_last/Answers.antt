@@ -1,9 +1,7 @@
 use Rattle.std.proofs.Common.{◌≡◌, ℕ, ◌+◌, ◌<◌, ◌++◌, ◌∷◌, [], subst, arith}
-use Rattle.board_face.specs.SlotSteps.{next_slot, side_in_hand}
-use Rattle.board_face.specs.declared.views.nic.NicSide.{NicSide}
+use Rattle.board_face.specs.{SlotSteps.{next_slot, side_in_hand}, declared.views.nic.NicSide.{NicSide}}
 use Rattle.word_rings.specs.Slots.{refill_width, entry_of}
-use Rattle.ref_words.specs.Rings.{takes_entry_at}
-use Rattle.ref_words.specs.SlotLaws.{refill_words_at}
+use Rattle.ref_words.specs.{Rings.{takes_entry_at}, SlotLaws.{refill_words_at}}
 use Rattle.word_board.proofs.Stepping.{loads, found-refill}
 use Rattle.word_board.proofs.kinds.card_entries.load_last.Goals as goal
 

@@ -1,12 +1,7 @@
-use Rattle.std.proofs.Common.{◌≡◌, ℕ, ◌<◌, sym, subst, arith}
-use Rattle.std.specs.Prelude.{◌==◌, false}
-use Rattle.board_face.specs.SlotSteps.{side_entry_looked}
-use Rattle.board_face.specs.declared.views.nic.NicSide.{NicSide}
-use Rattle.ref_words.specs.Words.{refill_at}
-use Rattle.ref_words.specs.Rings.{takes_entry_at}
-use Rattle.ref_words.specs.Rule.{BoardRule}
-use Rattle.word_board.proofs.Telling.{tells-card}
-use Rattle.word_board.proofs.Stepping.{loads, found-refill}
+use Rattle.std.{proofs.Common.{◌≡◌, ℕ, ◌<◌, sym, subst, arith}, specs.Prelude.{◌==◌, false}}
+use Rattle.board_face.specs.{SlotSteps.{side_entry_looked}, declared.views.nic.NicSide.{NicSide}}
+use Rattle.ref_words.specs.{Words.{refill_at}, Rings.{takes_entry_at}, Rule.{BoardRule}}
+use Rattle.word_board.proofs.{Telling.{tells-card}, Stepping.{loads, found-refill}}
 use Rattle.word_board.proofs.kinds.card_entries.look_entry.Goals as goal
 
 pub load-requires-clause-may : goal.load-requires-clause-may

@@ -1,8 +1,6 @@
 -- The side after the step, by the number that it found.
 use Rattle.std.specs.Prelude.{◌≡◌, ◌==◌, length, false}
-use Rattle.board_face.specs.NicCalls.{apps_of}
-use Rattle.board_face.specs.SlotSteps.{side_entry_looked}
-use Rattle.board_face.specs.NicEvents.{nic_gist}
+use Rattle.board_face.specs.{NicCalls.{apps_of}, SlotSteps.{side_entry_looked}, NicEvents.{nic_gist}}
 use Rattle.word_board.specs.Told.{SawRingEmpty}
 use Rattle.word_board.proofs.kinds.card_entries.look_entry.Given as goal
 

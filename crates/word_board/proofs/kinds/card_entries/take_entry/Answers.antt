@@ -1,7 +1,6 @@
 use Rattle.std.proofs.Common.{ℕ, ◌<◌, length, Some, ap, sym, ◌∙◌, subst}
 use Rattle.board_face.specs.SlotSteps.{side_entry_loaded}
-use Rattle.word_board.specs.Board.{TheNic, side_entry_taken}
-use Rattle.word_board.proofs.EntryTaken.{with_last, takes}
+use Rattle.word_board.{specs.Board.{TheNic, side_entry_taken}, proofs.EntryTaken.{with_last, takes}}
 use Rattle.word_board.proofs.kinds.card_entries.take_entry.Goals as goal
 
 pub returns-clause-event : goal.returns-clause-event

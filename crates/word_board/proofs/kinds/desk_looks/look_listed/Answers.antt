@@ -1,15 +1,9 @@
 use Rattle.std.proofs.Common.{◌≡◌, ℕ, ◌+◌, ◌/◌, ◌%◌, ◌^◌, ◌<◌, Bool, true, false, nat_eq, get_or, ap, sym, ◌∙◌, subst, arith}
-use Rattle.std.specs.Prelude.{◌==◌, count_by, if◌then◌else◌, bit_and}
-use Rattle.std.specs.Int.{bit_at}
-use Rattle.std.proofs.lemmas.Nat.Bits.{shr_and_one}
+use Rattle.std.{specs.{Prelude.{◌==◌, count_by, if◌then◌else◌, bit_and}, Int.{bit_at}}, proofs.lemmas.Nat.Bits.{shr_and_one}}
 use Rattle.area_layout.specs.Layout.{pool_buffers}
-use Rattle.board_face.specs.NicCalls.{free_words_of}
-use Rattle.board_face.specs.NicEvents.{word_bits}
+use Rattle.board_face.specs.{NicCalls.{free_words_of}, NicEvents.{word_bits}}
 use Rattle.ref_words.specs.Words.{free_at}
-use Rattle.word_board.specs.Board.{card_of}
-use Rattle.word_board.specs.Desk.{AllAreBack}
-use Rattle.word_board.proofs.FreeWords.{of-word}
-use Rattle.word_board.proofs.RolesBack.{lesson, free-there}
+use Rattle.word_board.{specs.{Board.{card_of}, Desk.{AllAreBack}}, proofs.{FreeWords.{of-word}, RolesBack.{lesson, free-there}}}
 use Rattle.word_board.proofs.kinds.desk_looks.look_listed.Goals as goal
 
 pub load_as-found-requires-clause-allows : goal.load_as-found-requires-clause-allows

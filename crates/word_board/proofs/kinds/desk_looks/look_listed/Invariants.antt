@@ -1,6 +1,5 @@
 -- A buffer's bit tells whether it is cached, once all are back.
-use Rattle.std.specs.Prelude.{◌≡◌, ◌+◌, ◌%◌, ◌==◌, if◌then◌else◌, nat_eq, count_by}
-use Rattle.std.specs.Int.{bit_at}
+use Rattle.std.specs.{Prelude.{◌≡◌, ◌+◌, ◌%◌, ◌==◌, if◌then◌else◌, nat_eq, count_by}, Int.{bit_at}}
 use Rattle.board_face.specs.NicEvents.{word_bits}
 use Rattle.word_board.specs.Board.{card_of}
 use Rattle.word_board.proofs.kinds.desk_looks.look_listed.Given as goal

@@ -1,6 +1,5 @@
 use Rattle.std.proofs.Common.{◌≤◌, length, subst, sym}
-use Rattle.word_board.specs.Desk.{AreOfBoard, AreServed}
-use Rattle.word_board.proofs.RolesBack.{lesson, one-card, served-there, known-there}
+use Rattle.word_board.{specs.Desk.{AreOfBoard, AreServed}, proofs.RolesBack.{lesson, one-card, served-there, known-there}}
 use Rattle.word_board.proofs.kinds.desk_looks.look_served.Goals as goal
 
 pub load_as-requires-clause-allows : goal.load_as-requires-clause-allows

@@ -1,9 +1,6 @@
-use Rattle.std.proofs.Common.{◌≡◌, ℕ, ◌≤◌, nat_eq, subst}
-use Rattle.std.specs.Prelude.{count_by}
+use Rattle.std.{proofs.Common.{◌≡◌, ℕ, ◌≤◌, nat_eq, subst}, specs.Prelude.{count_by}}
 use Rattle.area_layout.specs.Layout.{pool_buffers}
-use Rattle.word_board.specs.Board.{card_of}
-use Rattle.word_board.specs.Desk.{AllAreBack, AreServed, HasNoHolders}
-use Rattle.word_board.proofs.RolesBack.{lesson, unheld-there, reserves-there, served-there}
+use Rattle.word_board.{specs.{Board.{card_of}, Desk.{AllAreBack, AreServed, HasNoHolders}}, proofs.RolesBack.{lesson, unheld-there, reserves-there, served-there}}
 use Rattle.word_board.proofs.kinds.desk_looks.look_unheld.Goals as goal
 
 pub load_as-requires-clause-allows : goal.load_as-requires-clause-allows

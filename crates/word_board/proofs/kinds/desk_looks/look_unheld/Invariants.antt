@@ -1,8 +1,7 @@
 -- What the rule says once all are back.
 use Rattle.std.specs.Prelude.{◌≡◌, ℕ, ◌≤◌, nat_eq, count_by}
 use Rattle.area_layout.specs.Layout.{pool_buffers}
-use Rattle.word_board.specs.Board.{card_of}
-use Rattle.word_board.specs.Desk.{AreServed, HasNoHolders}
+use Rattle.word_board.specs.{Board.{card_of}, Desk.{AreServed, HasNoHolders}}
 use Rattle.word_board.proofs.kinds.desk_looks.look_unheld.Given as goal
 
 abbrev pub ghosts-load_as : goal.ghosts-load_as

@@ -1,13 +1,7 @@
-use Rattle.std.proofs.Common.{◌≡◌, ℕ, ◌<◌, set, sym, subst, arith}
-use Rattle.std.specs.Prelude.{◌==◌, false}
-use Rattle.board_face.specs.SlotSteps.{side_refill_looked}
-use Rattle.board_face.specs.declared.views.app.AppSide.{AppSide}
-use Rattle.ref_words.specs.Words.{refill_at}
-use Rattle.ref_words.specs.Rings.{writes_entry_at}
-use Rattle.ref_words.specs.Rule.{BoardRule}
-use Rattle.ref_words.proofs.AppNumbers.{refill_looked-number}
-use Rattle.word_board.proofs.Telling.{tells-app}
-use Rattle.word_board.proofs.Stepping.{loads, found-refill}
+use Rattle.std.{proofs.Common.{◌≡◌, ℕ, ◌<◌, set, sym, subst, arith}, specs.Prelude.{◌==◌, false}}
+use Rattle.board_face.specs.{SlotSteps.{side_refill_looked}, declared.views.app.AppSide.{AppSide}}
+use Rattle.ref_words.{specs.{Words.{refill_at}, Rings.{writes_entry_at}, Rule.{BoardRule}}, proofs.AppNumbers.{refill_looked-number}}
+use Rattle.word_board.proofs.{Telling.{tells-app}, Stepping.{loads, found-refill}}
 use Rattle.word_board.proofs.kinds.entries.look_refill.Goals as goal
 
 pub load-requires-clause-may : goal.load-requires-clause-may

@@ -1,7 +1,6 @@
 -- The side after the step, by the number that it found.
 use Rattle.std.specs.Prelude.{◌==◌, ◌≡◌, false}
-use Rattle.board_face.specs.SlotSteps.{side_refill_looked}
-use Rattle.board_face.specs.AppEvents.{app_gist}
+use Rattle.board_face.specs.{SlotSteps.{side_refill_looked}, AppEvents.{app_gist}}
 use Rattle.word_board.specs.Told.{SawRefillInUse}
 use Rattle.word_board.proofs.kinds.entries.look_refill.Given as goal
 

@@ -1,6 +1,5 @@
 use Rattle.std.proofs.Common.{◌/◌, ◌<◌, refl, arith}
-use Rattle.board_face.specs.NicCalls.{free_words_of}
-use Rattle.board_face.specs.NicEvents.{word_bits}
+use Rattle.board_face.specs.{NicCalls.{free_words_of}, NicEvents.{word_bits}}
 use Rattle.word_board.proofs.FreeWords.{lists-bit}
 use Rattle.word_board.proofs.kinds.free.list_by_app.Goals as goal
 

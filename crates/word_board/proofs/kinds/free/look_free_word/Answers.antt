@@ -1,15 +1,7 @@
-use Rattle.std.proofs.Common.{ℕ, set, ap, ◌∙◌, refl}
-use Rattle.std.specs.Prelude.{◌==◌}
-use Rattle.board_face.specs.declared.views.app.AppSide.{AppSide}
-use Rattle.ref_words.specs.FreeSteps.{side_word_looked}
-use Rattle.ref_words.specs.Words.{free_at}
-use Rattle.ref_words.specs.Rule.{BoardRule}
-use Rattle.ref_words.proofs.AppNumbers.{word_looked-number}
-use Rattle.board_face.specs.AppEvents.{app_gist}
-use Rattle.word_board.specs.Told.{SawFree}
-use Rattle.word_board.proofs.Telling.{tells-app}
-use Rattle.word_board.proofs.Stepping.{loads}
-use Rattle.word_board.proofs.FreeWords.{of-word}
+use Rattle.std.{proofs.Common.{ℕ, set, ap, ◌∙◌, refl}, specs.Prelude.{◌==◌}}
+use Rattle.board_face.specs.{declared.views.app.AppSide.{AppSide}, AppEvents.{app_gist}}
+use Rattle.ref_words.{specs.{FreeSteps.{side_word_looked}, Words.{free_at}, Rule.{BoardRule}}, proofs.AppNumbers.{word_looked-number}}
+use Rattle.word_board.{specs.Told.{SawFree}, proofs.{Telling.{tells-app}, Stepping.{loads}, FreeWords.{of-word}}}
 use Rattle.word_board.proofs.kinds.free.look_free_word.Goals as goal
 
 pub load-requires-clause-may : goal.load-requires-clause-may

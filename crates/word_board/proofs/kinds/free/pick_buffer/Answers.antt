@@ -1,19 +1,9 @@
-use Rattle.std.proofs.Common.{◌≡◌, ℕ, ◌/◌, ◌%◌, ◌<◌, set, ap, sym, ◌∙◌}
-use Rattle.std.specs.Prelude.{◌==◌, false}
-use Rattle.std.specs.Int.{bit_at}
-use Rattle.std.proofs.lemmas.Bool.{eqb-true}
+use Rattle.std.{proofs.{Common.{◌≡◌, ℕ, ◌/◌, ◌%◌, ◌<◌, set, ap, sym, ◌∙◌}, lemmas.Bool.{eqb-true}}, specs.{Prelude.{◌==◌, false}, Int.{bit_at}}}
 use Rattle.std.proofs.lemmas.Nat.Bits.{shr_and_one}
 use Rattle.area_layout.specs.Layout.{pool_buffers}
-use Rattle.board_face.specs.NicEvents.{word_bits}
-use Rattle.board_face.specs.declared.views.app.AppSide.{AppSide}
-use Rattle.ref_words.specs.FreeSteps.{side_bit_cleared}
-use Rattle.ref_words.specs.Words.{free_at, with_unlisted}
-use Rattle.ref_words.specs.Rule.{BoardRule}
-use Rattle.ref_words.proofs.AppNumbers.{bit_cleared-number}
-use Rattle.board_face.specs.AppEvents.{app_gist}
-use Rattle.word_board.specs.Told.{SawUnlisted}
-use Rattle.word_board.proofs.Telling.{tells-app}
-use Rattle.word_board.proofs.FreeWords.{clears-bit, of-word}
+use Rattle.board_face.specs.{NicEvents.{word_bits}, declared.views.app.AppSide.{AppSide}, AppEvents.{app_gist}}
+use Rattle.ref_words.{specs.{FreeSteps.{side_bit_cleared}, Words.{free_at, with_unlisted}, Rule.{BoardRule}}, proofs.AppNumbers.{bit_cleared-number}}
+use Rattle.word_board.{specs.Told.{SawUnlisted}, proofs.{Telling.{tells-app}, FreeWords.{clears-bit, of-word}}}
 use Rattle.word_board.proofs.kinds.free.pick_buffer.Goals as goal
 
 pub and-found-requires-clause-may : goal.and-found-requires-clause-may

@@ -1,10 +1,8 @@
 -- The side after the step, by the number that it found.
-use Rattle.std.specs.Prelude.{◌≡◌, ◌/◌, ◌%◌, ◌<◌, ◌==◌, false}
-use Rattle.std.specs.Int.{bit_at}
+use Rattle.std.specs.{Prelude.{◌≡◌, ◌/◌, ◌%◌, ◌<◌, ◌==◌, false}, Int.{bit_at}}
 use Rattle.area_layout.specs.Layout.{pool_buffers}
-use Rattle.board_face.specs.NicEvents.{word_bits}
+use Rattle.board_face.specs.{NicEvents.{word_bits}, AppEvents.{app_gist}}
 use Rattle.ref_words.specs.FreeSteps.{side_bit_cleared}
-use Rattle.board_face.specs.AppEvents.{app_gist}
 use Rattle.word_board.specs.Told.{SawUnlisted}
 use Rattle.word_board.proofs.kinds.free.pick_buffer.Given as goal
 

@@ -1,9 +1,6 @@
 use Rattle.std.proofs.Common.{ℕ, refl, ap, ◌∙◌}
 use Rattle.board_face.specs.declared.views.nic.NicSide.{NicSide}
-use Rattle.ref_words.specs.FreeLaws.{IsSwept}
-use Rattle.ref_words.specs.FreeSteps.{side_swept}
-use Rattle.ref_words.specs.Words.{free_at, with_free}
-use Rattle.ref_words.specs.Rule.{BoardRule}
+use Rattle.ref_words.specs.{FreeLaws.{IsSwept}, FreeSteps.{side_swept}, Words.{free_at, with_free}, Rule.{BoardRule}}
 use Rattle.word_board.proofs.FreeWords.{makes-free, of-word}
 use Rattle.word_board.proofs.kinds.free.sweep_word.Goals as goal
 

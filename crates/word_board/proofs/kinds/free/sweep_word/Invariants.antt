@@ -1,6 +1,5 @@
 -- The side after the step, by the number that it found.
-use Rattle.ref_words.specs.FreeLaws.{IsSwept}
-use Rattle.ref_words.specs.FreeSteps.{side_swept}
+use Rattle.ref_words.specs.{FreeLaws.{IsSwept}, FreeSteps.{side_swept}}
 use Rattle.word_board.proofs.kinds.free.sweep_word.Given as goal
 
 abbrev pub ghosts-swap : goal.ghosts-swap

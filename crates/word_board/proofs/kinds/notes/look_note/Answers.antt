@@ -1,15 +1,8 @@
-use Rattle.std.proofs.Common.{◌≡◌, ℕ, ◌<◌, sym, subst, arith}
-use Rattle.std.specs.Prelude.{◌==◌, false, All}
+use Rattle.std.{proofs.Common.{◌≡◌, ℕ, ◌<◌, sym, subst, arith}, specs.Prelude.{◌==◌, false, All}}
 use Rattle.area_layout.specs.Layout.{pool_buffers}
-use Rattle.board_face.specs.declared.views.nic.PlacedText.{PlacedText}
-use Rattle.board_face.specs.SlotSteps.{side_note_looked}
-use Rattle.board_face.specs.declared.views.nic.NicSide.{NicSide}
-use Rattle.board_face.specs.declared.views.parts.Setting.{Setting}
-use Rattle.ref_words.specs.Words.{note_at}
-use Rattle.ref_words.specs.Rings.{writes_note_at}
-use Rattle.ref_words.specs.Rule.{BoardRule}
-use Rattle.word_board.proofs.Telling.{tells-card}
-use Rattle.word_board.proofs.Stepping.{loads, found-note}
+use Rattle.board_face.specs.{declared.views.{nic.{PlacedText.{PlacedText}, NicSide.{NicSide}}, parts.Setting.{Setting}}, SlotSteps.{side_note_looked}}
+use Rattle.ref_words.specs.{Words.{note_at}, Rings.{writes_note_at}, Rule.{BoardRule}}
+use Rattle.word_board.proofs.{Telling.{tells-card}, Stepping.{loads, found-note}}
 use Rattle.word_board.proofs.kinds.notes.look_note.Goals as goal
 
 pub load-requires-clause-may : goal.load-requires-clause-may

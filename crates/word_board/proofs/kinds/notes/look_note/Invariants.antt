@@ -1,9 +1,7 @@
 -- The side after the step, by the number that it found.
 use Rattle.std.specs.Prelude.{◌≡◌, ◌<◌, ◌==◌, length, false, All}
 use Rattle.area_layout.specs.Layout.{pool_buffers}
-use Rattle.board_face.specs.NicCalls.{apps_of}
-use Rattle.board_face.specs.SlotSteps.{side_note_looked}
-use Rattle.board_face.specs.NicEvents.{nic_gist}
+use Rattle.board_face.specs.{NicCalls.{apps_of}, SlotSteps.{side_note_looked}, NicEvents.{nic_gist}}
 use Rattle.word_board.specs.Told.{SawNoteInUse}
 use Rattle.word_board.proofs.kinds.notes.look_note.Given as goal
 

@@ -1,6 +1,5 @@
 use Rattle.std.proofs.Common.{ℕ, ◌<◌, subst, arith}
-use Rattle.board_face.specs.SlotSteps.{side_sent_linear}
-use Rattle.board_face.specs.declared.views.nic.NicSide.{NicSide}
+use Rattle.board_face.specs.{SlotSteps.{side_sent_linear}, declared.views.nic.NicSide.{NicSide}}
 use Rattle.ref_words.specs.Rings.{writes_note_at}
 use Rattle.word_board.proofs.Stepping.{stores-note}
 use Rattle.word_board.proofs.kinds.notes.publish_linear.Goals as goal

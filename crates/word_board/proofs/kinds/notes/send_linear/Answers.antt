@@ -1,14 +1,9 @@
-use Rattle.std.proofs.Common.{rules, ◌≡◌, ℕ, ◌+◌, ◌<◌, List, [], length, take, drop, get_or, max, refl, ap, sym, ◌∙◌, subst, arith}
-use Rattle.std.proofs.lemmas.List.{get_or_default}
+use Rattle.std.proofs.{Common.{rules, ◌≡◌, ℕ, ◌+◌, ◌<◌, List, [], length, take, drop, get_or, max, refl, ap, sym, ◌∙◌, subst, arith}, lemmas.List.{get_or_default}}
 use Rattle.zr_kinds.specs.declared.place.Note.{Note}
-use Rattle.board_face.specs.SlotSteps.{next_slot, at_note, seen_with, side_sent_linear}
-use Rattle.board_face.specs.declared.views.parts.Slot.{Slot}
-use Rattle.word_rings.specs.Slots.{note_body}
-use Rattle.word_rings.specs.Texts.{text_count}
-use Rattle.word_rings.proofs.NoteSlots.{note-blank, blank-later}
+use Rattle.board_face.specs.{SlotSteps.{next_slot, at_note, seen_with, side_sent_linear}, declared.views.parts.Slot.{Slot}}
+use Rattle.word_rings.{specs.{Slots.{note_body}, Texts.{text_count}}, proofs.NoteSlots.{note-blank, blank-later}}
 use Rattle.ref_words.specs.Rings.{note_so_far}
-use Rattle.word_board.specs.Board.{TheNic}
-use Rattle.word_board.proofs.NoteFilled.{again, slot-is, filled-so, sent-linear-so}
+use Rattle.word_board.{specs.Board.{TheNic}, proofs.NoteFilled.{again, slot-is, filled-so, sent-linear-so}}
 use Rattle.word_board.proofs.kinds.notes.send_linear.Goals as goal
 
 pub publish_linear-requires-clause-seen : goal.publish_linear-requires-clause-seen

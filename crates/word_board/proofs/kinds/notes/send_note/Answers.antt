@@ -1,17 +1,10 @@
-use Rattle.std.proofs.Common.{◌≡◌, ℕ, ◌+◌, ◌<◌, List, [], length, take, drop, map, refl, ap, sym, ◌∙◌, subst, arith}
-use Rattle.std.proofs.lemmas.List.Elements.{All-contains, All-map}
-use Rattle.zr_kinds.specs.declared.place.Note.{Note}
-use Rattle.zr_kinds.specs.declared.place.Place.{Place}
+use Rattle.std.proofs.{Common.{◌≡◌, ℕ, ◌+◌, ◌<◌, List, [], length, take, drop, map, refl, ap, sym, ◌∙◌, subst, arith}, lemmas.List.Elements.{All-contains, All-map}}
+use Rattle.zr_kinds.specs.declared.place.{Note.{Note}, Place.{Place}}
 use Rattle.area_layout.specs.Layout.{area_of_buffer, pool_buffers}
-use Rattle.board_face.specs.SlotSteps.{next_slot, at_note, seen_with, side_sent}
-use Rattle.board_face.specs.declared.views.nic.PlacedText.{PlacedText}
-use Rattle.board_face.specs.declared.views.parts.Slot.{Slot}
-use Rattle.board_face.specs.declared.views.parts.Setting.{Setting}
-use Rattle.word_rings.specs.Slots.{note_body}
-use Rattle.word_rings.proofs.NoteSlots.{note-blank}
+use Rattle.board_face.specs.{SlotSteps.{next_slot, at_note, seen_with, side_sent}, declared.views.{nic.PlacedText.{PlacedText}, parts.{Slot.{Slot}, Setting.{Setting}}}}
+use Rattle.word_rings.{specs.Slots.{note_body}, proofs.NoteSlots.{note-blank}}
 use Rattle.ref_words.specs.Rings.{note_so_far}
-use Rattle.word_board.specs.Board.{TheNic}
-use Rattle.word_board.proofs.NoteFilled.{again, slot-is, filled-so, sent-so}
+use Rattle.word_board.{specs.Board.{TheNic}, proofs.NoteFilled.{again, slot-is, filled-so, sent-so}}
 use Rattle.word_board.proofs.kinds.notes.send_note.Goals as goal
 
 -- its piece lies in a pool buffer

@@ -1,9 +1,7 @@
 use Rattle.std.proofs.Common.{ℕ, ◌<◌, subst}
-use Rattle.board_face.specs.SlotSteps.{side_note_stored}
-use Rattle.board_face.specs.declared.views.nic.NicSide.{NicSide}
+use Rattle.board_face.specs.{SlotSteps.{side_note_stored}, declared.views.nic.NicSide.{NicSide}}
 use Rattle.word_rings.specs.Slots.{note_width}
-use Rattle.ref_words.specs.Rings.{writes_note_at}
-use Rattle.ref_words.specs.SlotLaws.{note_words_at}
+use Rattle.ref_words.specs.{Rings.{writes_note_at}, SlotLaws.{note_words_at}}
 use Rattle.word_board.proofs.Stepping.{stores-note}
 use Rattle.word_board.proofs.kinds.notes.store_note.Goals as goal
 

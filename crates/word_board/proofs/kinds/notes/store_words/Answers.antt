@@ -1,7 +1,6 @@
 use Rattle.std.proofs.Common.{ℕ, ◌+◌, ◌<◌, length, take, drop, get_or, ap, sym, ◌∙◌, subst, arith, length-drop}
 use Rattle.board_face.specs.SlotSteps.{seen_with, at_note, side_note_stored}
-use Rattle.word_board.specs.Board.{TheNic}
-use Rattle.word_board.proofs.NoteFilled.{one-word, stored}
+use Rattle.word_board.{specs.Board.{TheNic}, proofs.NoteFilled.{one-word, stored}}
 use Rattle.word_board.proofs.kinds.notes.store_words.Goals as goal
 
 pub loop-k-preserved : goal.loop-k-preserved

@@ -1,16 +1,7 @@
-use Rattle.std.proofs.Common.{◌≡◌, ℕ, true, set, ap, sym, ◌∙◌, subst, arith}
-use Rattle.std.specs.Prelude.{◌==◌, false}
-use Rattle.board_face.specs.declared.views.app.AppSide.{AppSide}
-use Rattle.ref_words.specs.PhaseSteps.{side_end_looked}
-use Rattle.ref_words.specs.Rule.{BoardRule}
-use Rattle.ref_words.proofs.AppNumbers.{end_looked-number}
-use Rattle.board_face.specs.AppEvents.{app_gist}
-use Rattle.ref_words.specs.PhaseRule.{phase_word}
-use Rattle.ref_words.proofs.Phases.{phases-mine}
-use Rattle.word_board.specs.Told.{SawNotEnded}
-use Rattle.word_board.proofs.Telling.{tells-app}
-use Rattle.word_board.proofs.PhaseSteps.{found-phase}
-use Rattle.word_board.proofs.Stepping.{loads}
+use Rattle.std.{proofs.Common.{◌≡◌, ℕ, true, set, ap, sym, ◌∙◌, subst, arith}, specs.Prelude.{◌==◌, false}}
+use Rattle.board_face.specs.{declared.views.app.AppSide.{AppSide}, AppEvents.{app_gist}}
+use Rattle.ref_words.{specs.{PhaseSteps.{side_end_looked}, Rule.{BoardRule}, PhaseRule.{phase_word}}, proofs.{AppNumbers.{end_looked-number}, Phases.{phases-mine}}}
+use Rattle.word_board.{specs.Told.{SawNotEnded}, proofs.{Telling.{tells-app}, PhaseSteps.{found-phase}, Stepping.{loads}}}
 use Rattle.word_board.proofs.kinds.phases.look_end.Goals as goal
 
 pub load-requires-clause-may : goal.load-requires-clause-may

@@ -1,12 +1,7 @@
-use Rattle.std.proofs.Common.{◌≡◌, ℕ, ◌+◌, false, sym, subst, arith}
-use Rattle.std.specs.Prelude.{◌==◌}
+use Rattle.std.{proofs.Common.{◌≡◌, ℕ, ◌+◌, false, sym, subst, arith}, specs.Prelude.{◌==◌}}
 use Rattle.board_face.specs.declared.views.nic.NicSide.{NicSide}
-use Rattle.ref_words.specs.PhaseSteps.{side_leave_looked}
-use Rattle.ref_words.specs.Rule.{BoardRule}
-use Rattle.ref_words.specs.Words.{phase_at}
-use Rattle.word_board.proofs.Telling.{tells-card}
-use Rattle.word_board.proofs.PhaseSteps.{found-phase}
-use Rattle.word_board.proofs.Stepping.{loads}
+use Rattle.ref_words.specs.{PhaseSteps.{side_leave_looked}, Rule.{BoardRule}, Words.{phase_at}}
+use Rattle.word_board.proofs.{Telling.{tells-card}, PhaseSteps.{found-phase}, Stepping.{loads}}
 use Rattle.word_board.proofs.kinds.phases.look_left.Goals as goal
 
 pub load-requires-clause-may : goal.load-requires-clause-may

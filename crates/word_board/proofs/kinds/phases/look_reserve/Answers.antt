@@ -1,12 +1,7 @@
-use Rattle.std.proofs.Common.{ℕ, set, ap, sym, ◌∙◌, subst, ◌≡◌}
-use Rattle.std.specs.Prelude.{◌==◌, false}
+use Rattle.std.{proofs.Common.{ℕ, set, ap, sym, ◌∙◌, subst, ◌≡◌}, specs.Prelude.{◌==◌, false}}
 use Rattle.board_face.specs.declared.views.app.AppSide.{AppSide}
-use Rattle.ref_words.specs.PhaseSteps.{side_reserve_looked}
-use Rattle.ref_words.specs.Rule.{BoardRule}
-use Rattle.ref_words.specs.Words.{pool_at, pool_of}
-use Rattle.ref_words.proofs.AppNumbers.{reserve_looked-number}
-use Rattle.word_board.proofs.Telling.{tells-app}
-use Rattle.word_board.proofs.Stepping.{loads, of-count, found}
+use Rattle.ref_words.{specs.{PhaseSteps.{side_reserve_looked}, Rule.{BoardRule}, Words.{pool_at, pool_of}}, proofs.AppNumbers.{reserve_looked-number}}
+use Rattle.word_board.proofs.{Telling.{tells-app}, Stepping.{loads, of-count, found}}
 use Rattle.word_board.proofs.kinds.phases.look_reserve.Goals as goal
 
 pub load-requires-clause-may : goal.load-requires-clause-may

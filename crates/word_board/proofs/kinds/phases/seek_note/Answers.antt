@@ -1,13 +1,7 @@
-use Rattle.std.proofs.Common.{◌≡◌, ℕ, ◌<◌, set, sym, subst, arith}
-use Rattle.std.specs.Prelude.{◌==◌, false}
+use Rattle.std.{proofs.Common.{◌≡◌, ℕ, ◌<◌, set, sym, subst, arith}, specs.Prelude.{◌==◌, false}}
 use Rattle.board_face.specs.declared.views.app.AppSide.{AppSide}
-use Rattle.ref_words.specs.PhaseSteps.{side_note_sought}
-use Rattle.ref_words.specs.Words.{note_at}
-use Rattle.ref_words.specs.Rings.{takes_note_at}
-use Rattle.ref_words.specs.Rule.{BoardRule}
-use Rattle.ref_words.proofs.AppNumbers.{note_sought-number}
-use Rattle.word_board.proofs.Telling.{tells-app}
-use Rattle.word_board.proofs.Stepping.{loads, found-note}
+use Rattle.ref_words.{specs.{PhaseSteps.{side_note_sought}, Words.{note_at}, Rings.{takes_note_at}, Rule.{BoardRule}}, proofs.AppNumbers.{note_sought-number}}
+use Rattle.word_board.proofs.{Telling.{tells-app}, Stepping.{loads, found-note}}
 use Rattle.word_board.proofs.kinds.phases.seek_note.Goals as goal
 
 pub load-requires-clause-may : goal.load-requires-clause-may

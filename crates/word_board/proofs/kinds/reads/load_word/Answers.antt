@@ -1,10 +1,7 @@
 use Rattle.std.proofs.Common.{◌≡◌, ℕ, zero, suc, ◌+◌, ◌%◌, List, length, refl, arith}
 use Rattle.zr_kinds.specs.declared.place.Place.{Place}
 use Rattle.board_face.specs.declared.views.app.AppSide.{AppSide}
-use Rattle.ref_words.specs.Area.{area_word}
-use Rattle.ref_words.specs.AreaLaws.{part_of}
-use Rattle.ref_words.specs.AreaSteps.{side_loaded}
-use Rattle.ref_words.proofs.AreaWords.{within-area}
+use Rattle.ref_words.{specs.{Area.{area_word}, AreaLaws.{part_of}, AreaSteps.{side_loaded}}, proofs.AreaWords.{within-area}}
 use Rattle.word_board.proofs.Stepping.{found-area, loads}
 use Rattle.word_board.proofs.kinds.reads.load_word.Goals as goal
 

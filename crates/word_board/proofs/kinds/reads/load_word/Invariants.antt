@@ -1,9 +1,7 @@
 -- The side after the step, and what it tells of a copied text, by the number that it found.
 use Rattle.std.specs.Prelude.{◌+◌, ◌%◌, ◌++◌, length}
-use Rattle.board_face.specs.AppCalls.{ShowsCopy}
-use Rattle.board_face.specs.AppEvents.{loan_origin}
-use Rattle.ref_words.specs.AreaLaws.{part_of}
-use Rattle.ref_words.specs.AreaSteps.{side_loaded}
+use Rattle.board_face.specs.{AppCalls.{ShowsCopy}, AppEvents.{loan_origin}}
+use Rattle.ref_words.specs.{AreaLaws.{part_of}, AreaSteps.{side_loaded}}
 use Rattle.word_board.proofs.kinds.reads.load_word.Given as goal
 
 abbrev pub ghosts-load : goal.ghosts-load

@@ -1,16 +1,9 @@
-use Rattle.std.proofs.Common.{◌≡◌, ℕ, ◌+◌, ◌-◌, ◌%◌, ◌≤◌, List}
-use Rattle.std.proofs.Common.{◌++◌, length, take, drop, refl, ap, sym, ◌∙◌, subst, arith}
-use borrow.Rule.Slice.PartMut.{put_mid}
-use Rattle.std.proofs.lemmas.Slice.{take-put_mid}
+use Rattle.std.proofs.{Common.{◌≡◌, ℕ, ◌+◌, ◌-◌, ◌%◌, ◌≤◌, List, ◌++◌, length, take, drop, refl, ap, sym, ◌∙◌, subst, arith}, lemmas.Slice.{take-put_mid}}
 use Rattle.std.proofs.lemmas.List.{length-append, length-take-le, length-drop}
-use Rattle.board_face.specs.AppCalls.{ShowsCopy}
-use Rattle.board_face.specs.AppEvents.{loan_origin, has_read}
-use Rattle.board_face.specs.Sides.{app_at}
-use Rattle.ref_words.specs.AreaLaws.{part_of}
-use Rattle.ref_words.specs.AreaSteps.{side_loaded}
-use Rattle.ref_words.proofs.TextsRead.{loaded-is}
-use Rattle.word_board.specs.Board.{TheApp}
-use Rattle.word_board.specs.Reads.{HasReadSoFar}
+use borrow.Rule.Slice.PartMut.{put_mid}
+use Rattle.board_face.specs.{AppCalls.{ShowsCopy}, AppEvents.{loan_origin, has_read}, Sides.{app_at}}
+use Rattle.ref_words.{specs.{AreaLaws.{part_of}, AreaSteps.{side_loaded}}, proofs.TextsRead.{loaded-is}}
+use Rattle.word_board.specs.{Board.{TheApp}, Reads.{HasReadSoFar}}
 use Rattle.word_board.proofs.kinds.reads.read_text.Goals as goal
 
 pub load_word-word-requires-clause-reads : goal.load_word-word-requires-clause-reads

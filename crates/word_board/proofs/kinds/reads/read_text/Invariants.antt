@@ -1,8 +1,6 @@
 -- So many bytes are read.
 use Rattle.std.specs.Prelude.{◌≡◌, ◌≤◌, ◌-◌, length, take}
-use Rattle.board_face.specs.AppCalls.{ShowsCopy}
-use Rattle.board_face.specs.AppEvents.{loan_origin, has_read}
-use Rattle.board_face.specs.Sides.{app_at}
+use Rattle.board_face.specs.{AppCalls.{ShowsCopy}, AppEvents.{loan_origin, has_read}, Sides.{app_at}}
 use Rattle.word_board.proofs.kinds.reads.read_text.Given as goal
 
 abbrev pub invariant-loop-done : goal.invariant-loop-done

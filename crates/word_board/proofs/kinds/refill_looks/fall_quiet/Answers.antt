@@ -1,7 +1,5 @@
-use Rattle.std.proofs.Common.{◌≡◌, ◌-◌, ◌∷◌, refl, ap, ◌∙◌, arith, subst}
-use Rattle.std.specs.Prelude.{Contains}
-use Rattle.word_board.specs.Board.{TheApp, TheBoard}
-use Rattle.word_board.proofs.Quieting.{AreSeenFree-more, sees-more}
+use Rattle.std.{proofs.Common.{◌≡◌, ◌-◌, ◌∷◌, refl, ap, ◌∙◌, arith, subst}, specs.Prelude.{Contains}}
+use Rattle.word_board.{specs.Board.{TheApp, TheBoard}, proofs.Quieting.{AreSeenFree-more, sees-more}}
 use Rattle.word_board.proofs.kinds.refill_looks.fall_quiet.Goals as goal
 
 pub loop-slot-init : goal.loop-slot-init

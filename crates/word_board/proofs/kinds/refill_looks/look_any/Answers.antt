@@ -1,12 +1,7 @@
-use Rattle.std.proofs.Common.{ℕ, set, sym, subst, arith, ◌≡◌}
-use Rattle.std.specs.Prelude.{◌==◌, false}
+use Rattle.std.{proofs.Common.{ℕ, set, sym, subst, arith, ◌≡◌}, specs.Prelude.{◌==◌, false}}
 use Rattle.board_face.specs.declared.views.app.AppSide.{AppSide}
-use Rattle.ref_words.specs.RestSteps.{side_any_looked}
-use Rattle.ref_words.specs.Words.{refill_at}
-use Rattle.ref_words.specs.Rule.{BoardRule}
-use Rattle.ref_words.proofs.AppNumbers.{any_looked-number}
-use Rattle.word_board.proofs.Telling.{tells-app}
-use Rattle.word_board.proofs.Stepping.{loads, found-refill}
+use Rattle.ref_words.{specs.{RestSteps.{side_any_looked}, Words.{refill_at}, Rule.{BoardRule}}, proofs.AppNumbers.{any_looked-number}}
+use Rattle.word_board.proofs.{Telling.{tells-app}, Stepping.{loads, found-refill}}
 use Rattle.word_board.proofs.kinds.refill_looks.look_any.Goals as goal
 
 pub load-requires-clause-may : goal.load-requires-clause-may

@@ -1,8 +1,7 @@
 use Rattle.std.proofs.Common.{subst, sym}
 use Rattle.atomic_table.specs.Table.{Splits}
 use Rattle.ref_words.specs.Seated.{dealt_out, due_view}
-use Rattle.word_board.specs.Board.{IsBoard}
-use Rattle.word_board.proofs.Dealing.{deals}
+use Rattle.word_board.{specs.Board.{IsBoard}, proofs.Dealing.{deals}}
 use Rattle.word_board.proofs.kinds.roles.deal_role.Goals as goal
 
 pub deal_as-requires-clause-splits : goal.deal_as-requires-clause-splits

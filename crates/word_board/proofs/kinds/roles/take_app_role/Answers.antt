@@ -1,8 +1,6 @@
 use Rattle.std.proofs.Common.{◌+◌, ◌<◌, [], ap, sym, ◌∙◌, subst, arith}
-use Rattle.board_face.specs.NicCalls.{apps_of}
-use Rattle.board_face.specs.Opened.{new_app}
-use Rattle.ref_words.specs.Words.{role_at}
-use Rattle.ref_words.specs.Seated.{app_view}
+use Rattle.board_face.specs.{NicCalls.{apps_of}, Opened.{new_app}}
+use Rattle.ref_words.specs.{Words.{role_at}, Seated.{app_view}}
 use Rattle.word_board.proofs.Dealing.{takes}
 use Rattle.word_board.proofs.kinds.roles.take_app_role.Goals as goal
 

@@ -1,7 +1,6 @@
 use Rattle.std.proofs.Common.{[], ap, sym, ◌∙◌, arith}
 use Rattle.board_face.specs.Opened.{new_nic}
-use Rattle.ref_words.specs.Words.{role_at}
-use Rattle.ref_words.specs.Seated.{card_view}
+use Rattle.ref_words.specs.{Words.{role_at}, Seated.{card_view}}
 use Rattle.word_board.proofs.Dealing.{takes}
 use Rattle.word_board.proofs.kinds.roles.take_card_role.Goals as goal
 

@@ -2,8 +2,7 @@ use Rattle.std.proofs.Common.{◌≡◌, refl, ap, sym, ◌∙◌, arith, subst}
 use Rattle.area_layout.specs.Layout.{total}
 use Rattle.board_face.proofs.ListLemmas.{not-eqb}
 use Rattle.ref_words.specs.Sides.{HasScrubLists}
-use Rattle.word_board.specs.Board.{TheBoard}
-use Rattle.word_board.proofs.Scrubs.{IsScrubbedBelow, IsScrubbedBelow-none, IsScrubbedBelow-more, IsScrubbedBelow-all}
+use Rattle.word_board.{specs.Board.{TheBoard}, proofs.Scrubs.{IsScrubbedBelow, IsScrubbedBelow-none, IsScrubbedBelow-more, IsScrubbedBelow-all}}
 use Rattle.word_board.proofs.kinds.scrubs.scrub_counts.Goals as goal
 
 pub loop-buffer-init : goal.loop-buffer-init

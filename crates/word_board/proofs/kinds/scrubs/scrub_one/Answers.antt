@@ -1,8 +1,6 @@
 use Rattle.std.proofs.Common.{◌≡◌, ap, ◌∙◌, arith}
-use Rattle.board_face.specs.declared.views.app.AppSide.{AppSide}
-use Rattle.board_face.specs.Steps.{side_user_taken}
-use Rattle.word_board.specs.Board.{TheApp}
-use Rattle.word_board.proofs.Scrubs.{took-nothing}
+use Rattle.board_face.specs.{declared.views.app.AppSide.{AppSide}, Steps.{side_user_taken}}
+use Rattle.word_board.{specs.Board.{TheApp}, proofs.Scrubs.{took-nothing}}
 use Rattle.word_board.proofs.kinds.scrubs.scrub_one.Goals as goal
 
 pub returns-else-n-gt0-clause-event : goal.returns-else-n-gt0-clause-event

@@ -1,5 +1,4 @@
-use Rattle.std.proofs.Common.{arith}
-use Rattle.std.proofs.lemmas.Nat.{trailing_le}
+use Rattle.std.proofs.{Common.{arith}, lemmas.Nat.{trailing_le}}
 use Rattle.word_board.proofs.kinds.spares.pick_in_word.Goals as goal
 
 pub overflow_mul-buffer : goal.overflow_mul-buffer

@@ -1,11 +1,7 @@
 use Rattle.std.proofs.Common.{refl, ap, sym, ◌∙◌, arith, subst}
 use Rattle.area_layout.specs.Layout.{pool_buffers}
-use Rattle.board_face.specs.AppCalls.{MaySpare}
-use Rattle.board_face.specs.Used.{PicksAreGiven}
-use Rattle.word_board.specs.Board.{TheApp, TheBoard}
-use Rattle.word_board.proofs.Searching.{IsSearching-more, seen-more}
-use Rattle.board_face.specs.AppEvents.{app_gist}
-use Rattle.word_board.specs.Told.{SawWithout, IsLowestSeen}
+use Rattle.board_face.specs.{AppCalls.{MaySpare}, Used.{PicksAreGiven}, AppEvents.{app_gist}}
+use Rattle.word_board.{specs.{Board.{TheApp, TheBoard}, Told.{SawWithout, IsLowestSeen}}, proofs.Searching.{IsSearching-more, seen-more}}
 use Rattle.word_board.proofs.kinds.spares.pick_listed.Goals as goal
 
 pub loop-word-init : goal.loop-word-init

@@ -1,8 +1,7 @@
 -- The words before this one have nothing for it.
 use Rattle.std.specs.Prelude.{◌≡◌, ℕ, ◌<◌}
 use Rattle.board_face.specs.AppEvents.{app_gist}
-use Rattle.word_board.specs.Told.{SawWithout}
-use Rattle.word_board.proofs.Searching.{IsSearching}
+use Rattle.word_board.{specs.Told.{SawWithout}, proofs.Searching.{IsSearching}}
 use Rattle.word_board.proofs.kinds.spares.pick_listed.Given as goal
 
 abbrev pub invariant-loop-word : goal.invariant-loop-word

@@ -1,10 +1,7 @@
 -- What was picked is held as a spare, and the search is over.
 use Rattle.std.proofs.Common.{[], false, ap, ◌∙◌, subst}
-use Rattle.board_face.specs.AppCalls.{HasNoneIn}
-use Rattle.board_face.specs.AppEvents.{got_spare}
-use Rattle.board_face.specs.Steps.{side_spare_begun}
-use Rattle.word_board.specs.Board.{TheApp}
-use Rattle.word_board.proofs.Searching.{hands-once}
+use Rattle.board_face.specs.{AppCalls.{HasNoneIn}, AppEvents.{got_spare}, Steps.{side_spare_begun}}
+use Rattle.word_board.{specs.Board.{TheApp}, proofs.Searching.{hands-once}}
 use Rattle.word_board.proofs.kinds.spares.spare_listed.Goals as goal
 
 pub returns-clause-event : goal.returns-clause-event

@@ -1,9 +1,7 @@
 use Rattle.std.proofs.Common.{sym, subst, ap, arith}
-use Rattle.board_face.specs.Steps.{HasSearched}
+use Rattle.board_face.specs.{Steps.{HasSearched}, NicCalls.{free_words_of}, declared.views.parts.Setting.{Setting}}
 use Rattle.word_board.specs.Board.{TheApp}
 use Rattle.area_layout.specs.Layout.{pool_buffers}
-use Rattle.board_face.specs.NicCalls.{free_words_of}
-use Rattle.board_face.specs.declared.views.parts.Setting.{Setting}
 use Rattle.word_board.proofs.kinds.spares.take_spare.Goals as goal
 
 pub take_reserve-requires-clause-searched : goal.take_reserve-requires-clause-searched

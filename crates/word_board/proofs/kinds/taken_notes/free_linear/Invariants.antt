@@ -1,6 +1,5 @@
 -- The side after the step, by the number that it found.
-use Rattle.board_face.specs.Texts.{IsLinearNote}
-use Rattle.board_face.specs.SlotSteps.{side_took_linear}
+use Rattle.board_face.specs.{Texts.{IsLinearNote}, SlotSteps.{side_took_linear}}
 use Rattle.ref_words.specs.SlotLaws.{loaded_note, loaded_bytes}
 use Rattle.word_board.proofs.kinds.taken_notes.free_linear.Given as goal
 

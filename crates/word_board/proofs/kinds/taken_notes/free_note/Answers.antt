@@ -1,8 +1,6 @@
 use Rattle.std.proofs.Common.{ℕ, ◌<◌, refl, subst, arith}
-use Rattle.board_face.specs.SlotSteps.{side_took_note}
-use Rattle.board_face.specs.declared.views.app.AppSide.{AppSide}
-use Rattle.ref_words.specs.Rings.{takes_note_at}
-use Rattle.ref_words.specs.SlotLaws.{loaded_note}
+use Rattle.board_face.specs.{SlotSteps.{side_took_note}, declared.views.app.AppSide.{AppSide}}
+use Rattle.ref_words.specs.{Rings.{takes_note_at}, SlotLaws.{loaded_note}}
 use Rattle.word_board.proofs.Stepping.{stores-note}
 use Rattle.word_board.proofs.kinds.taken_notes.free_note.Goals as goal
 

@@ -1,7 +1,5 @@
 -- The side after the step, by the number that it found.
-use Rattle.board_face.specs.AppCalls.{TookNote}
-use Rattle.board_face.specs.AppEvents.{took_note}
-use Rattle.board_face.specs.SlotSteps.{side_took_note}
+use Rattle.board_face.specs.{AppCalls.{TookNote}, AppEvents.{took_note}, SlotSteps.{side_took_note}}
 use Rattle.ref_words.specs.SlotLaws.{loaded_note}
 use Rattle.word_board.proofs.kinds.taken_notes.free_note.Given as goal
 

@@ -1,8 +1,6 @@
-use Rattle.std.proofs.Common.{◌≡◌, ℕ, ◌+◌, ◌<◌, length, take, drop, ap, sym, ◌∙◌, arith}
-use Rattle.std.proofs.lemmas.List.{length-take-le, take_all}
+use Rattle.std.proofs.{Common.{◌≡◌, ℕ, ◌+◌, ◌<◌, length, take, drop, ap, sym, ◌∙◌, arith}, lemmas.List.{length-take-le, take_all}}
 use Rattle.board_face.specs.SlotSteps.{seen_with, at_slot, side_slot_loaded}
-use Rattle.word_board.specs.Board.{TheApp}
-use Rattle.word_board.proofs.NoteLoaded.{still-full, still-long, one-loaded}
+use Rattle.word_board.{specs.Board.{TheApp}, proofs.NoteLoaded.{still-full, still-long, one-loaded}}
 use Rattle.word_board.proofs.kinds.taken_notes.load_fields.Goals as goal
 
 pub load_slot-requires-clause-so_far : goal.load_slot-requires-clause-so_far

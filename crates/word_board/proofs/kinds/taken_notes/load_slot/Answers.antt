@@ -1,9 +1,7 @@
 use Rattle.std.proofs.Common.{ℕ, ◌+◌, ◌<◌, length, set, refl, sym, subst}
-use Rattle.board_face.specs.SlotSteps.{side_slot_loaded}
-use Rattle.board_face.specs.declared.views.app.AppSide.{AppSide}
+use Rattle.board_face.specs.{SlotSteps.{side_slot_loaded}, declared.views.app.AppSide.{AppSide}}
 use Rattle.word_rings.specs.Slots.{note_width}
-use Rattle.ref_words.specs.Rings.{takes_note_at}
-use Rattle.ref_words.specs.Rule.{BoardRule}
+use Rattle.ref_words.specs.{Rings.{takes_note_at}, Rule.{BoardRule}}
 use Rattle.word_board.proofs.Stepping.{loads, found-note}
 use Rattle.word_board.proofs.kinds.taken_notes.load_slot.Goals as goal
 

@@ -1,20 +1,10 @@
-use Rattle.std.proofs.Common.{◌≡◌, ℕ, ◌+◌, ◌-◌, ◌/◌, List, [], ◌∷◌}
-use Rattle.std.proofs.Common.{◌++◌, length, take, get_or, ap, sym, ◌∙◌, subst, arith}
-use Rattle.std.specs.Prelude.{Some}
-use Rattle.std.proofs.lemmas.List.{length-take-le, take_all}
-use Rattle.std.proofs.lemmas.List.Elements.{Contains-push}
-use Rattle.board_face.specs.Lists.{without}
-use Rattle.board_face.specs.NicCalls.{HasOwn}
-use Rattle.board_face.specs.NicEvents.{placed}
-use Rattle.board_face.specs.Steps.{side_begun}
-use Rattle.board_face.specs.Tokens.{filled_by, next_place, same_filling}
-use Rattle.board_face.specs.declared.views.parts.Filling.{Filling}
-use Rattle.board_face.specs.declared.views.nic.NicSide.{NicSide}
-use Rattle.word_rings.specs.Texts.{text_count, text_words}
-use Rattle.word_rings.proofs.TextWords.{length-words_of}
+use Rattle.std.{proofs.Common.{◌≡◌, ℕ, ◌+◌, ◌-◌, ◌/◌, List, [], ◌∷◌, ◌++◌, length, take, get_or, ap, sym, ◌∙◌, subst, arith}, specs.Prelude.{Some}}
+use Rattle.std.proofs.lemmas.List.{length-take-le, take_all, Elements.{Contains-push}}
+use Rattle.board_face.specs.{Lists.{without}, NicCalls.{HasOwn}, NicEvents.{placed}, Steps.{side_begun}, Tokens.{filled_by, next_place, same_filling}}
+use Rattle.board_face.specs.declared.views.{parts.Filling.{Filling}, nic.NicSide.{NicSide}}
+use Rattle.word_rings.{specs.Texts.{text_count, text_words}, proofs.TextWords.{length-words_of}}
 use Rattle.ref_words.specs.AreaSteps.{made_words, side_piece_stored, side_piece_placed}
-use Rattle.word_board.specs.Board.{TheNic}
-use Rattle.word_board.proofs.TextPlaced.{word-more}
+use Rattle.word_board.{specs.Board.{TheNic}, proofs.TextPlaced.{word-more}}
 use Rattle.word_board.proofs.kinds.texts.place_text.Goals as goal
 
 -- how many words the text has

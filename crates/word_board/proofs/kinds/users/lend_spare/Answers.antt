@@ -1,6 +1,5 @@
 use Rattle.std.proofs.Common.{refl}
-use Rattle.word_board.proofs.LoansOut.{loans-few}
-use Rattle.word_board.proofs.Stepping.{raises-user}
+use Rattle.word_board.proofs.{LoansOut.{loans-few}, Stepping.{raises-user}}
 use Rattle.word_board.proofs.kinds.users.lend_spare.Goals as goal
 
 pub add-requires-clause-may : goal.add-requires-clause-may

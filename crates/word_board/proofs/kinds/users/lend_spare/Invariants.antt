@@ -1,8 +1,6 @@
 -- The side after the step, by the number that it found.
 use Rattle.std.specs.Prelude.{◌+◌, ◌^◌, ◌<◌}
-use Rattle.board_face.specs.Returns.{loans_out}
-use Rattle.board_face.specs.AppEvents.{lent_own}
-use Rattle.board_face.specs.Sides.{app_at}
+use Rattle.board_face.specs.{Returns.{loans_out}, AppEvents.{lent_own}, Sides.{app_at}}
 use Rattle.word_board.proofs.kinds.users.lend_spare.Given as goal
 
 abbrev pub ghosts-add : goal.ghosts-add

@@ -1,8 +1,6 @@
 use Rattle.std.proofs.Common.{ℕ, ◌==◌, ap, ◌∙◌}
-use Rattle.board_face.specs.declared.views.nic.NicSide.{NicSide}
-use Rattle.board_face.specs.Steps.{side_judged}
-use Rattle.ref_words.specs.Words.{user_at}
-use Rattle.ref_words.specs.Rule.{BoardRule}
+use Rattle.board_face.specs.{declared.views.nic.NicSide.{NicSide}, Steps.{side_judged}}
+use Rattle.ref_words.specs.{Words.{user_at}, Rule.{BoardRule}}
 use Rattle.word_board.proofs.Stepping.{looks, of-user}
 use Rattle.word_board.proofs.kinds.users.look_user.Goals as goal
 

@@ -1,8 +1,6 @@
 use Rattle.std.proofs.Common.{◌≡◌, ℕ, set, refl}
-use Rattle.board_face.specs.declared.views.app.AppSide.{AppSide}
-use Rattle.board_face.specs.Steps.{side_user_taken}
-use Rattle.ref_words.specs.Words.{user_at, with_user}
-use Rattle.ref_words.specs.Rule.{BoardRule}
+use Rattle.board_face.specs.{declared.views.app.AppSide.{AppSide}, Steps.{side_user_taken}}
+use Rattle.ref_words.specs.{Words.{user_at, with_user}, Rule.{BoardRule}}
 use Rattle.word_board.proofs.Stepping.{clears-user, of-user}
 use Rattle.word_board.proofs.kinds.users.scrub_user.Goals as goal
 

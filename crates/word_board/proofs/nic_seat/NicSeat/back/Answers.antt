@@ -1,12 +1,7 @@
 -- The card is over, and it was the first to come back.
-use Rattle.std.proofs.Common.{◌≡◌, ◌++◌, ◌∷◌, [], ◌≤◌, length, map, refl, ap, sym, ◌∙◌, subst}
-use Rattle.std.specs.Prelude.{is_none}
-use Rattle.ref_words.specs.Over.{CardIsOver}
-use Rattle.ref_words.specs.Seated.{both_sides, card_view}
-use Rattle.ref_words.specs.declared.view.View.{View}
-use Rattle.word_board.specs.Board.{HasDealt, TheNic}
-use Rattle.word_board.specs.Desk.{AreOver, AreServed, cache_back}
-use Rattle.word_board.proofs.AtDesk.{HasDealt-both, AreOver-card, cache-back}
+use Rattle.std.{proofs.Common.{◌≡◌, ◌++◌, ◌∷◌, [], ◌≤◌, length, map, refl, ap, sym, ◌∙◌, subst}, specs.Prelude.{is_none}}
+use Rattle.ref_words.specs.{Over.{CardIsOver}, Seated.{both_sides, card_view}, declared.view.View.{View}}
+use Rattle.word_board.{specs.{Board.{HasDealt, TheNic}, Desk.{AreOver, AreServed, cache_back}}, proofs.AtDesk.{HasDealt-both, AreOver-card, cache-back}}
 use Rattle.word_board.proofs.nic_seat.NicSeat.back.Goals as goal
 
 pub look_served-requires-clause-over : goal.look_served-requires-clause-over

@@ -1,11 +1,7 @@
 -- Behind an entry the next slot is the one after it.
-use Rattle.std.proofs.Common.{rules, ◌+◌, ◌%◌, get_or, ap, sym, ◌∙◌, subst}
-use Rattle.std.specs.Prelude.{◌≢◌}
-use Rattle.board_face.specs.declared.answers.Entry.TheVariants.{Empty}
-use Rattle.board_face.specs.declared.views.parts.Setting.{Setting}
-use Rattle.word_board.specs.Board.{TheBoard}
-use Rattle.word_board.specs.Hands.{KnowsLeft}
-use Rattle.word_board.proofs.CardKeeps.{NicKeeps-dealt, is-dealt, entry-within, few-apps, own-app}
+use Rattle.std.{proofs.Common.{rules, ◌+◌, ◌%◌, get_or, ap, sym, ◌∙◌, subst}, specs.Prelude.{◌≢◌}}
+use Rattle.board_face.specs.declared.{answers.Entry.TheVariants.{Empty}, views.parts.Setting.{Setting}}
+use Rattle.word_board.{specs.{Board.{TheBoard}, Hands.{KnowsLeft}}, proofs.CardKeeps.{NicKeeps-dealt, is-dealt, entry-within, few-apps, own-app}}
 use Rattle.word_board.proofs.nic_seat.NicSeatNicFace.entry.Goals as goal
 
 pub bounds-self-inside-app : goal.bounds-self-inside-app

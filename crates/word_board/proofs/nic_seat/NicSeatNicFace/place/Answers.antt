@@ -1,8 +1,7 @@
 -- The buffer's next bytes count as used, and it is of the pool as before.
 use Rattle.std.proofs.Common.{sym, subst}
 use Rattle.board_face.specs.NicCalls.{HasOwn}
-use Rattle.word_board.specs.Board.{TheNic}
-use Rattle.word_board.proofs.CardKeeps.{NicKeeps-placed}
+use Rattle.word_board.{specs.Board.{TheNic}, proofs.CardKeeps.{NicKeeps-placed}}
 use Rattle.word_board.proofs.nic_seat.NicSeatNicFace.place.Goals as goal
 
 pub invariant_of-self : goal.invariant_of-self

@@ -1,15 +1,8 @@
 -- Behind the note the next slot is the one after it.
-use Rattle.std.proofs.Common.{◌≡◌, ◌≤◌, ◌+◌, ◌*◌, ◌%◌, [], length, get_or, set as set_at, refl, ap, sym, ◌∙◌, subst, arith}
-use Rattle.std.specs.Prelude.{if◌then◌else◌, false}
-use Rattle.board_face.specs.NicEvents.{sent, text_at}
-use Rattle.board_face.specs.NotNow.{HasSentRingful}
-use Rattle.board_face.specs.SlotSteps.{side_sent, side_note_looked}
-use Rattle.board_face.specs.declared.views.nic.SentNote.{SentNote}
+use Rattle.std.{proofs.Common.{◌≡◌, ◌≤◌, ◌+◌, ◌*◌, ◌%◌, [], length, get_or, set as set_at, refl, ap, sym, ◌∙◌, subst, arith}, specs.Prelude.{if◌then◌else◌, false}}
+use Rattle.board_face.specs.{NicEvents.{sent, text_at}, NotNow.{HasSentRingful}, SlotSteps.{side_sent, side_note_looked}, declared.views.nic.SentNote.{SentNote}}
 use Rattle.board_face.specs.declared.views.parts.Setting.{Setting}
-use Rattle.word_board.specs.Board.{TheNic}
-use Rattle.word_board.proofs.CardKeeps.{NicKeeps-sent, note-within, few-apps, own-app}
-use Rattle.word_board.proofs.Implied.{full-sent}
-use Rattle.word_board.proofs.LeftKept.{KnowsLeft-sent}
+use Rattle.word_board.{specs.Board.{TheNic}, proofs.{CardKeeps.{NicKeeps-sent, note-within, few-apps, own-app}, Implied.{full-sent}, LeftKept.{KnowsLeft-sent}}}
 use Rattle.word_board.proofs.nic_seat.NicSeatNicFace.send.Goals as goal
 
 pub bounds-self-inside-app : goal.bounds-self-inside-app

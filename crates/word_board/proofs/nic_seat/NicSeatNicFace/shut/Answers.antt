@@ -1,10 +1,8 @@
 -- A pool buffer that comes to be free enters the cache where that has room.
-use Rattle.std.proofs.Common.{rules, ◌≡◌, ap, ◌∙◌}
-use Rattle.std.specs.Prelude.{◌&&◌, nat_lt}
+use Rattle.std.{proofs.Common.{rules, ◌≡◌, ap, ◌∙◌}, specs.Prelude.{◌&&◌, nat_lt}}
 use Rattle.area_layout.specs.Layout.{pool_buffers}
 use Rattle.board_face.specs.declared.views.parts.Setting.{Setting}
-use Rattle.word_board.proofs.CardKeeps.{NicKeeps-shut}
-use Rattle.word_board.proofs.nic_seat.NicSeatNicFace.shut.Goals.{then-last, else-last}
+use Rattle.word_board.proofs.{CardKeeps.{NicKeeps-shut}, nic_seat.NicSeatNicFace.shut.Goals.{then-last, else-last}}
 use Rattle.word_board.proofs.nic_seat.NicSeatNicFace.shut.Goals as goal
 
 pub invariant_of-self : goal.invariant_of-self

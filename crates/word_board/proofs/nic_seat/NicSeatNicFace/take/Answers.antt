@@ -1,12 +1,8 @@
 -- The buffer that entered the cache last is one of the pool, of which nothing is used.
 use Rattle.std.proofs.Common.{◌≡◌, ap, sym, ◌∙◌, subst}
 use Rattle.area_layout.specs.Layout.{size_of}
-use Rattle.board_face.specs.NicEvents.{fresh}
-use Rattle.board_face.specs.Tokens.{FitsBuffer, filling}
-use Rattle.board_face.specs.declared.views.parts.Setting.{Setting}
-use Rattle.board_face.proofs.TokenLemmas.{FitsBuffer-fresh}
-use Rattle.word_board.specs.Board.{TheNic}
-use Rattle.word_board.proofs.CardKeeps.{NicKeeps-took, TookBuffer-last}
+use Rattle.board_face.{specs.{NicEvents.{fresh}, Tokens.{FitsBuffer, filling}, declared.views.parts.Setting.{Setting}}, proofs.TokenLemmas.{FitsBuffer-fresh}}
+use Rattle.word_board.{specs.Board.{TheNic}, proofs.CardKeeps.{NicKeeps-took, TookBuffer-last}}
 use Rattle.word_board.proofs.nic_seat.NicSeatNicFace.take.Goals as goal
 
 pub new-requires : goal.new-requires

@@ -1,12 +1,7 @@
-use Rattle.std.proofs.Common.{rules, ◌≡◌, ℕ, true, false, [], sym, subst, refl, vec_capacity}
-use Rattle.std.specs.Prelude.{None}
+use Rattle.std.{proofs.Common.{rules, ◌≡◌, ℕ, true, false, [], sym, subst, refl, vec_capacity}, specs.Prelude.{None}}
 use Rattle.zr_kinds.specs.declared.behaviour.Stopped.TheVariants as stop
-use Rattle.zc_poll.specs.Standing.{Desk, StreamStands}
-use Rattle.zc_poll.proofs.PourNew.{new-pours, new_tally}
-use Rattle.zc_forward.specs.Sending.{OutboxState}
-use Rattle.zc_forward.specs.Forwarding.{ForwardStands}
-use Rattle.zc_forward.specs.OutboxOf.{outbox_of}
-use Rattle.zc_forward.proofs.Ends.{waits-forwards}
+use Rattle.zc_poll.{specs.Standing.{Desk, StreamStands}, proofs.PourNew.{new-pours, new_tally}}
+use Rattle.zc_forward.{specs.{Sending.{OutboxState}, Forwarding.{ForwardStands}, OutboxOf.{outbox_of}}, proofs.Ends.{waits-forwards}}
 use Rattle.zc_forward.proofs.forward.Forward.new.Goals as goal
 
 pub returns-clause-stands : goal.returns-clause-stands

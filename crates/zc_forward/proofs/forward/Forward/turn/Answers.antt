@@ -1,8 +1,6 @@
 use Rattle.std.proofs.Common.{sym, subst}
 use Rattle.board_face.specs.declared.views.app.AppView.{AppView}
-use Rattle.zc_forward.specs.OutboxOf.{outbox_of}
-use Rattle.zc_forward.specs.Forwarding.{ForwardStands}
-use Rattle.zc_forward.specs.Turns.{ForwardView, Stage, TurnDoes, stage_of}
+use Rattle.zc_forward.specs.{OutboxOf.{outbox_of}, Forwarding.{ForwardStands}, Turns.{ForwardView, Stage, TurnDoes, stage_of}}
 use Rattle.zc_forward.proofs.Forwards.{if-none, kept-forwards}
 use Rattle.zc_forward.proofs.forward.Forward.turn.Goals as goal
 

@@ -1,8 +1,5 @@
-use Rattle.std.proofs.Common.{◌≡◌, ◌<◌, ◌∙◌, None, sym, subst, ap, length, arith}
-use Rattle.std.specs.Prelude.{nat_eq}
-use Rattle.std.specs.Map.{lookup}
-use Rattle.zc_forward.specs.Carriage.{AreOut}
-use Rattle.zc_forward.proofs.Out.{one_more}
+use Rattle.std.{proofs.Common.{◌≡◌, ◌<◌, ◌∙◌, None, sym, subst, ap, length, arith}, specs.{Prelude.{nat_eq}, Map.{lookup}}}
+use Rattle.zc_forward.{specs.Carriage.{AreOut}, proofs.Out.{one_more}}
 use Rattle.zc_forward.proofs.shelf_carrier.ShelfCarrierCarrier.begin.Goals as goal
 
 pub push-requires : goal.push-requires

@@ -1,6 +1,5 @@
 use Rattle.std.proofs.Common.{sym, subst}
-use Rattle.zc_forward.specs.Carriage.{AreOut}
-use Rattle.zc_forward.proofs.Out.{none_out}
+use Rattle.zc_forward.{specs.Carriage.{AreOut}, proofs.Out.{none_out}}
 use Rattle.zc_forward.proofs.shelf_carrier.ShelfCarrierCarrier.cancel.Goals as goal
 
 pub invariant_of-self : goal.invariant_of-self

@@ -1,6 +1,5 @@
 use Rattle.std.proofs.Common.{◌∙◌, ap, sym, subst, Some, arith}
-use Rattle.zc_forward.specs.Tags.{TakesTag}
-use Rattle.zc_forward.proofs.Out.{oldest_is, one_less, same_beside}
+use Rattle.zc_forward.{specs.Tags.{TakesTag}, proofs.Out.{oldest_is, one_less, same_beside}}
 use Rattle.zc_forward.proofs.shelf_carrier.ShelfCarrierCarrier.notice.Goals as goal
 
 pub invariant_of-self-2 : goal.invariant_of-self-2

@@ -1,5 +1,4 @@
-use Rattle.zc_poll.specs.DeskOf.{desk_of}
-use Rattle.zc_poll.proofs.Keeping.{stands-abandoned}
+use Rattle.zc_poll.{specs.DeskOf.{desk_of}, proofs.Keeping.{stands-abandoned}}
 use Rattle.zc_poll.proofs.stream.LoanStream.abandon.Goals as goal
 
 pub returns-clause-stands : goal.returns-clause-stands

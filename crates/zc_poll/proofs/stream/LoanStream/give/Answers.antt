@@ -1,15 +1,8 @@
-use Rattle.std.proofs.Common.{◌≡◌}
-use Rattle.std.specs.Prelude.{Result, Ok, Err, MatchResult}
+use Rattle.std.{proofs.Common.{◌≡◌}, specs.Prelude.{Result, Ok, Err, MatchResult}}
 use Rattle.zr_kinds.specs.declared.place.Place.{Place}
-use Rattle.board_face.specs.AppCalls.{AppOnlySaw}
-use Rattle.board_face.specs.AppEvents.{gave}
-use Rattle.board_face.specs.declared.views.app.AppLook.TheVariants.{RefillInUse}
-use Rattle.board_face.specs.declared.views.app.AppView.{AppView}
-use Rattle.zc_poll.specs.Standing.{Desk, StreamStands}
-use Rattle.zc_poll.specs.DeskOf.{desk_of}
-use Rattle.zc_poll.proofs.Keeping.{stands-gave, saw-stands}
+use Rattle.board_face.specs.{AppCalls.{AppOnlySaw, HasLoan}, AppEvents.{gave}, declared.views.app.{AppLook.TheVariants.{RefillInUse}, AppView.{AppView}}}
+use Rattle.zc_poll.{specs.{Standing.{Desk, StreamStands}, DeskOf.{desk_of}}, proofs.Keeping.{stands-gave, saw-stands}}
 use Rattle.zc_poll.proofs.stream.LoanStream.give.Goals as goal
-use Rattle.board_face.specs.AppCalls.{HasLoan}
 
 by-answer : {A : Type 0} (st : Desk) (old new : AppView) (loan : Place) (result : Result A Place) → StreamStands st old → HasLoan old loan
     → MatchResult result (λ _. new ≡ gave old loan) (λ back. (back ≡ loan) × AppOnlySaw RefillInUse old new) → StreamStands st new

@@ -1,7 +1,6 @@
 use Rattle.flow_queues.specs.declared.queues.Lending.{Lending}
-use Rattle.zc_poll.specs.DeskOf.{desk_of}
+use Rattle.zc_poll.{specs.DeskOf.{desk_of}, proofs.Keeping.{read-stands, read-text}}
 use Rattle.std.proofs.Common.{rules, ◌+◌, ◌≤◌, length}
-use Rattle.zc_poll.proofs.Keeping.{read-stands, read-text}
 use Rattle.zc_poll.proofs.stream.LoanStream.read.Goals as goal
 
 pub returns-clause-stands : goal.returns-clause-stands

@@ -1,6 +1,5 @@
 use Rattle.std.proofs.Common.{◌≡◌, ◌+◌, ◌-◌, refl, sym, subst, ◌∙◌, arith}
-use Rattle.zc_poll.specs.Standing.{NoneInOrder}
-use Rattle.zc_poll.proofs.Passing.{passed-then, passed-still, stepped-then}
+use Rattle.zc_poll.{specs.Standing.{NoneInOrder}, proofs.Passing.{passed-then, passed-still, stepped-then}}
 use Rattle.zc_poll.proofs.stream.LoanStream.step.Goals as goal
 
 pub returns-in-Some-take_note-clause-steps : goal.returns-in-Some-take_note-clause-steps

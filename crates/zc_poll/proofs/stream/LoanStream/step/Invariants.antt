@@ -1,8 +1,6 @@
 -- As many notes were taken as turns were made, and nothing is in order.
 use Rattle.std.specs.Prelude.{◌≡◌, ◌-◌, ◌≤◌, false}
-use Rattle.zc_poll.specs.Standing.{NoneInOrder}
-use Rattle.zc_poll.specs.DeskOf.{desk_of}
-use Rattle.zc_poll.specs.Steps.{Passed}
+use Rattle.zc_poll.specs.{Standing.{NoneInOrder}, DeskOf.{desk_of}, Steps.{Passed}}
 use Rattle.zc_poll.proofs.stream.LoanStream.step.Given as goal
 
 abbrev pub invariant-loop-left : goal.invariant-loop-left

@@ -1,6 +1,4 @@
-use Rattle.zc_poll.specs.DeskOf.{desk_of}
-use Rattle.zc_poll.specs.Steps.{Unlent}
-use Rattle.zc_poll.proofs.Released.{stopped-stands, stopped-unlent}
+use Rattle.zc_poll.{specs.{DeskOf.{desk_of}, Steps.{Unlent}}, proofs.Released.{stopped-stands, stopped-unlent}}
 use Rattle.zc_poll.proofs.stream.LoanStream.stop.Goals as goal
 
 pub returns-clause-stands : goal.returns-clause-stands

@@ -1,10 +1,7 @@
 use Rattle.std.proofs.Common.{List, ap, ◌∙◌}
-use Rattle.flow_table.specs.declared.plain.placed.PlacedByte.{PlacedByte}
-use Rattle.flow_table.specs.declared.plain.placed.PlainPlaced.{PlainPlaced}
-use Rattle.flow_table.specs.Plain.{byte_in}
-use Rattle.flow_table.proofs.Placing.{placed_more, passed_over}
-use Rattle.flow_table.proofs.plain.placed.PlainPlaced.fill.Goals as goal
+use Rattle.flow_table.{specs.{declared.plain.placed.{PlacedByte.{PlacedByte}, PlainPlaced.{PlainPlaced}}, Plain.{byte_in}}, proofs.Placing.{placed_more, passed_over}}
 use Rattle.flow_table.proofs.plain.placed.PlainPlaced.fill.Goals.{then-place-ge-BIAS+in_ok-push, else-place-ge-BIAS}
+use Rattle.flow_table.proofs.plain.placed.PlainPlaced.fill.Goals as goal
 
 pub loop-i-preserved : goal.loop-i-preserved
 loop-i-preserved c = elim c.if-place-ge-BIAS.branch [

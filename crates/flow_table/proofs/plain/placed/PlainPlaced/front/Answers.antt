@@ -1,5 +1,4 @@
-use Rattle.flow_table.specs.Plain.{byte_in, placed_shown}
-use Rattle.flow_table.proofs.Placing.{front_begins, front_goes_on}
+use Rattle.flow_table.{specs.Plain.{byte_in, placed_shown}, proofs.Placing.{front_begins, front_goes_on}}
 use Rattle.flow_table.proofs.plain.placed.PlainPlaced.front.Goals as goal
 
 pub loop-position-init : goal.loop-position-init

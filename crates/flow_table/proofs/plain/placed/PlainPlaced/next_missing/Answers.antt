@@ -1,6 +1,5 @@
 use Rattle.std.proofs.Common.{is_some, sym, ap, ◌∙◌}
-use Rattle.flow_table.specs.Plain.{byte_in}
-use Rattle.flow_table.proofs.Placing.{missing_within-more}
+use Rattle.flow_table.{specs.Plain.{byte_in}, proofs.Placing.{missing_within-more}}
 use Rattle.flow_table.proofs.plain.placed.PlainPlaced.next_missing.Goals as goal
 
 pub loop-position-preserved : goal.loop-position-preserved

@@ -1,11 +1,7 @@
 use Rattle.std.proofs.Common.{List, ap, ◌∙◌}
-use Rattle.worker_runs.specs.declared.plain.frames.PlainMark.{PlainMark}
-use Rattle.worker_runs.specs.declared.plain.placed.PlacedMark.{PlacedMark}
-use Rattle.worker_runs.specs.declared.plain.placed.PlainPlaced.{PlainPlaced}
-use Rattle.worker_runs.specs.Plain.{mark_in}
-use Rattle.worker_runs.proofs.Placing.{placed_more, passed_over}
+use Rattle.worker_runs.specs.{declared.plain.{frames.PlainMark.{PlainMark}, placed.{PlacedMark.{PlacedMark}, PlainPlaced.{PlainPlaced}}}, Plain.{mark_in}}
+use Rattle.worker_runs.proofs.{Placing.{placed_more, passed_over}, plain.placed.PlainPlaced.fill.Goals.{then-place-ge-BIAS+in_ok-push, else-place-ge-BIAS}}
 use Rattle.worker_runs.proofs.plain.placed.PlainPlaced.fill.Goals as goal
-use Rattle.worker_runs.proofs.plain.placed.PlainPlaced.fill.Goals.{then-place-ge-BIAS+in_ok-push, else-place-ge-BIAS}
 
 pub loop-i-preserved : goal.loop-i-preserved
 loop-i-preserved c =

@@ -1,5 +1,4 @@
-use Rattle.worker_runs.specs.Plain.{mark_in, placed_shown}
-use Rattle.worker_runs.proofs.Placing.{front_begins, front_goes_on}
+use Rattle.worker_runs.{specs.Plain.{mark_in, placed_shown}, proofs.Placing.{front_begins, front_goes_on}}
 use Rattle.worker_runs.proofs.plain.placed.PlainPlaced.front.Goals as goal
 
 pub loop-position-init : goal.loop-position-init

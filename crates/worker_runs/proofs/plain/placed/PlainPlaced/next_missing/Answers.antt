@@ -1,6 +1,5 @@
 use Rattle.std.proofs.Common.{sym, ◌∙◌}
-use Rattle.worker_runs.specs.Plain.{mark_in, mark_shown}
-use Rattle.worker_runs.proofs.Placing.{missing_within-more}
+use Rattle.worker_runs.{specs.Plain.{mark_in, mark_shown}, proofs.Placing.{missing_within-more}}
 use Rattle.worker_runs.proofs.plain.placed.PlainPlaced.next_missing.Goals as goal
 
 pub loop-position-preserved : goal.loop-position-preserved
