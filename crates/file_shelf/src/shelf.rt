@@ -20,8 +20,9 @@ pub struct Lost {
 }
 
 /// Keeps flow n in the file `flow-n.bin` of the current folder, for n up to 65,535. The file is made anew at the flow's first
-/// append. It tells no bytes, and counts the errors of the system and of memory; an append to a flow from 65,536 on counts as
-/// one.
+/// append. What is appended is gathered, up to so many bytes of each open file, and written as there is more, as the file is
+/// closed, and at `flush`. It tells no bytes, and counts the errors of the system and of memory; an append to a flow from 65,536
+/// on counts as one.
 #[derive(Drop)]
 pub struct FileShelf<'a, R: Files + AllocGlobal> {
     rt: R,
@@ -42,11 +43,17 @@ impl<'a, R: Files + AllocGlobal> Model for FileShelf<'a, R> {
 
 impl<'a, R: Files + AllocGlobal + Drop> FileShelf<'a, R> {
     /// No flow has a file of this run yet. At most `most` files are open at a time, or one where that is 0: the one that was used
-    /// longest ago is closed before another is opened. `flows` rises with each flow that gets a file.
-    pub fn new(rt: R, most: usize, flows: &'a AtomicU64) -> Result<FileShelf<'a, R>, AllocError>
+    /// longest ago is closed before another is opened. Of each open file `gathered` bytes are gathered; where that is 0 each piece
+    /// is written by the append that brings it. `flows` rises with each flow that gets a file.
+    pub fn new(
+        rt: R,
+        most: usize,
+        gathered: usize,
+        flows: &'a AtomicU64,
+    ) -> Result<FileShelf<'a, R>, AllocError>
         ensures { IfOk result (λ s. s ≡ 0) }
     {
-        let files = FlowFiles::new(&rt, most)?;
+        let files = FlowFiles::new(&rt, most, gathered)?;
         Ok(FileShelf {
             rt,
             files,
@@ -62,6 +69,19 @@ impl<'a, R: Files + AllocGlobal + Drop> FileShelf<'a, R> {
     }
 }
 
+impl<R: Files + AllocGlobal> FileShelf<'_, R> {
+    /// Counts what failed.
+    fn count<V>(&mut self, result: Result<V, Lost>) -> Result<V, Failed>
+        ensures { MatchResult result (λ _. self.new ≡ self.old) (λ _. self.new ≡ raised self.old) }
+    {
+        result.map_err(|lost| {
+            self.lost = self.lost.or(Some(lost));
+            self.faults = self.faults.saturating_add(1);
+            Failed
+        })
+    }
+}
+
 impl<R: Files + AllocGlobal> Shelf for FileShelf<'_, R> {
     ghost kept = { λ _ _. None };
 
@@ -74,16 +94,20 @@ impl<R: Files + AllocGlobal> Shelf for FileShelf<'_, R> {
 
         ensures after { MatchResult result (λ _. self.new ≡ self.old) (λ _. self.new ≡ raised self.old) }
     {
-        match self.files.add(&self.rt, flow, piece) {
-            Ok(made) => {
-                self.flows.fetch_add(u64::from(made), Ordering::SeqCst);
-                Ok(())
-            }
-            Err(error) => {
-                self.lost = self.lost.or(Some(Lost { flow, error }));
-                self.faults = self.faults.saturating_add(1);
-                Err(Failed)
-            }
-        }
+        let added = self.files.add(&self.rt, flow, piece);
+        let made = self.count(added)?;
+        self.flows.fetch_add(u64::from(made), Ordering::SeqCst);
+        Ok(())
+    }
+
+    /// Writes what is gathered, and closes all files. Where that fails at several, it is one fault.
+    fn flush(&mut self) -> Result<(), Failed>
+        ensures bytes { (flow : ℕ) → Keeps None None }
+        ensures cause { HasCause self.old self.new result }
+
+        ensures after { MatchResult result (λ _. self.new ≡ self.old) (λ _. self.new ≡ raised self.old) }
+    {
+        let closed = self.files.close_all();
+        self.count(closed)
     }
 }

@@ -1,5 +1,5 @@
 //! A shelf over memory.
-ghost use Rattle.std.specs.{Prelude.{◌≡◌, ℕ, ◌<◌, ◌+◌, ◌-◌, ◌++◌, ◌≢◌, ◌⊎◌, ◌↔◌, [], Some, length, replicate, nat_lt, slice_index_or, slice_set, IsErr, IsSome, IfOk, MatchResult, if◌then◌else◌}, Io.KnownBytes.{Keeps}};
+ghost use Rattle.std.specs.{Prelude.{◌≡◌, ℕ, ◌<◌, ◌+◌, ◌-◌, ◌++◌, ◌≢◌, ◌⊎◌, ◌↔◌, [], Some, length, replicate, nat_lt, slice_index_or, slice_set, IsErr, IsOk, IsSome, IfOk, MatchResult, if◌then◌else◌}, Io.KnownBytes.{Keeps}};
 ghost use Rattle.zr_io.specs.{Moved.{AddsPiece, HasCause}, Memory.{raised, next_entry, front_out, kept_of, room_of, flows_with}, Reserved.{AreReserved, bytes_of}};
 
 use crate::calls::{entry_for, raise, receive};
@@ -93,6 +93,16 @@ impl Shelf for MemShelf {
             raise(&mut self.faults);
         }
         result
+    }
+
+    /// Nothing is kept back, so it is none of the calls that may fail.
+    fn flush(&mut self) -> Result<(), Failed>
+        ensures bytes { (flow : ℕ) → Keeps (Some (kept_of self.old flow)) (Some (kept_of self.new flow)) }
+        ensures cause { HasCause self.old.faults self.new.faults result }
+
+        ensures after { IsOk result × (self.new ≡ self.old) }
+    {
+        Ok(())
     }
 }
 

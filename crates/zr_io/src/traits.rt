@@ -49,4 +49,9 @@ pub trait Shelf {
         ensures bytes { AddsPiece (kept self.old flow) (kept self.new flow) result piece.now }
         ensures others { (other : ℕ) → other ≢ flow → Keeps (kept self.old other) (kept self.new other) }
         ensures cause { HasCause (faults self.old) (faults self.new) result };
+
+    /// Hands on what it keeps back of any flow, as a buffered writer's flush does. What is kept of each stays as it was.
+    fn flush(&mut self) -> Result<(), Failed>
+        ensures bytes { (flow : ℕ) → Keeps (kept self.old flow) (kept self.new flow) }
+        ensures cause { HasCause (faults self.old) (faults self.new) result };
 }
