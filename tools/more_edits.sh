@@ -8,7 +8,8 @@ copy=$(mktemp -d)
 trap 'rm -rf "$copy"' EXIT
 git clone -q . "$copy/zcrx"
 for name in $names; do
-    cp -r "more-edits/$name" "$copy/zcrx/crates/$name/must-fail"
+    mkdir -p "$copy/zcrx/crates/$name/must-fail"
+    cp "more-edits/$name"/*.edit "$copy/zcrx/crates/$name/must-fail"
 done
 cd "$copy/zcrx"
 # shellcheck disable=SC2086
