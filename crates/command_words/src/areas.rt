@@ -11,7 +11,7 @@ use clap::ArgMatches;
 use std::alloc::{AllocError, Global};
 
 /// An area, written as its number of buffers, a colon and their size.
-fn read_area(text: &str) -> Option<(u32, u32)>
+pub(crate) fn read_area(text: &str) -> Option<(u32, u32)>
     ensures { result ≡ area_of text.now }
 {
     let (buffers, size) = text.split_once(':')?;

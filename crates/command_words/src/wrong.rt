@@ -1,6 +1,6 @@
 //! What is wrong with words that have no reading, for people to read. No clause speaks of it: `read_words` decides.
 
-use crate::areas::{few_areas, fit_together};
+use crate::areas::{few_areas, fit_together, read_area};
 use crate::making::MOST_FRAMES;
 use crate::numbers::{read_port, read_up_to};
 use crate::options::{BUFFERS, FLAGS, NAMES, OWN, are_turns, range_of, read_size, takes};
@@ -8,7 +8,7 @@ use arrayvec::ArrayVec;
 use std::fmt;
 
 /// What is wrong with a command's words: the first that has no place among those before it, where one can be named.
-#[derive(Clone, Copy, Debug, PartialEq, Eq)]
+#[derive(Clone, Copy)]
 pub enum Wrong<'a> {
     /// There is no word.
     NoWord,
@@ -28,6 +28,8 @@ pub enum Wrong<'a> {
         value: &'a str,
         range: &'static str,
     },
+    /// This part of the areas is none.
+    NoArea(&'a str),
     /// This is no port.
     NoPort(&'a str),
     /// The port stands a second time.
@@ -46,6 +48,8 @@ pub enum Wrong<'a> {
     Only(&'static str, &'static str),
     /// Beside areas neither a number of buffers nor a size may stand.
     BesideAreas,
+    /// `make` takes no options.
+    OfNoOptions(&'a str),
     /// `make` takes no such number here.
     NoNumber {
         value: &'a str,
@@ -70,6 +74,10 @@ impl fmt::Display for Wrong<'_> {
                 f,
                 "--{name} takes {range}, not '{value}'"
             ),
+            Wrong::NoArea(part) => write!(
+                f,
+                "--areas takes parts COUNT:SIZE, a number from 1 to 4096 and a power of two from 1024 to 65536, not '{part}'"
+            ),
             Wrong::NoPort(word) => write!(f, "'{word}' is no port, a number from 1 to 65535"),
             Wrong::SamePort(word) => write!(f, "port {word} stands twice"),
             Wrong::Portless => f.write_str("there is no port"),
@@ -83,6 +91,7 @@ impl fmt::Display for Wrong<'_> {
             Wrong::Beside(one, other) => write!(f, "--{one} stands without --{other}"),
             Wrong::Only(flag, option) => write!(f, "--{flag} stands only with --{option}"),
             Wrong::BesideAreas => f.write_str("--areas stands without --buffers and --size"),
+            Wrong::OfNoOptions(word) => write!(f, "make takes no option, as '{word}'"),
             Wrong::NoNumber { value, range } => write!(f, "make takes {range}, not '{value}'"),
             Wrong::NotTwoNumbers => f.write_str("make wants two numbers"),
             Wrong::Further(word) => write!(f, "check takes no word more, as '{word}'"),
@@ -172,8 +181,7 @@ impl<'a> SaidSoFar<'a> {
 
     fn option(&mut self, name: &'a str, value: &'a str) -> Result<(), Wrong<'a>> {
         if !takes(name, value) {
-            let range = range_of(name);
-            return Err(Wrong::Value { name, value, range });
+            return Err(wrong_value(name, value));
         }
         match name {
             "areas" => self.areas = Some(value),
@@ -213,6 +221,18 @@ impl<'a> SaidSoFar<'a> {
             }),
             _ => wrong_pool(self.areas, self.buffers, self.size),
         }
+    }
+}
+
+/// What is wrong with a value that the option doesn't take: of areas the first part that is none, where there is one.
+fn wrong_value<'a>(name: &'a str, value: &'a str) -> Wrong<'a> {
+    match value.split(',').find(|part| read_area(part).is_none()) {
+        Some(part) if name == "areas" => Wrong::NoArea(part),
+        _ => Wrong::Value {
+            name,
+            value,
+            range: range_of(name),
+        },
     }
 }
 
@@ -261,25 +281,31 @@ fn wrong_replay<'a>(words: &[&'a str]) -> Result<Option<Wrong<'a>>, Wrong<'a>> {
                     None => said.option(name, value_behind(name, words.next())?)?,
                 }
             }
-            _ if options && word.starts_with('-') && word.len() > 1 => {
-                return Err(Wrong::NoOption(word));
-            }
+            _ if options && is_dashed(word) => return Err(Wrong::NoOption(word)),
             _ => said.port(word)?,
         }
     }
     Ok(said.whole())
 }
 
+/// Whether a word looks like an option.
+fn is_dashed(word: &str) -> bool {
+    word.starts_with('-') && word.len() > 1
+}
+
 /// The word behind an option, which is its value where it doesn't look like an option.
 fn value_behind<'a>(name: &'a str, word: Option<&&'a str>) -> Result<&'a str, Wrong<'a>> {
     match word {
-        Some(word) if !word.starts_with('-') || word.len() == 1 => Ok(word),
+        Some(word) if !is_dashed(word) => Ok(word),
         _ => Err(Wrong::NoValue(name)),
     }
 }
 
 /// What is wrong with the words behind `make`.
 fn wrong_make<'a>(words: &[&'a str]) -> Option<Wrong<'a>> {
+    if let Some(word) = words.iter().copied().find(|word| is_dashed(word)) {
+        return Some(Wrong::OfNoOptions(word));
+    }
     match words {
         [seed, frames] => wrong_number(seed, u32::MAX, "a seed from 0 to 4294967295").or(
             wrong_number(frames, MOST_FRAMES, "0 to 1000000 frames"),

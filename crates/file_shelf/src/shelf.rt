@@ -71,10 +71,10 @@ impl<'a, R: Files + AllocGlobal + Drop> FileShelf<'a, R> {
 
 impl<R: Files + AllocGlobal> FileShelf<'_, R> {
     /// Counts what failed.
-    fn count<V>(&mut self, result: Result<V, Lost>) -> Result<V, Failed>
+    fn count<V>(&mut self, outcome: Result<V, Lost>) -> Result<V, Failed>
         ensures { MatchResult result (λ _. self.new ≡ self.old) (λ _. self.new ≡ raised self.old) }
     {
-        result.map_err(|lost| {
+        outcome.map_err(|lost| {
             self.lost = self.lost.or(Some(lost));
             self.faults = self.faults.saturating_add(1);
             Failed

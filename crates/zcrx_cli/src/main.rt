@@ -64,7 +64,7 @@ fn make_shelves<'a, R: Files + AllocGlobal>(
 {
     let mut shelves = Vec::with_capacity(rt.alloc(), SHELVES)?;
     for _ in 0..SHELVES {
-        shelves.push(FileShelf::new(rt, files / SHELVES, flows)?)?;
+        shelves.push(FileShelf::new(rt, files / SHELVES, 0, flows)?)?;
     }
     Ok(shelves)
 }
