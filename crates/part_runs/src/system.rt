@@ -1,9 +1,10 @@
+//! A source over a reader, and a sink over a writer.
 ghost use Rattle.std.specs.Prelude.{◌≤◌, IfOk};
 
-use super::next;
-use crate::{Failed, Sink, StdSink, StdSource};
+use crate::calls::{expect_bytes, expect_reads, expect_writes};
 use std::io::{self, ErrorKind, Read, Write};
-use std::test::*;
+use std::process::Abort;
+use zr_io::{Failed, StdSink, StdSource};
 
 /// Gives or takes one byte a call, until it is used up.
 #[derive(Drop)]
@@ -83,12 +84,22 @@ impl Write for Lossy {
     }
 }
 
+/// A source fails once with this error, and gives what comes behind it only at the next call.
+fn expect_late(rt: &impl Abort, kind: ErrorKind) {
+    let mut source = StdSource::new(Late { error: Some(kind) });
+    expect_reads(rt, &mut source, &[Err(Failed), Ok(b"l")]);
+}
+
+/// A sink whose writer takes so many bytes, one at a call, answers so.
+fn expect_worn(rt: &impl Abort, calls: u8, end: End, pieces: &[(&[u8], Result<(), Failed>)]) {
+    let mut sink = StdSink::new(Worn { calls, end });
+    expect_writes(rt, &mut sink, pieces);
+}
+
 #[test]
 fn a_source_reads_a_slice(rt: HostRuntime) {
     let mut source = StdSource::new(&b"hello"[..]);
-    let mut room = [0; 8];
-    assert_eq!(rt; next(&mut source, &mut room), Ok(&b"hello"[..]));
-    assert_eq!(rt; next(&mut source, &mut room), Ok(&b""[..]));
+    expect_reads(&rt, &mut source, &[Ok(b"hello"), Ok(b"")]);
 }
 
 #[test]
@@ -97,55 +108,51 @@ fn a_source_fails_with_its_reader(rt: HostRuntime) {
         calls: 1,
         end: End::Error,
     });
-    let mut room = [0; 8];
-    assert_eq!(rt; next(&mut source, &mut room), Ok(&b"w"[..]));
-    assert_eq!(rt; next(&mut source, &mut room), Err(Failed));
+    expect_reads(&rt, &mut source, &[Ok(b"w"), Err(Failed)]);
 }
 
 /// The reader would give bytes at a second try.
 #[test]
 fn a_source_tries_no_failed_read_again(rt: HostRuntime) {
-    for kind in [ErrorKind::Interrupted, ErrorKind::BrokenPipe] {
-        let mut source = StdSource::new(Late { error: Some(kind) });
-        let mut room = [0; 8];
-        assert_eq!(rt; next(&mut source, &mut room), Err(Failed));
-        assert_eq!(rt; next(&mut source, &mut room), Ok(&b"l"[..]));
-    }
+    expect_late(&rt, ErrorKind::Interrupted);
+    expect_late(&rt, ErrorKind::BrokenPipe);
 }
 
 #[test]
-fn a_sink_sends_the_whole_piece(rt: HostRuntime) -> Result<(), Fail> {
+fn a_sink_sends_the_whole_piece(rt: HostRuntime) {
     let mut bytes = Vec::new(rt.alloc());
     let mut sink = StdSink::new(&mut bytes);
-    assert_eq!(rt; sink.write_all(b"hello"), Ok(()));
+    expect_writes(&rt, &mut sink, &[(b"hello", Ok(()))]);
     drop(sink);
-    assert_eq!(rt; bytes.as_slice(), &b"hello"[..]);
-    Ok(())
+    expect_bytes(&rt, &bytes, b"hello");
 }
 
 #[test]
 fn a_sink_fails_with_its_writer(rt: HostRuntime) {
-    let mut sink = StdSink::new(Worn {
-        calls: 3,
-        end: End::Error,
-    });
-    assert_eq!(rt; sink.write_all(b"he"), Ok(()));
-    assert_eq!(rt; sink.write_all(b"llo"), Err(Failed));
+    expect_worn(
+        &rt,
+        3,
+        End::Error,
+        &[(b"he", Ok(())), (b"llo", Err(Failed))],
+    );
 }
 
 #[test]
 fn a_sink_fails_where_nothing_is_taken(rt: HostRuntime) {
-    let mut sink = StdSink::new(Worn {
-        calls: 0,
-        end: End::Nothing,
-    });
-    assert_eq!(rt; sink.write_all(b""), Ok(()));
-    assert_eq!(rt; sink.write_all(b"hello"), Err(Failed));
+    expect_worn(
+        &rt,
+        0,
+        End::Nothing,
+        &[(b"", Ok(())), (b"hello", Err(Failed))],
+    );
 }
 
 #[test]
 fn a_sink_fails_where_its_writer_cannot_be_flushed(rt: HostRuntime) {
     let mut sink = StdSink::new(Lossy);
-    assert_eq!(rt; sink.write_all(b"hello"), Err(Failed));
-    assert_eq!(rt; sink.write_all(b""), Err(Failed));
+    expect_writes(
+        &rt,
+        &mut sink,
+        &[(b"hello", Err(Failed)), (b"", Err(Failed))],
+    );
 }

@@ -1,4 +1,4 @@
-use crate::FileShelf;
+use file_shelf::FileShelf;
 use std::sync::atomic::{AtomicU64, Ordering};
 use std::test::*;
 use std::{fs, io};

@@ -1,6 +1,6 @@
 use Rattle.std.proofs.Common.{sym, ◌∙◌}
 use Rattle.tcp_reorder.proofs.Parts.{may_be_taken}
-use Rattle.tcp_reorder.proofs.tests.offer.Goals as goal
+use Rattle.part_runs.proofs.reassembly.offer.Goals as goal
 
 pub take-requires-clause-accepted : goal.take-requires-clause-accepted
 take-requires-clause-accepted c =

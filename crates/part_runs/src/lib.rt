@@ -1,0 +1,25 @@
+//! Tests of the small crates, from the words that all share to the generator of captures.
+#![tactic(auto)]
+
+#[cfg(test)]
+mod calls;
+#[cfg(test)]
+mod events;
+#[cfg(test)]
+mod faults;
+#[cfg(test)]
+mod files;
+#[cfg(test)]
+mod headers;
+#[cfg(test)]
+mod making;
+#[cfg(test)]
+mod memory;
+#[cfg(test)]
+mod reassembly;
+#[cfg(test)]
+mod ring;
+#[cfg(test)]
+mod system;
+#[cfg(test)]
+mod words;
