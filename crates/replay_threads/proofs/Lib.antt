@@ -1,13 +1,2 @@
-mod Rings
-mod Beginnings
-mod CardTurns
-mod LaneTurns
-mod Leavings
-mod Pourings
-mod ReaderTurns
-mod Joined
-mod SideBySide
-mod Starts
 mod AllOver
-mod Reversed
 mod Told

@@ -1,43 +1,16 @@
 //! All turns of a run: the reading and the roles side by side, and rounds for what is left.
 ghost use Rattle.std.specs.Prelude.{◌≡◌, true, All, IsTrue};
 ghost use Rattle.card_feed.specs.Feed.{IsReady};
-ghost use Rattle.replay_threads.specs.{Cards.{CardGoes}, Reader.{ReaderGoes}, Lanes.{AllGo}};
+ghost use Rattle.capture_beside.specs.{Cards.{CardGoes}, Reader.{ReaderGoes}};
+ghost use Rattle.app_lanes.specs.Lanes.{AllGo};
 
-use crate::beside::{IDLE, Loops};
-use crate::card::{CardLane, Went, paced_turn, run_card};
-use crate::gate::Gate;
-use crate::lane::{have_left, lanes_go_on, round, run_lanes};
-use crate::pace::Pace;
-use crate::reader::Reader;
-use crate::reading::{read_turn, run_reader};
-use crate::sits::Sits;
+use app_lanes::{Sits, have_left, lanes_go_on, round, run_lanes};
+use capture_beside::{CardLane, Pace, Reader, Went, join_reading, paced_turn, read_turn};
+use run_loops::{Gate, IDLE, Loops};
 use std::alloc::Global;
 use std::sync::Wait;
 use std::thread::{Threads, available_parallelism, join_mut};
 use zr_io::Source;
-
-/// The loops of the reading and of the card.
-fn join_reading<S: Source + Send, G: Gate + Sync, R: Threads + Wait + Sync>(
-    rt: &R,
-    gate: &G,
-    beside: &Loops,
-    free: u32,
-    source: &mut S,
-    reader: &mut Reader,
-    card: &mut CardLane<'_>,
-)
-    requires ready { IsReady card.old.feed card.old.seat.side.view }
-    ensures reader { ReaderGoes S.left S.faults source.old source.new reader.old reader.new }
-    ensures card { CardGoes card.old card.new }
-{
-    join_mut(
-        rt,
-        &mut || run_reader(rt, beside, source, reader),
-        &mut ||
-            requires { IsReady card.now.feed card.now.seat.side.view }
-        { run_card(rt, gate, beside, free, card) },
-    );
-}
 
 /// The loops of all.
 fn join_loops<S: Source + Send, W: Sits + Send, G: Gate + Sync, R: Threads + Wait + Sync>(

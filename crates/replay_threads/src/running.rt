@@ -4,21 +4,18 @@ ghost use Rattle.board_face.specs.{NicCalls.{apps_of, IsOpen, HasNoToken}, decla
 ghost use Rattle.card_feed.specs.{Feed.{IsReady, new_feed}, Plan.{IsPlan, layout_of}};
 ghost use Rattle.run_account.specs.Ran.{HasReadOn, LacksMemoryBeside, Ran, told_of};
 ghost use Rattle.word_board.specs.{Board.{card_of, new_desk}, Desk.{AllAreBack}};
-ghost use Rattle.replay_threads.specs.{Played.{HasPlayed}, Reader.{IsOpened}, Seated.{AreStarts, left_end}};
+ghost use Rattle.replay_threads.specs.Played.{HasPlayed};
+ghost use Rattle.capture_beside.specs.Reader.{IsOpened};
+ghost use Rattle.app_lanes.specs.Seated.{AreStarts, left_end};
 
-use crate::card::CardLane;
-use crate::dropping::drop_rest;
-use crate::gate::Gate;
-use crate::lane::Lane;
 use crate::moving::move_last;
 use crate::playing::play;
-use crate::reading::{Opened, open_reading};
-use crate::seated::{Left, Start};
-use crate::seating::{close_lanes, open_lanes};
-use crate::starting::new_starts;
+use app_lanes::{Lane, Left, Start, close_lanes, new_starts, open_lanes};
 use area_layout::Layout;
+use capture_beside::{CardLane, Opened, drop_rest, open_reading};
 use card_feed::{Feed, Outcome, Plan, new_feeds_stand};
 use run_account::{runs_are_told, runs_end_well, tell};
+use run_loops::Gate;
 use std::alloc::{AllocError, Global};
 use std::collections::hash_map::RandomState;
 use std::sync::Wait;

@@ -1,5 +1,6 @@
 -- The turns so far.
-use Rattle.replay_threads.specs.{Cards.{CardGoes}, Lanes.{AllGo}, Reader.{ReaderGoes}}
+use Rattle.capture_beside.specs.{Cards.{CardGoes}, Reader.{ReaderGoes}}
+use Rattle.app_lanes.specs.Lanes.{AllGo}
 use Rattle.replay_threads.proofs.playing.play_rounds.Given as goal
 
 abbrev pub invariant-loop : goal.invariant-loop

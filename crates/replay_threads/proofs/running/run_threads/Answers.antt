@@ -1,7 +1,8 @@
 -- A whole run: the shelves that were set aside stand behind the others again.
 use Rattle.std.{proofs.{Common.{◌≡◌, Option, Some, ◌++◌, [], length, map, ap, ◌∙◌, subst, sym, arith}, lemmas.List.{length-map}}, specs.Prelude.{IfSome, reverse}}
 use Rattle.run_account.specs.Ran.{TellsOfEnds}
-use Rattle.replay_threads.{specs.Seated.{left_end}, proofs.{Reversed.{put-back, set-aside}, Told.{on-err, run-lacks, run-told}}}
+use Rattle.app_lanes.{specs.Seated.{left_end}, proofs.Reversed.{put-back, set-aside}}
+use Rattle.replay_threads.proofs.Told.{on-err, run-lacks, run-told}
 use Rattle.replay_threads.proofs.running.run_threads.Goals as goal
 
 -- what an option has, where it has some

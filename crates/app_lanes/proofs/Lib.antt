@@ -1,0 +1,7 @@
+mod Beginnings
+pub mod LaneTurns
+pub mod Leavings
+mod Pourings
+pub mod SideBySide
+mod Starts
+pub mod Reversed

@@ -1,0 +1,44 @@
+-- A turn of an application goes on with its part of the run.
+use Rattle.std.proofs.Common.{◌≡◌, ◌≢◌, true, false, ◌∙◌, subst}
+use Rattle.app_worker.specs.{Turns.{Answers}, declared.turn.Turn.TheVariants.{Finished}}
+use Rattle.run_account.{specs.declared.run.Worker.{Worker}, proofs.Workers.{goes-on}}
+use Rattle.app_lanes.proofs.seated.take_turn.Goals.{in-Finished, in_default}
+use Rattle.app_lanes.proofs.seated.take_turn.Goals as goal
+
+pub returns : goal.returns
+returns g c =
+    let step = c.app_turn-turn.ensures in
+    let own = c.args.own.now in
+    let result = c.app_turn-turn.result in
+    let old = own.seat.side.view in
+    let new = c.app_turn-turn.new.face.side.view in
+    let w_now : Worker = record { state = c.app_turn-turn.new.st; left = c.match-matches.own } in
+    let shelf = own.shelf in
+    let shelf_now = c.app_turn-turn.new.shelf in
+    let is_left : w_now.left ≡ true → result ≡ Finished = λ is. elim c.match-matches.branch [
+      | in-Finished w ↦ w.in-Finished.is
+      | in_default w ↦ let not : c.match-matches.own ≡ false = w.own-is in absurd (cc)
+    ] in
+    let not_left : w_now.left ≡ false → result ≢ Finished = λ is same. elim c.match-matches.branch [
+      | in-Finished w ↦ let left : c.match-matches.own ≡ true = w.own-is in absurd (cc)
+      | in_default w ↦ w.in_default.not-Finished same
+    ] in
+    let finished = λ (left : w_now.left ≡ true). subst
+    (λ turn. Answers own.worker.state w_now.state old new (g.T.Shelf.faults shelf) (g.T.Shelf.faults shelf_now) turn) (is_left left) step.turns.answer in
+    record {
+      goes = record {
+        board = step.beside;
+        app = step.turns.goes.moves.same.1;
+        fits = record {
+          side = record {
+            stands = step.turns.stands;
+            here = λ left. step.turns.here (not_left left) ∙ c.requires.fits.side.here c.requires.here;
+            gone = λ left. ((finished left).1, (finished left).2);
+          };
+        };
+        runs = λ first count how runs. goes-on first (g.T.Shelf.kept shelf) (g.T.Shelf.kept shelf_now) count (g.T.Shelf.faults shelf)
+            (g.T.Shelf.faults shelf_now) how old new own.worker w_now result runs step.turns step.later is_left
+            (record { fronts = step.fronts _; failed = step.failed _; whole = step.whole _; copies = step.copies; counts = step.counts })
+            (λ left. (finished left).2) step.still;
+      };
+    }

@@ -1,0 +1,37 @@
+-- How the applications go on at their seats.
+use Rattle.std.specs.Prelude.{◌≡◌, ℕ, suc, ◌<◌, List, [], ◌∷◌, length, slice_index_or, All, Option, ⊤}
+use Rattle.board_face.specs.Opened.{new_app}
+use Rattle.word_board.specs.Board.{TheBoard}
+use Rattle.app_lanes.specs.{Seated.{Fits, SeatedGoes, seat_of}, declared.lane.Lane.{Lane}}
+
+-- ---- turns
+
+-- Each went on, by this relation.
+pub record AllGo {W : Type 0} (goes : W → W → Type 0) (was now : List W) : Type 0 where
+  pub many : length now ≡ length was
+  pub each : (i : ℕ) (d : W) → i < length was → goes (slice_index_or was i d) (slice_index_or now i d)
+
+-- what the application keeps fits its side
+abbrev pub LaneFits : {T : Type 0} → (T → ℕ → Option (List ℕ)) → (T → ℕ) → Lane T → Type 0
+LaneFits kept losses lane = Fits kept losses lane.seated
+
+-- some turns of the application
+abbrev pub LaneGoes : {T : Type 0} → (T → ℕ → Option (List ℕ)) → (T → ℕ) → Lane T → Lane T → Type 0
+LaneGoes kept losses was now = SeatedGoes kept losses was.seated now.seated
+
+abbrev pub LanesFit : {T : Type 0} → (T → ℕ → Option (List ℕ)) → (T → ℕ) → List (Lane T) → Type 0
+LanesFit kept losses lanes = All (LaneFits kept losses) lanes
+
+abbrev pub LanesGo : {T : Type 0} → (T → ℕ → Option (List ℕ)) → (T → ℕ) → List (Lane T) → List (Lane T) → Type 0
+LanesGo kept losses was now = AllGo (LaneGoes kept losses) was now
+
+-- ---- seats
+
+-- the lanes of the applications from a number on, in order, none of which has done anything
+abbrev pub AreAtOpening : {T : Type 0} → TheBoard → ℕ → List (Lane T) → Type 0
+AreAtOpening board number [] = ⊤
+AreAtOpening board number (lane ∷ lanes) =
+    (seat_of lane.seated ≡ record { board = board; side = new_app board.setting number }) × AreAtOpening board (suc number) lanes
+
+abbrev pub AreAtBoard : {T : Type 0} → TheBoard → List (Lane T) → Type 0
+AreAtBoard board lanes = All (λ lane. (seat_of lane.seated).board ≡ board) lanes

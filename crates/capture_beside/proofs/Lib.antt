@@ -1,0 +1,4 @@
+mod Rings
+pub mod CardTurns
+pub mod ReaderTurns
+pub mod Joined

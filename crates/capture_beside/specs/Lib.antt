@@ -1,0 +1,4 @@
+pub mod Cards
+pub mod Carried
+pub mod Made
+pub mod Reader
