@@ -1,3 +1,5 @@
 pub mod Text
 pub mod CardHand
 pub mod AppHand
+pub mod Flush
+pub mod Reader

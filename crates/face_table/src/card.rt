@@ -1,13 +1,13 @@
 ghost use Rattle.std.specs.Prelude.{◌≡◌, ◌↔◌, IsTrue};
 ghost use Rattle.board_face.specs.{Texts.{IsSplitNote, IsLinearNote}, Opened.{new_nic_view}, declared.views.parts.Setting.{Setting}};
-ghost use Rattle.face_table.specs.CardHand.{IsCardHand, CardTells, PlaceTells, SendLinearTells};
+ghost use Rattle.face_table.specs.CardHand.{IsCardHand};
 
 use crate::{Answer, Text};
 use board_face::{NicFace, Own, Piece};
 use zr_kinds::{Note, Place};
 
 /// A call of the card, by the name of the face's call, with what it takes but for tokens.
-#[derive(Clone, Copy, Debug)]
+#[derive(Clone, Copy)]
 pub enum CardCall {
     Apps,
     Places,
@@ -26,7 +26,7 @@ pub enum CardCall {
 }
 
 /// The card's tokens that are out, one of each kind at most, and what is known of its face.
-#[derive(Debug, Drop)]
+#[derive(Drop)]
 pub struct CardHand {
     own: Option<Own>,
     piece: Option<Piece>,
@@ -57,7 +57,6 @@ impl CardHand {
 pub fn card_call<F: NicFace>(face: &mut F, hand: &mut CardHand, call: CardCall) -> Answer
     requires { IsCardHand (F.seen face.old) hand.old }
     ensures hand { IsCardHand (F.seen face.new) hand.new }
-    ensures tells { CardTells (F.seen face.old) (F.seen face.new) hand.old call result }
     ensures beside { F.beside face.new ≡ F.beside face.old }
 {
     match call {
@@ -82,7 +81,6 @@ pub fn card_call<F: NicFace>(face: &mut F, hand: &mut CardHand, call: CardCall) 
 pub fn take<F: NicFace>(face: &mut F, hand: &mut CardHand) -> Answer
     requires { IsCardHand (F.seen face.old) hand.old }
     ensures hand { IsCardHand (F.seen face.new) hand.new }
-    ensures tells { CardTells (F.seen face.old) (F.seen face.new) hand.old CardCall.Take result }
     ensures beside { F.beside face.new ≡ F.beside face.old }
 {
     if hand.ended || hand.own.is_some() {
@@ -102,7 +100,6 @@ pub fn take<F: NicFace>(face: &mut F, hand: &mut CardHand) -> Answer
 pub fn sweep<F: NicFace>(face: &mut F, hand: &CardHand, word: u32) -> Answer
     requires { IsCardHand (F.seen face.old) hand.now }
     ensures hand { IsCardHand (F.seen face.new) hand.now }
-    ensures tells { CardTells (F.seen face.old) (F.seen face.new) hand.now (CardCall.Sweep word) result }
     ensures beside { F.beside face.new ≡ F.beside face.old }
 {
     if face.cached() >= 64 || word >= face.free_words() {
@@ -115,7 +112,6 @@ pub fn sweep<F: NicFace>(face: &mut F, hand: &CardHand, word: u32) -> Answer
 pub fn entry<F: NicFace>(face: &mut F, hand: &CardHand, app: u32) -> Answer
     requires { IsCardHand (F.seen face.old) hand.now }
     ensures hand { IsCardHand (F.seen face.new) hand.now }
-    ensures tells { CardTells (F.seen face.old) (F.seen face.new) hand.now (CardCall.Entry app) result }
     ensures beside { F.beside face.new ≡ F.beside face.old }
 {
     if app >= face.apps() {
@@ -129,7 +125,6 @@ pub fn entry<F: NicFace>(face: &mut F, hand: &CardHand, app: u32) -> Answer
 pub fn place<F: NicFace>(face: &mut F, hand: &mut CardHand, bytes: &[u8]) -> Answer
     requires { IsCardHand (F.seen face.old) hand.old }
     ensures hand { IsCardHand (F.seen face.new) hand.new }
-    ensures tells { PlaceTells (F.seen face.old) (F.seen face.new) hand.old bytes.now result }
     ensures beside { F.beside face.new ≡ F.beside face.old }
 {
     if hand.ended || hand.piece.is_some() || bytes.is_empty() {
@@ -152,7 +147,6 @@ pub fn place<F: NicFace>(face: &mut F, hand: &mut CardHand, bytes: &[u8]) -> Ans
 pub fn send<F: NicFace>(face: &mut F, hand: &mut CardHand, app: u32, note: Note) -> Answer
     requires { IsCardHand (F.seen face.old) hand.old }
     ensures hand { IsCardHand (F.seen face.new) hand.new }
-    ensures tells { CardTells (F.seen face.old) (F.seen face.new) hand.old (CardCall.Send app note) result }
     ensures beside { F.beside face.new ≡ F.beside face.old }
 {
     if hand.ended || app >= face.apps() || !is_split_note(&note) {
@@ -184,7 +178,6 @@ pub fn send_linear<F: NicFace>(
 ) -> Answer
     requires { IsCardHand (F.seen face.old) hand.now }
     ensures hand { IsCardHand (F.seen face.new) hand.now }
-    ensures tells { SendLinearTells (F.seen face.old) (F.seen face.new) hand.now app note bytes.now result }
     ensures beside { F.beside face.new ≡ F.beside face.old }
 {
     if hand.ended || app >= face.apps() {
@@ -200,7 +193,6 @@ pub fn send_linear<F: NicFace>(
 pub fn shut<F: NicFace>(face: &mut F, hand: &mut CardHand) -> Answer
     requires { IsCardHand (F.seen face.old) hand.old }
     ensures hand { IsCardHand (F.seen face.new) hand.new }
-    ensures tells { CardTells (F.seen face.old) (F.seen face.new) hand.old CardCall.Shut result }
     ensures beside { F.beside face.new ≡ F.beside face.old }
 {
     if hand.ended {
@@ -219,7 +211,6 @@ pub fn shut<F: NicFace>(face: &mut F, hand: &mut CardHand) -> Answer
 pub fn end<F: NicFace>(face: &mut F, hand: &mut CardHand) -> Answer
     requires { IsCardHand (F.seen face.old) hand.old }
     ensures hand { IsCardHand (F.seen face.new) hand.new }
-    ensures tells { CardTells (F.seen face.old) (F.seen face.new) hand.old CardCall.End result }
     ensures beside { F.beside face.new ≡ F.beside face.old }
 {
     if hand.own.is_some() || hand.piece.is_some() {
@@ -234,7 +225,6 @@ pub fn end<F: NicFace>(face: &mut F, hand: &mut CardHand) -> Answer
 pub fn left<F: NicFace>(face: &mut F, hand: &CardHand, app: u32) -> Answer
     requires { IsCardHand (F.seen face.old) hand.now }
     ensures hand { IsCardHand (F.seen face.new) hand.now }
-    ensures tells { CardTells (F.seen face.old) (F.seen face.new) hand.now (CardCall.Left app) result }
     ensures beside { F.beside face.new ≡ F.beside face.old }
 {
     if app >= face.apps() {

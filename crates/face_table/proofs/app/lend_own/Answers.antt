@@ -15,9 +15,3 @@ returns-clause-hand g c =
     let gone : owns_without (g.F.AppFace.seen c.args.face.now) c.in-Some.own ≡ [] = owns-spare _ _ _ c.requires (search rules) in
     let none : (g.F.AppFace.seen c.args.face.now).loans ≡ [] = loans-none _ _ c.requires (search rules) in
     search (rules, gone, none)
-
-pub returns-clause-tells : goal.returns-clause-tells
-returns-clause-tells g c =
-    let many : length (own_bytes (g.F.AppFace.seen c.args.face.now) c.in-Some.own)
-    ≡ c.args.hand.now.filled = own_bytes-spare _ _ _ c.requires (search rules) in
-    search (rules, many)

@@ -6,7 +6,7 @@ use Rattle.board_face.specs.{declared.views.app.{AppLook.TheVariants.{CardEnded,
 use Rattle.board_face.specs.{declared.views.app.{Reading.{Reading}, AppView.{AppView}}, Texts.{IsSplitNote, IsLinearNote}, Looks.{AppLooksStay, same_app_look}}
 use Rattle.board_face.{specs.AppEvents.{took_note, took_linear, told_end, lent, abandoned, gave}, proofs.LookLemmas.{times-more}}
 use Rattle.zr_kinds.specs.declared.place.{Place.{Place}, Note.{Note}}
-use Rattle.face_callers.specs.Reader.{GoesOn, ReadsOf, HasNothing, Serves, bytes_read}
+use Rattle.face_table.specs.Reader.{GoesOn, ReadsOf, HasNothing, Serves, bytes_read}
 
 pub GoesOn-push : (origin : Origin) (from : ℕ) (rs : List Reading) (middle : ℕ) (bytes : List ℕ) → GoesOn origin from rs middle
     → GoesOn origin from (rs ++ record { origin = further origin middle; bytes = bytes } ∷ []) (middle + length bytes)

@@ -1,7 +1,7 @@
 use Rattle.std.{proofs.Common.{◌≡◌}, specs.VecDeque.{deque_len}}
 use Rattle.board_face.specs.NicCalls.{IsOpen}
-use Rattle.face_callers.specs.Flush.{IsReady, Sends}
-use Rattle.face_callers.proofs.pending.flush.Given as goal
+use Rattle.face_table.specs.Flush.{IsReady, Sends}
+use Rattle.face_table.proofs.pending.flush.Given as goal
 
 abbrev pub invariant-loop-next : goal.invariant-loop-next
 invariant-loop-next g l = record {

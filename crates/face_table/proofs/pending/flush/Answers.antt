@@ -1,6 +1,6 @@
-use Rattle.face_callers.proofs.Sending.{IsReady-sent, Sends-sent}
+use Rattle.face_table.proofs.Sending.{IsReady-sent, Sends-sent}
 use Rattle.board_face.proofs.LookLemmas.{NicRose-later}
-use Rattle.face_callers.proofs.pending.flush.Goals as goal
+use Rattle.face_table.proofs.pending.flush.Goals as goal
 
 pub loop-next-preserved : goal.loop-next-preserved
 loop-next-preserved g c =

@@ -1,6 +1,6 @@
 use Rattle.std.proofs.Common.{◌≡◌, ◌-◌, ◌≤◌, length}
-use Rattle.face_callers.specs.Reader.{ReadsOf}
-use Rattle.face_callers.proofs.reader.read_whole.Given as goal
+use Rattle.face_table.specs.Reader.{ReadsOf}
+use Rattle.face_table.proofs.reader.read_whole.Given as goal
 
 abbrev pub invariant-loop-from : goal.invariant-loop-from
 invariant-loop-from g l = record {

@@ -1,7 +1,7 @@
 -- What a flush of pending notes needs and does.
 use Rattle.std.specs.Prelude.{◌≡◌, ◌<◌, List, ◌++◌, map, All}
 use Rattle.board_face.specs.{Looks.{NicLooksStay}, Texts.{IsSplitNote}, NicCalls.{apps_of}, declared.views.nic.NicView.{NicView}}
-use Rattle.face_callers.specs.declared.pending.Pending.{Pending}
+use Rattle.face_table.specs.declared.pending.Pending.{Pending}
 
 -- The pieces that are out are those of the pending notes, in order, and each note may be sent.
 pub record IsReady (v : NicView) (pending : List Pending) : Type 0 where

@@ -1,6 +1,6 @@
 use Rattle.std.proofs.Common.{◌≡◌, ◌+◌, length, arith, sym, ◌∙◌, length-take, length-drop, length-append}
-use Rattle.face_callers.{specs.Reader.{ReadsOf}, proofs.Serving.{ReadsOf-more}}
-use Rattle.face_callers.proofs.reader.read_whole.Goals as goal
+use Rattle.face_table.{specs.Reader.{ReadsOf}, proofs.Serving.{ReadsOf-more}}
+use Rattle.face_table.proofs.reader.read_whole.Goals as goal
 
 pub loop-from-preserved : goal.loop-from-preserved
 loop-from-preserved g c =

@@ -3,7 +3,7 @@ use Rattle.std.specs.Prelude.{◌≡◌, ℕ, ◌+◌, List, [], ◌∷◌, ◌+
 use Rattle.zr_kinds.specs.declared.place.Place.{Place}
 use Rattle.board_face.specs.{Texts.{further}, Looks.{AppLooksStay, AppRose}, AppEvents.{loan_origin}, declared.views.app.{Origin.{Origin}, Reading.{Reading}}}
 use Rattle.board_face.specs.declared.views.app.{TakenNote.{TakenNote}, AppLook.TheVariants.{NoNote, CardEnded, RefillInUse}, AppView.{AppView}}
-use Rattle.face_callers.specs.declared.reader.Served.{Served, TheVariants.{All as all_taken, NoNote as no_note, Ended as ended, RefillFull as refill_full}}
+use Rattle.face_table.specs.declared.reader.Served.{Served, TheVariants.{All as all_taken, NoNote as no_note, Ended as ended, RefillFull as refill_full}}
 
 -- the readings go on from byte to byte of one origin, up to a number of bytes
 abbrev pub GoesOn : Origin → ℕ → List Reading → ℕ → Type 0

@@ -2,7 +2,7 @@
 use Rattle.std.proofs.{Common.{◌≡◌, ◌<◌, List, [], ◌∷◌, ◌++◌, map, append_assoc}, lemmas.List.{map-append, Elements.{All-head, All-tail}}}
 use Rattle.board_face.specs.{Texts.{IsSplitNote}, NicEvents.{sent}, NicCalls.{apps_of}, declared.views.nic.NicView.{NicView}}
 use Rattle.board_face.proofs.ListLemmas.{places-without_first}
-use Rattle.face_callers.specs.{declared.pending.Pending.{Pending}, Flush.{IsReady, Sends}}
+use Rattle.face_table.specs.{declared.pending.Pending.{Pending}, Flush.{IsReady, Sends}}
 
 pub IsReady-sent : (v : NicView) (p : Pending) (ps : List Pending) → IsReady v (p ∷ ps) → IsReady (sent v p.app p.note) ps
 IsReady-sent v p ps ready = record {

@@ -1,6 +1,6 @@
 ghost use Rattle.std.specs.Prelude.{◌≡◌};
 ghost use Rattle.board_face.specs.AppCalls.{IsHere, HasLoan, CanLend};
-ghost use Rattle.face_callers.specs.Reader.{ReadsOf, HasNothing, Serves, Stopped};
+ghost use Rattle.face_table.specs.Reader.{ReadsOf, HasNothing, Serves, Stopped};
 
 use board_face::{AppFace, Loan, Polled};
 

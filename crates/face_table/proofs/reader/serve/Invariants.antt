@@ -1,7 +1,7 @@
 use Rattle.std.proofs.Common.{◌≡◌, ◌+◌, length}
 use Rattle.board_face.specs.AppCalls.{IsHere, CanLend}
-use Rattle.face_callers.specs.Reader.{HasNothing, Serves}
-use Rattle.face_callers.proofs.reader.serve.Given as goal
+use Rattle.face_table.specs.Reader.{HasNothing, Serves}
+use Rattle.face_table.proofs.reader.serve.Given as goal
 
 abbrev pub invariant-loop : goal.invariant-loop
 invariant-loop g l = record {

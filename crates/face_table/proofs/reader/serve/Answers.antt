@@ -1,7 +1,7 @@
 use Rattle.std.proofs.Common.{◌∙◌, arith, length-append}
-use Rattle.face_callers.proofs.Serving.{Serves-CameBack, Serves-took_linear, Serves-told_end, CameBack-turn_abandoned, CameBack-turn_gave}
-use Rattle.face_callers.proofs.reader.serve.Goals.{in-Note+in_default, in-Linear}
-use Rattle.face_callers.proofs.reader.serve.Goals as goal
+use Rattle.face_table.proofs.Serving.{Serves-CameBack, Serves-took_linear, Serves-told_end, CameBack-turn_abandoned, CameBack-turn_gave}
+use Rattle.face_table.proofs.reader.serve.Goals.{in-Note+in_default, in-Linear}
+use Rattle.face_table.proofs.reader.serve.Goals as goal
 
 pub returns-in-Err-clause-serves : goal.returns-in-Err-clause-serves
 returns-in-Err-clause-serves g c =

@@ -1,4 +1,4 @@
-ghost use Rattle.face_callers.specs.Flush.{IsReady, Sends};
+ghost use Rattle.face_table.specs.Flush.{IsReady, Sends};
 ghost use Rattle.std.specs.Prelude.{◌≡◌, [], ◌++◌, MatchOption, IfSome, option_to_list};
 ghost use Rattle.board_face.specs.{NicEvents.{nic_gist}, NicCalls.{IsOpen}, Looks.{NicRose}, declared.views.nic.NicLook.TheVariants.{NoteInUse}};
 
@@ -7,7 +7,7 @@ use std::collections::VecDeque;
 use zr_kinds::Note;
 
 /// A piece that was placed, with the note that is to be sent of it.
-#[derive(Debug, Drop)]
+#[derive(Drop)]
 pub struct Pending {
     pub app: u32,
     pub note: Note,
