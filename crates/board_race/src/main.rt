@@ -5,22 +5,11 @@
 
 ghost use Rattle.std.specs.Prelude.{◌≤◌, IfOk};
 
-mod lanes;
-mod plain;
-mod plan;
-#[cfg(test)]
-mod tests;
-mod threads;
-mod words;
-
 use anyhow::{Context, bail};
 use area_layout::Layout;
-use plain::run_plain;
-use plan::Plan;
+use note_stream::{Plan, run_plain, run_threads, run_words};
 use std::env;
 use std::time::Instant;
-use threads::run_threads;
-use words::run_words;
 
 /// How many notes are sent, and of how many bytes, where no words say so.
 const FEW: (u32, u16) = (1_000, 100);

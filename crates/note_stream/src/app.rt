@@ -115,7 +115,7 @@ impl Receiver {
 
 /// Once it was told the end the application leaves: it looks at most so often whether its refill slots are quiet. It answers
 /// whether it has left.
-pub fn leave<F: AppFace>(face: &mut F, looks: u64) -> bool
+pub(crate) fn leave<F: AppFace>(face: &mut F, looks: u64) -> bool
     requires hand { IsReceiver (F.seen face.old) None }
     requires ended { (F.seen face.old).ended ≡ true }
     ensures number { (F.seen face.new).app ≡ (F.seen face.old).app }
@@ -132,9 +132,31 @@ pub fn leave<F: AppFace>(face: &mut F, looks: u64) -> bool
     false
 }
 
+/// Takes the notes that are there, at most so many. It answers whether the application was told the end.
+pub(crate) fn take_all<F: AppFace>(
+    face: &mut F,
+    receiver: &mut Receiver,
+    looks: u64,
+    into: &mut [u8],
+) -> bool
+    requires { IsReceiver (F.seen face.old) receiver.old.loan }
+    ensures hand { IsReceiver (F.seen face.new) receiver.new.loan }
+    ensures ended { IsTrue result → ((F.seen face.new).ended ≡ true) × (receiver.new.loan ≡ None) }
+    ensures beside { F.beside face.new ≡ F.beside face.old }
+{
+    for _ in 0..looks {
+        match receiver.go(face, into) {
+            Took::Note => {}
+            Took::Nothing => return false,
+            Took::End => return true,
+        }
+    }
+    false
+}
+
 /// Takes all notes, and leaves. Where no note is there it looks again, at most `looks` times in all. It answers whether the
 /// application has left.
-pub fn receive_all<F: AppFace>(
+pub(crate) fn receive_all<F: AppFace>(
     face: &mut F,
     receiver: &mut Receiver,
     looks: u64,

@@ -155,7 +155,7 @@ impl Sender {
 
 /// Sends all notes, ends, and sees the applications off. Where nothing can be done it looks again, at most `looks` times each
 /// for the notes and for the leaving. It answers whether all have left.
-pub fn send_all<F: NicFace>(
+pub(crate) fn send_all<F: NicFace>(
     face: &mut F,
     sender: &mut Sender,
     notes: u32,
@@ -206,7 +206,7 @@ fn count_left<F: NicFace>(face: &mut F) -> u32
 }
 
 /// Deals with the entries that have come, and sweeps the free list.
-pub fn gather<F: NicFace>(face: &mut F)
+pub(crate) fn gather<F: NicFace>(face: &mut F)
     ensures same { IsSenderWith (F.seen face.old) (F.seen face.new) }
     ensures beside { F.beside face.new ≡ F.beside face.old }
 {

@@ -1,6 +1,0 @@
--- What is out stays with the receiver.
-use Rattle.note_stream.specs.Halves.{IsReceiver}
-use Rattle.board_race.proofs.words.end_both.Given as goal
-
-abbrev pub invariant-loop : goal.invariant-loop
-invariant-loop l = IsReceiver l.seat.side.view l.receiver.loan

@@ -1,0 +1,107 @@
+//! Callers that are generic over boards, at both boards: a card that sweeps and takes, one that sends what is pending, and an
+//! application that takes it, reads it and gives it back. And seats, which are given once.
+ghost use Rattle.std.specs.Prelude.{◌≡◌};
+ghost use Rattle.board_face.specs.NicCalls.{IsOpen, HasNoToken};
+
+use area_layout::Layout;
+use board_face::{Entry, NicFace};
+use face_table::{Pending, Served, flush, serve};
+use plain_board::PlainBoard;
+use std::alloc::Global;
+use std::collections::VecDeque;
+use std::process::Abort;
+use std::test::*;
+use word_board::WordBoard;
+use zr_kinds::Note;
+
+/// A new board lists each pool buffer: a sweep finds all of a word's, and no more. The highest is swept first, so buffer 0 is taken
+/// first. The words are given with the numbers of their buffers.
+fn lists_each<F: NicFace>(rt: &impl Abort, face: &mut F, words: &[(u32, u32)], all: u32)
+    requires { IsOpen (F.seen face.old) }
+{
+    for &(word, count) in words {
+        let swept = face.cached() < 64 && word < face.free_words() && face.sweep(word) == count;
+        assert!(rt; swept, "word {word}");
+    }
+    assert!(rt; face.cached() == all);
+    let first = face.take().map(|own| (own.buffer(), own.size()));
+    assert!(rt; first == Some((0, 1024)));
+}
+
+#[test]
+fn new_boards_list_each_buffer(rt: HostRuntime) -> Result<(), Fail> {
+    let layout = Layout::new(70, 1, 1024).ok_or("no layout")?;
+    let (board, mut desk) = WordBoard::open(rt.alloc(), layout, 1, 2)?;
+    let mut nic = board.nic(&mut desk).ok_or("no seat of the card")?;
+    lists_each(&rt, &mut nic, &[(1, 6), (0, 64)], 70);
+    let mut nic = PlainBoard::open(rt.alloc(), layout, 1, 2)?.nic();
+    lists_each(&rt, &mut nic, &[(1, 6), (0, 64)], 70);
+    Ok(())
+}
+
+/// The card sends five bytes, which were pending.
+fn sends_pending<F: NicFace>(rt: &impl Abort, alloc: Global, face: &mut F) -> Result<(), Fail>
+    requires open { IsOpen (F.seen face.old) }
+    requires nothing { HasNoToken (F.seen face.old) }
+    ensures beside { F.beside face.new ≡ F.beside face.old }
+{
+    assert!(rt; face.apps() == 1);
+    if face.cached() < 64 && face.free_words() > 0 {
+        face.sweep(0);
+    }
+    let mut own = face.take().ok_or("nothing cached")?;
+    let piece = face.place(&mut own, b"hello");
+    let note = Note {
+        frame: 1,
+        flow: 0,
+        base: 1,
+        seq: 1,
+        at: 0,
+        total: 5,
+        place: piece.place(),
+        split: true,
+        fin: false,
+    };
+    let mut pending = VecDeque::new(alloc);
+    pending.push_back(Pending {
+        app: 0,
+        note,
+        piece,
+    })?;
+    assert!(rt; flush(face, &mut pending).is_none());
+    Ok(())
+}
+
+/// One caller sends what is pending, the other takes it, reads it and gives it back.
+#[test]
+fn callers_run(rt: HostRuntime) -> Result<(), Fail> {
+    let layout = Layout::new(1, 1, 1024).ok_or("no layout")?;
+    let (board, mut desk) = WordBoard::open(rt.alloc(), layout, 1, 4)?;
+    let mut nic = board.nic(&mut desk).ok_or("no seat of the card")?;
+    let mut seat = board.app(&mut desk, 0).ok_or("no seat of the application")?;
+    sends_pending(&rt, rt.alloc(), &mut nic)?;
+    assert!(rt; serve(&mut seat, 2) == Served::NoNote);
+    assert!(rt; nic.apps() == 1 && nic.entry(0) == Entry::Honoured);
+    let mut nic = PlainBoard::open(rt.alloc(), layout, 1, 4)?.nic();
+    sends_pending(&rt, rt.alloc(), &mut nic)?;
+    nic.sound();
+    let mut app = nic.back().app(0);
+    assert!(rt; serve(&mut app, 2) == Served::NoNote);
+    let mut nic = app.back().nic();
+    assert!(rt; nic.apps() == 1 && nic.entry(0) == Entry::Honoured);
+    Ok(())
+}
+
+/// The card's seat is given once, and each application's.
+#[test]
+fn seats_are_given_once(rt: HostRuntime) -> Result<(), Fail> {
+    let layout = Layout::new(2, 2, 1024).ok_or("no layout")?;
+    let (board, mut desk) = WordBoard::open(rt.alloc(), layout, 2, 4)?;
+    let card = board.nic(&mut desk).is_some();
+    let card_again = board.nic(&mut desk).is_some();
+    let second = board.app(&mut desk, 1).is_some();
+    let second_again = board.app(&mut desk, 1).is_some();
+    let first = board.app(&mut desk, 0).is_some();
+    assert!(rt; card && !card_again && second && !second_again && first);
+    Ok(())
+}
