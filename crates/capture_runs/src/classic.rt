@@ -1,250 +1,89 @@
 //! Classic captures.
-use crate::parts::{FRAME, joined};
-use pcap_reader::{Capture, Record};
-use std::alloc::{AllocError, Global};
+use crate::parts::{FRAME, Reads, capture_of, expect, read};
+use pcap_reader::Capture;
 use std::process::Abort;
-use std::test::Fail;
+use std::test::*;
 use zr_io::{MemSource, Source};
-use zr_kinds::Fault;
 
-/// Little-endian, microseconds, version 2.4, Ethernet.
-const HEADER: [u8; 24] = [
-    0xd4, 0xc3, 0xb2, 0xa1, 2, 0, 4, 0, 0, 0, 0, 0, 0, 0, 0, 0, 0, 0, 4, 0, 1, 0, 0, 0,
-];
+/// The headers are those of Ethernet, `header` little-endian and of version 2.4. `record` is of 59 bytes, and `pair` of two of 316.
+const PARTS: &str = "\
+header d4c3b2a1 02000400 00000000 00000000 00000400 01000000
+fields 02000400 00000000 00000000 00000400 01000000
+big-fields 00020004 00000000 00000000 00040000 00000001
+major-3 d4c3b2a1 03000400 00000000 00000000 00000400 71000000
+minor-9 d4c3b2a1 02000900 00000000 00000000 00000400 01000000
+link-113 d4c3b2a1 02000400 00000000 00000000 00000400 71000000
+upper-bits d4c3b2a1 02000400 00000000 00000000 00000400 01000100
+record 00000000 00000000 3b000000 3b000000
+big-record 00000000 00000000 0000003b 0000003b
+pair 00000000 00000000 02000000 3c010000 0709
+empty 00000000 00000000 00000000 00000000
+longest 00000000 00000000 00000400 3b000000
+longer 00000000 00000000 01000400 3b000000
+huge 00000000 00000000 ffffffff 01000000";
 
-/// A record of 59 bytes.
-const RECORD: [u8; 16] = [0, 0, 0, 0, 0, 0, 0, 0, 59, 0, 0, 0, 59, 0, 0, 0];
-
-const BIG_MAGIC: [u8; 4] = [0xa1, 0xb2, 0xc3, 0xd4];
-
-const LITTLE_NANOSECONDS: [u8; 4] = [0x4d, 0x3c, 0xb2, 0xa1];
-
-const BIG_NANOSECONDS: [u8; 4] = [0xa1, 0xb2, 0x3c, 0x4d];
-
-/// The header's fields behind the magic, big-endian.
-const BIG_FIELDS: [u8; 20] = [0, 2, 0, 4, 0, 0, 0, 0, 0, 0, 0, 0, 0, 4, 0, 0, 0, 0, 0, 1];
-
-/// A record of 59 bytes, big-endian.
-const BIG_RECORD: [u8; 16] = [0, 0, 0, 0, 0, 0, 0, 0, 0, 0, 0, 59, 0, 0, 0, 59];
-
-/// All of these bytes, as many at a call as are asked for.
-fn source_of(alloc: Global, parts: &[&[u8]]) -> Result<MemSource, AllocError> {
-    failing_source(alloc, parts, &[])
-}
-
-/// The same, where the calls of these numbers fail.
-fn failing_source(alloc: Global, parts: &[&[u8]], fails: &[u64]) -> Result<MemSource, AllocError> {
-    let bytes = joined(alloc, parts)?;
-    Ok(MemSource::new(bytes, usize::MAX, fails.to_vec(alloc)?))
-}
-
-/// The next record is `FRAME`.
-fn gives_the_frame(
-    rt: &impl Abort,
-    alloc: Global,
-    capture: &mut Capture,
-    source: &mut MemSource,
-) -> Result<(), Fail> {
-    let mut frame = Vec::new(alloc);
-    let record = capture.next(source, &mut frame)?;
-    assert_eq!(rt;
-        record,
-        Some(Record {
-            captured: 59,
-            original: 59
-        })
-    );
-    assert_eq!(rt; frame.as_slice(), FRAME.as_slice());
-    Ok(())
-}
-
-/// The capture holds `FRAME` and no other.
-fn holds_one_frame(rt: &impl Abort, alloc: Global, mut source: MemSource) -> Result<(), Fail> {
-    let mut capture = Capture::open(&mut source)?;
-    gives_the_frame(rt, alloc, &mut capture, &mut source)?;
-
-    let mut frame = Vec::new(alloc);
-    assert_eq!(rt; capture.next(&mut source, &mut frame)?, None);
-    assert_eq!(rt; capture.next(&mut source, &mut frame)?, None);
-    Ok(())
-}
-
-/// The next call answers this fault, and so does the one behind it.
-fn stays_at(
-    rt: &impl Abort,
-    alloc: Global,
-    capture: &mut Capture,
-    source: &mut MemSource,
-    fault: Fault,
-) {
-    let mut frame = Vec::new(alloc);
-    assert_eq!(rt; capture.next(source, &mut frame), Err(fault));
-    assert_eq!(rt; capture.next(source, &mut frame), Err(fault));
-}
-
+/// In microseconds and nanoseconds, of both orders, and with a minor version and upper bits of the link type that are passed over.
 #[test]
 fn reads_each_form(rt: HostRuntime) -> Result<(), Fail> {
-    let forms: [[&[u8]; 4]; 4] = [
-        [&HEADER[..4], &HEADER[4..], &RECORD, &FRAME],
-        [&BIG_MAGIC, &BIG_FIELDS, &BIG_RECORD, &FRAME],
-        [&LITTLE_NANOSECONDS, &HEADER[4..], &RECORD, &FRAME],
-        [&BIG_NANOSECONDS, &BIG_FIELDS, &BIG_RECORD, &FRAME],
-    ];
-    for parts in forms {
-        let source = source_of(rt.alloc(), &parts)?;
-        holds_one_frame(&rt, rt.alloc(), source)?;
-    }
-    Ok(())
-}
-
-#[test]
-fn reads_a_frame_piece_by_piece(rt: HostRuntime) -> Result<(), Fail> {
-    let alloc = rt.alloc();
-    let bytes = joined(alloc, &[&HEADER, &RECORD, &FRAME])?;
-    holds_one_frame(
-        &rt,
-        alloc,
-        MemSource::new(bytes.clone()?, 7, Vec::new(alloc)),
-    )?;
-    holds_one_frame(&rt, alloc, MemSource::new(bytes, 1, Vec::new(alloc)))
-}
-
-#[test]
-fn reads_records_in_order(rt: HostRuntime) -> Result<(), Fail> {
-    let first = [0, 0, 0, 0, 0, 0, 0, 0, 2, 0, 0, 0, 60, 1, 0, 0, 7, 9];
-    let empty = [0; 16];
-    let mut source = source_of(rt.alloc(), &[&HEADER, &first, &empty, &RECORD, &FRAME])?;
-    let mut frame = Vec::new(rt.alloc());
-    let mut capture = Capture::open(&mut source)?;
-    let rows: [(Record, &[u8]); 2] = [
-        (
-            Record {
-                captured: 2,
-                original: 316,
-            },
-            &[7, 9],
-        ),
-        (
-            Record {
-                captured: 0,
-                original: 0,
-            },
-            &[],
-        ),
-    ];
-    for (record, bytes) in rows {
-        assert_eq!(rt; capture.next(&mut source, &mut frame)?, Some(record));
-        assert_eq!(rt; frame.as_slice(), bytes);
-    }
-    gives_the_frame(&rt, rt.alloc(), &mut capture, &mut source)
+    let lines = "\
+header record frame = 59/59 frame 0
+a1b2c3d4 big-fields big-record frame = 59/59 frame 0
+4d3cb2a1 fields record frame = 59/59 frame 0
+a1b23c4d big-fields big-record frame = 59/59 frame 0
+minor-9 record frame = 59/59 frame 0
+upper-bits record frame = 59/59 frame 0
+header pair empty record frame = 2/316 0709 0/0 - 59/59 frame 0";
+    expect::<Capture>(&rt, PARTS, lines)
 }
 
 /// The version is looked at once the header is whole, and the link type once the version is right.
 #[test]
 fn refuses_other_headers(rt: HostRuntime) -> Result<(), Fail> {
-    let mut link = HEADER;
-    link[20] = 113;
-    let mut version = link;
-    version[4] = 3;
-    let rows: [(&[u8], Fault); 7] = [
-        (&[], Fault::Cut),
-        (&[0x0a, 0x0d, 0x0d], Fault::Cut),
-        (&[0x0a, 0x0d, 0x0d, 0x0a], Fault::NotPcap),
-        (&HEADER[..23], Fault::Cut),
-        (&version[..23], Fault::Cut),
-        (&version, Fault::Version),
-        (&link, Fault::LinkType),
-    ];
-    for (bytes, fault) in rows {
-        let mut source = source_of(rt.alloc(), &[bytes])?;
-        assert_eq!(rt; Capture::open(&mut source).err(), Some(fault), "{bytes:?}");
-    }
-    Ok(())
-}
-
-#[test]
-fn passes_over_a_minor_version_and_upper_link_bits(rt: HostRuntime) -> Result<(), Fail> {
-    let alloc = rt.alloc();
-    let mut minor = HEADER;
-    minor[6] = 9;
-    let mut upper = HEADER;
-    upper[22] = 1;
-    for header in [minor, upper] {
-        holds_one_frame(&rt, alloc, source_of(alloc, &[&header, &RECORD, &FRAME])?)?;
-    }
-    Ok(())
+    let lines = "\
+header:0 = 6
+0a0d0d = 6
+0a0d0d0a = 3
+header:23 = 6
+major-3:23 = 6
+major-3 = 4
+link-113 = 5";
+    expect::<Capture>(&rt, PARTS, lines)
 }
 
 /// 262,144 bytes are the most that a record may have.
 #[test]
 fn stays_at_a_cut_or_long_record(rt: HostRuntime) -> Result<(), Fail> {
-    let longest = [0, 0, 0, 0, 0, 0, 0, 0, 0, 0, 4, 0, 59, 0, 0, 0];
-    let longer = [0, 0, 0, 0, 0, 0, 0, 0, 1, 0, 4, 0, 59, 0, 0, 0];
-    let rows: [(&[u8], &[u8], Fault); 5] = [
-        (&RECORD[..1], &[], Fault::Cut),
-        (&RECORD[..15], &[], Fault::Cut),
-        (&RECORD, &FRAME[..58], Fault::Cut),
-        (&longest, &FRAME, Fault::Cut),
-        (&longer, &[], Fault::LongRecord),
-    ];
-    for (header, body, fault) in rows {
-        let mut source = source_of(rt.alloc(), &[&HEADER, header, body])?;
-        let mut capture = Capture::open(&mut source)?;
-        stays_at(&rt, rt.alloc(), &mut capture, &mut source, fault);
-    }
-    Ok(())
+    let lines = "\
+header record:1 = 6
+header record:15 = 6
+header record frame:58 = 6
+header longest frame = 6
+header longer = 7
+header huge frame = 7";
+    expect::<Capture>(&rt, PARTS, lines)
 }
 
+/// Two calls read the file header, and two each record. Each record before the call that fails is given.
 #[test]
-fn asks_no_memory_for_a_huge_record(rt: HostRuntime) -> Result<(), Fail> {
-    let huge = [0, 0, 0, 0, 0, 0, 0, 0, 0xff, 0xff, 0xff, 0xff, 1, 0, 0, 0];
-    let mut source = source_of(rt.alloc(), &[&HEADER, &huge, &FRAME])?;
-    let mut frame = Vec::new(rt.alloc());
-    let mut capture = Capture::open(&mut source)?;
-    assert_eq!(rt;
-        capture.next(&mut source, &mut frame),
-        Err(Fault::LongRecord)
-    );
-    assert_eq!(rt; frame.capacity(), 0);
-    Ok(())
-}
-
-/// Two calls read the file header.
-#[test]
-fn a_failed_source_cannot_be_opened(rt: HostRuntime) -> Result<(), Fail> {
-    for call in [1, 2] {
-        let mut source = failing_source(rt.alloc(), &[&HEADER], &[call])?;
-        assert_eq!(rt; Capture::open(&mut source).err(), Some(Fault::Read));
-    }
-    Ok(())
-}
-
-/// Two calls read the file header, and two each record: the fifth and the sixth are the second's.
-#[test]
-fn gives_each_record_before_a_failed_read(rt: HostRuntime) -> Result<(), Fail> {
-    let alloc = rt.alloc();
-    for call in [5, 6] {
-        let mut source = failing_source(
-            alloc,
-            &[&HEADER, &RECORD, &FRAME, &RECORD, &FRAME],
-            &[call],
-        )?;
-        let mut capture = Capture::open(&mut source)?;
-        gives_the_frame(&rt, alloc, &mut capture, &mut source)?;
-        stays_at(&rt, alloc, &mut capture, &mut source, Fault::Read);
-    }
-    Ok(())
+fn a_failed_read_is_told(rt: HostRuntime) -> Result<(), Fail> {
+    let lines = "\
+header fails 1 = 8
+header fails 2 = 8
+header record frame fails 4 = 8
+header record frame record frame fails 5 = 59/59 frame 8
+header record frame record frame fails 6 = 59/59 frame 8";
+    expect::<Capture>(&rt, PARTS, lines)
 }
 
 /// The fourth call would read the captured bytes.
 #[test]
 fn takes_nothing_behind_a_failed_read(rt: HostRuntime) -> Result<(), Fail> {
-    let mut source = failing_source(rt.alloc(), &[&HEADER, &RECORD, &FRAME], &[4])?;
-    let mut capture = Capture::open(&mut source)?;
-    stays_at(&rt, rt.alloc(), &mut capture, &mut source, Fault::Read);
-
-    let mut left = [0; 59];
-    assert_eq!(rt; source.read(&mut left), Ok(59));
-    assert_eq!(rt; left, FRAME);
+    let alloc = rt.alloc();
+    let bytes = capture_of(alloc, PARTS, "header record frame")?;
+    let mut source = MemSource::new(bytes, usize::MAX, vec![in alloc; 4u64]?);
+    assert!(rt; read::<Capture>(alloc, &mut source)?.text.as_str() == "8");
+    let mut left = [0; 99];
+    assert!(rt; source.read(&mut left) == Ok(59));
+    assert!(rt; left.starts_with(&capture_of(alloc, FRAME, "frame")?));
     Ok(())
 }

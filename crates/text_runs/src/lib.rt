@@ -1,8 +1,7 @@
-//! Tests of the texts that the program reads and writes: its words, the reports, and the records of runs.
+//! Tests of the texts that the program reads and writes, but for those that rows of `zcrx` show: its words, reports, and records of
+//! runs.
 #![tactic(auto)]
 
-#[cfg(test)]
-mod checks;
 #[cfg(test)]
 mod records;
 #[cfg(test)]

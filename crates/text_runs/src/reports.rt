@@ -1,79 +1,8 @@
 //! Reports, as they are written.
 use run_report::{Report, Unreported, answer, write_report};
-use std::alloc::Global;
 use std::test::*;
 use zr_io::MemSink;
 use zr_kinds::{AppLine, FlowEnd, FlowLine, PoolStats, Stopped, Tally};
-
-/// More bytes than any report here has.
-const ROOM: usize = 1000;
-
-const TALLY: Tally = Tally {
-    records: 3,
-    tcp: 3,
-    steered: 3,
-    other: 0,
-    fragment: 0,
-    cut: 0,
-    bad: 0,
-};
-
-const APP: AppLine = AppLine {
-    port: 9000,
-    written: 5,
-    loans: 1,
-    copied: 0,
-    stopped: Stopped::No,
-};
-
-const FLOW: FlowLine = FlowLine {
-    port: 9000,
-    base: 1001,
-    bytes: 5,
-    fin: true,
-    end: FlowEnd::Whole,
-};
-
-const POOL: PoolStats = PoolStats {
-    fast: 0,
-    refill: 0,
-    slow: 1,
-    empty: 0,
-    strays: 0,
-};
-
-/// Writes the report of one application and one flow to a sink whose first call fails, if `fails` names it.
-fn write_small(
-    alloc: Global,
-    fails: &[(u64, usize)],
-) -> Result<(Result<(), Unreported>, MemSink), Fail> {
-    let mut sink = MemSink::new(alloc, ROOM, fails.to_vec(alloc)?)?;
-    let report = Report {
-        tally: &TALLY,
-        apps: &[APP],
-        flows: &[FLOW],
-        refused: &[],
-        pool: &POOL,
-        status: 0,
-    };
-    let reported = write_report(alloc, &report, &mut sink);
-    Ok((reported, sink))
-}
-
-#[test]
-fn one_application_and_one_flow(rt: HostRuntime) -> Result<(), Fail> {
-    let (reported, sink) = write_small(rt.alloc(), &[])?;
-    assert_eq!(rt; reported, Ok(()));
-    let text = b"\
-capture records 3 tcp 3 steered 3 other 0 fragment 0 cut 0 bad 0
-app 0 port 9000 written 5 loans 1 copied 0 stopped no
-flow 0 port 9000 base 1001 bytes 5 fin yes end whole
-pool fast 0 refill 0 slow 1 empty 0 strays 0
-status 0
-";
-    assert_eq!(rt; sink.bytes(), &text[..]);
-    Ok(())
-}
 
 const LARGEST_TALLY: Tally = Tally {
     records: 4_294_967_295,
@@ -91,6 +20,42 @@ const LARGEST_POOL: PoolStats = PoolStats {
     slow: 30,
     empty: 3,
     strays: 40,
+};
+
+const fn app(stopped: Stopped) -> AppLine {
+    AppLine {
+        port: 9000,
+        written: 5,
+        loans: 1,
+        copied: 0,
+        stopped,
+    }
+}
+
+const LARGEST_APP: AppLine = AppLine {
+    port: 65535,
+    written: 18_446_744_073_709_551_615,
+    loans: 12,
+    copied: 11,
+    stopped: Stopped::Quit,
+};
+
+const fn flow(end: FlowEnd) -> FlowLine {
+    FlowLine {
+        port: 9000,
+        base: 1001,
+        bytes: 5,
+        fin: true,
+        end,
+    }
+}
+
+const LARGEST_FLOW: FlowLine = FlowLine {
+    port: 1,
+    base: 4_294_967_295,
+    bytes: 0,
+    fin: false,
+    end: FlowEnd::Going,
 };
 
 /// The report of these, of three applications, four flows and three refused frames.
@@ -112,72 +77,29 @@ status 11
 
 #[test]
 fn lines_are_numbered_from_0(rt: HostRuntime) -> Result<(), Fail> {
-    let mut sink = MemSink::new(rt.alloc(), ROOM, Vec::new(rt.alloc()))?;
+    let mut sink = MemSink::new(rt.alloc(), 1000, Vec::new(rt.alloc()))?;
     let report = Report {
         tally: &LARGEST_TALLY,
-        apps: &[
-            AppLine {
-                port: 65535,
-                written: 18_446_744_073_709_551_615,
-                loans: 12,
-                copied: 11,
-                stopped: Stopped::Quit,
-            },
-            AppLine {
-                stopped: Stopped::Write,
-                ..APP
-            },
-            AppLine {
-                stopped: Stopped::Memory,
-                ..APP
-            },
-        ],
+        apps: &[LARGEST_APP, app(Stopped::Write), app(Stopped::Memory)],
         flows: &[
-            FLOW,
-            FlowLine {
-                port: 1,
-                base: 4_294_967_295,
-                bytes: 0,
-                fin: false,
-                end: FlowEnd::Going,
-            },
-            FlowLine {
-                end: FlowEnd::Short,
-                ..FLOW
-            },
-            FlowLine {
-                end: FlowEnd::Reset,
-                ..FLOW
-            },
+            flow(FlowEnd::Whole),
+            LARGEST_FLOW,
+            flow(FlowEnd::Short),
+            flow(FlowEnd::Reset),
         ],
         refused: &[2, 16, 4_294_967_295],
         pool: &LARGEST_POOL,
         status: 11,
     };
-    assert_eq!(rt; write_report(rt.alloc(), &report, &mut sink), Ok(()));
-    assert_eq!(rt; sink.bytes(), LINES);
-    Ok(())
-}
-
-#[test]
-fn a_failed_sink_has_a_front(rt: HostRuntime) -> Result<(), Fail> {
-    for (count, front) in [(0, &b""[..]), (7, &b"capture"[..])] {
-        let (reported, sink) = write_small(rt.alloc(), &[(1, count)])?;
-        assert_eq!(rt; reported, Err(Unreported::Write));
-        assert_eq!(rt; sink.bytes(), front);
-    }
+    assert!(rt; write_report(rt.alloc(), &report, &mut sink).is_ok());
+    assert!(rt; sink.bytes() == LINES);
     Ok(())
 }
 
 #[test]
 fn an_answer_tells_a_lost_report(rt: HostRuntime) {
-    let rows = [
-        (11, Ok(()), 11),
-        (11, Err(Unreported::Memory), 1),
-        (11, Err(Unreported::Write), 9),
-        (1, Err(Unreported::Write), 1),
-    ];
-    for (status, reported, answered) in rows {
-        assert_eq!(rt; answer(status, reported), answered);
-    }
+    assert!(rt; answer(11, Ok(())) == 11);
+    assert!(rt; answer(11, Err(Unreported::Memory)) == 1);
+    assert!(rt; answer(11, Err(Unreported::Write)) == 9);
+    assert!(rt; answer(1, Err(Unreported::Write)) == 1);
 }

@@ -3,4 +3,4 @@ use Rattle.capture_runs.proofs.flows.table.Goals as goal
 
 pub new-requires-2-clause-distinct : goal.new-requires-2-clause-distinct
 unfolding IsDistinct
-new-requires-2-clause-distinct c = ((refl, tt), (tt, tt))
+new-requires-2-clause-distinct c _ = ((refl, tt), (tt, tt))

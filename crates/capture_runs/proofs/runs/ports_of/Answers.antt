@@ -1,6 +1,6 @@
 -- The ports differ.
 use Rattle.std.{proofs.Common.{◌∷◌, [], refl, sym, subst}, specs.{Prelude.{nat_eq}, List.{IsDistinct}}}
-use Rattle.turn_runs.proofs.runs.ports_of.Goals as goal
+use Rattle.capture_runs.proofs.runs.ports_of.Goals as goal
 
 one-port : IsDistinct nat_eq (9000 ∷ [])
 unfolding IsDistinct

@@ -1,14 +1,11 @@
 //! One capture under every short text of turns.
-use super::runs::{
-    EAGER, Given, Setup, Stream, USUAL, Wanted, app_line, check, faultless, flow_line, pool,
-    steered,
-};
+use super::runs::{EAGER, Given, Setup, USUAL, check};
 use sample_captures::{PSH_ACK, capture_of, stream_bytes, to};
 use std::alloc::Global;
 use std::process::Abort;
 use std::random::RandomSource;
 use std::test::*;
-use zr_kinds::{AppLine, Behaviour, FlowEnd, Stopped};
+use zr_kinds::Behaviour;
 
 /// Quits after 100 bytes, and keeps two loans until then.
 const QUITTING: Behaviour = Behaviour {
@@ -28,20 +25,27 @@ fn text_of(alloc: Global, number: u32, digits: u32) -> Result<String, Fail> {
     Ok(text)
 }
 
-/// Both applications have such a stream.
-fn streams_of(stream: &[u8]) -> [Stream<'_>; 2] {
-    let first = Stream {
-        app: 0,
-        flow: 0,
-        bytes: stream,
-    };
-    let second = Stream {
-        app: 1,
-        flow: 1,
-        ..first
-    };
-    [first, second]
-}
+/// The report where nobody quits.
+const READ: &str = "\
+capture records 4 tcp 4 steered 4 other 0 fragment 0 cut 0 bad 0
+app 0 port 9000 written 160 loans 2 copied 0 stopped no
+app 1 port 9001 written 160 loans 2 copied 0 stopped no
+flow 0 port 9000 base 100 bytes 160 fin no end open
+flow 1 port 9001 base 100 bytes 160 fin no end open
+pool fast 0 refill 0 slow 1 empty 0 strays 0
+status 0
+";
+
+/// The report where both quit.
+const QUIT: &str = "\
+capture records 4 tcp 4 steered 4 other 0 fragment 0 cut 0 bad 0
+app 0 port 9000 written 100 loans 2 copied 0 stopped quit
+app 1 port 9001 written 100 loans 2 copied 0 stopped quit
+flow 0 port 9000 base 100 bytes 100 fin no end open
+flow 1 port 9001 base 100 bytes 100 fin no end open
+pool fast 0 refill 0 slow 1 empty 0 strays 0
+status 0
+";
 
 /// The text comes before the rounds and changes nothing of what is left.
 fn check_text(
@@ -50,50 +54,25 @@ fn check_text(
     turns: &str,
     stream: &[u8],
 ) -> Result<(), Fail> {
-    let usual = Setup {
+    let setup = Setup {
         both: true,
         ..USUAL
     };
     let given = Given {
-        setup: usual,
+        setup,
         turns,
-        ..faultless(bytes)
+        bytes,
     };
-    let wanted = Wanted {
-        streams: &streams_of(stream),
-        tally: steered(4),
-        apps: &[app_line(9000, 160, 2, 0), app_line(9001, 160, 2, 0)],
-        flows: &[
-            flow_line(9000, 100, 160, FlowEnd::Going),
-            flow_line(9001, 100, 160, FlowEnd::Going),
-        ],
-        refused: &[],
-        pool: pool(0, 0, 1, 0, 0),
-        end: None,
-    };
-    check(rt, turns, &given, &wanted)?;
+    check(rt, turns, &given, stream, READ)?;
     let (front, _) = stream.split_at_checked(100).ok_or("too short")?;
-    let quits = |port: u16| AppLine {
-        stopped: Stopped::Quit,
-        ..app_line(port, 100, 2, 0)
-    };
-    let quitting = Given {
+    let given = Given {
         setup: Setup {
             how: QUITTING,
-            ..usual
+            ..setup
         },
         ..given
     };
-    let less = Wanted {
-        streams: &streams_of(front),
-        apps: &[quits(9000), quits(9001)],
-        flows: &[
-            flow_line(9000, 100, 100, FlowEnd::Going),
-            flow_line(9001, 100, 100, FlowEnd::Going),
-        ],
-        ..wanted
-    };
-    check(rt, turns, &quitting, &less)
+    check(rt, turns, &given, front, QUIT)
 }
 
 /// Two payloads to each of two ports, by turns of up to four roles.

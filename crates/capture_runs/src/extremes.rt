@@ -3,7 +3,7 @@
 ghost use Rattle.std.specs.Prelude.{◌<◌};
 
 use super::drawn::check_plain;
-use super::runs::{Given, Setup, faultless};
+use super::runs::{Given, Setup};
 use frame_headers::{Seen, read_frame};
 use sample_captures::{PSH_ACK, capture, frame, stream_bytes, to};
 use std::alloc::Global;
@@ -27,7 +27,6 @@ fn setup_of(number: usize) -> Setup {
             stray: [0, 16][number / 32 % 2],
             quit: [None, Some(100)][number / 64 % 2],
         },
-        events: false,
     }
 }
 
@@ -53,7 +52,8 @@ fn runs_end_at_the_ends_of_all_ranges(rt: HostRuntime) -> Result<(), Fail> {
     for number in 0..SETUPS {
         let given = Given {
             setup: setup_of(number),
-            ..faultless(&bytes)
+            turns: "",
+            bytes: &bytes,
         };
         let name = format!(in alloc; "setup {number}")?;
         let left = check_plain(&rt, &name, &given, &seen)?;

@@ -1,13 +1,10 @@
 //! Long texts, each of whose letters tells in what is left.
-use super::runs::{
-    Given, One, Setup, USUAL, app_line, check_one, faultless, flow_line, pool, steered,
-};
+use super::runs::{Given, Setup, USUAL, check};
 use sample_captures::{FILE_HEADER, PSH_ACK, frame, record_of, to_9000};
 use std::alloc::Global;
 use std::process::Abort;
 use std::random::RandomSource;
 use std::test::*;
-use zr_kinds::FlowEnd;
 
 /// One buffer, which a payload fills.
 const NARROW: Setup = Setup {
@@ -44,6 +41,25 @@ fn sent_twice(alloc: Global, more: u16) -> Result<(Vec<u8>, Vec<u8>), Fail> {
     Ok((stream, bytes))
 }
 
+/// The report of such groups: the second frame of each is refused.
+fn report(alloc: Global, groups: u16) -> Result<String, Fail> {
+    let loans = u32::from(groups) + 1;
+    let (records, bytes) = (loans + u32::from(groups), 1024 * loans);
+    let mut text = format!(in alloc;
+        "capture records {records} tcp {records} steered {records} other 0 fragment 0 cut 0 bad 0
+app 0 port 9000 written {bytes} loans {loans} copied 0 stopped no
+flow 0 port 9000 base 1000 bytes {bytes} fin no end open
+"
+    )?;
+    for group in 1..loans {
+        text.push_str(&format!(in alloc; "refused {}\n", 2 * group)?)?;
+    }
+    text.push_str(&format!(in alloc;
+        "pool fast 0 refill {groups} slow 1 empty {groups} strays 0\nstatus 0\n"
+    )?)?;
+    Ok(text)
+}
+
 /// Behind its first letters, in which nothing is done, each group of the text reads two frames, and the buffer comes back behind
 /// them: the second is refused. So each letter of a group tells: had it been left out, or been another role's, another frame would
 /// have come right behind the return.
@@ -55,28 +71,14 @@ fn check_groups(
 ) -> Result<(), Fail> {
     let alloc = rt.alloc();
     let turns = text_of(alloc, first, groups)?;
-    assert_eq!(rt; turns.len(), letters);
+    assert!(rt; turns.len() == letters);
     let (stream, bytes) = sent_twice(alloc, groups)?;
-    let mut refused = Vec::new(alloc);
-    for group in 1..=groups {
-        refused.push(2 * u32::from(group))?;
-    }
-    let loans = u64::from(groups) + 1;
     let given = Given {
         setup: NARROW,
         turns: &turns,
-        ..faultless(&bytes)
+        bytes: &bytes,
     };
-    let wanted = One {
-        stream: &stream,
-        tally: steered(2 * u32::from(groups) + 1),
-        app: app_line(9000, 1024 * loans, loans, 0),
-        flow: Some(flow_line(9000, 1000, 1024 * loans, FlowEnd::Going)),
-        refused: &refused,
-        pool: pool(0, u64::from(groups), 1, u64::from(groups), 0),
-        end: None,
-    };
-    check_one(rt, "a long text", &given, &wanted)
+    check(rt, "a long text", &given, &stream, &report(alloc, groups)?)
 }
 
 /// The last letter is the 65th. By rounds alone no frame would be refused.

@@ -1,7 +1,7 @@
 //! Small captures, plans and texts that are drawn, and compared with plain copying without the refused frames.
 ghost use Rattle.std.specs.Prelude.{◌<◌, ◌^◌, length};
 
-use super::runs::{FLOWS, Given, Left, Setup, faultless, run, steered};
+use super::runs::{FLOWS, Given, Left, Setup, run};
 use flow_table::plain::{PlainFlow, plain_flows, plain_stream};
 use frame_headers::{Seen, read_frame};
 use sample_captures::{ACK, FIN, PSH_ACK, RST, SYN, Sent, capture, frame, stream_bytes};
@@ -9,7 +9,7 @@ use std::alloc::Global;
 use std::process::Abort;
 use std::random::RandomSource;
 use std::test::*;
-use zr_kinds::{Behaviour, FlowEnd, FlowLine, Stopped, Tally};
+use zr_kinds::{AppLine, Behaviour, FlowEnd, FlowLine, Stopped, Tally};
 
 /// How many captures are drawn.
 const CAPTURES: u32 = 300;
@@ -162,7 +162,6 @@ impl Drawer {
                 stray: self.below(3),
                 quit: [None, None, Some(70), Some(400)][self.draw() as usize % 4],
             },
-            events: false,
         }
     }
 
@@ -178,7 +177,15 @@ impl Drawer {
 
 /// How many records there are of each class, in all, and to one of the ports.
 fn tally_of(seen: &[Seen<'_>]) -> Tally {
-    let mut tally = steered(0);
+    let mut tally = Tally {
+        records: 0,
+        tcp: 0,
+        steered: 0,
+        other: 0,
+        fragment: 0,
+        cut: 0,
+        bad: 0,
+    };
     for one in seen {
         tally.records = tally.records.saturating_add(1);
         match one {
@@ -223,12 +230,11 @@ fn check_flow(
         stream.starts_with(kept),
         "{name}: flow {number} is no front"
     );
-    if app.stopped == Stopped::No {
-        assert!(rt;
-            kept.len() == stream.len(),
-            "{name}: flow {number} isn't whole"
-        );
-    }
+    let whole = kept.len() == stream.len();
+    assert!(rt;
+        whole || app.stopped != Stopped::No,
+        "{name}: flow {number} isn't whole"
+    );
     let line = FlowLine {
         port: flow.dport,
         base: flow.base,
@@ -236,15 +242,13 @@ fn check_flow(
         fin: flow.close.fin.is_some(),
         end: end_of(flow, kept.len()),
     };
-    assert_eq!(rt;
-        left.outcome.flows.get(number as usize).copied(),
-        Some(line),
-        "{name}"
-    );
+    let told = left.outcome.flows.get(number as usize).ok_or("no line")?;
+    assert!(rt; *told == line, "{name}: the line of flow {number}");
     for (other, shelf) in left.shelves.iter().enumerate() {
+        let empty = shelf.flow(number).is_empty();
         assert!(rt;
-            other == flow.app || shelf.flow(number).is_empty(),
-            "{name}: flow {number}"
+            other == flow.app || empty,
+            "{name}: flow {number} of shelf {other}"
         );
     }
     Ok(line.bytes)
@@ -252,13 +256,25 @@ fn check_flow(
 
 /// Each line has the bytes of its flows, and the application quits where it is to.
 fn check_apps(rt: &impl Abort, name: &str, left: &Left, quit: Option<u64>, written: &[u64; 2]) {
-    assert_eq!(rt; left.outcome.apps.len(), 2, "{name}");
+    assert!(rt; left.outcome.apps.len() == 2, "{name}");
     for (app, line) in left.outcome.apps.iter().enumerate() {
-        assert_eq!(rt; Some(&line.port), PORTS.get(app), "{name}");
-        assert_eq!(rt; Some(&line.written), written.get(app), "{name}");
-        let quits = quit == Some(line.written);
-        let stopped = if quits { Stopped::Quit } else { Stopped::No };
-        assert_eq!(rt; line.stopped, stopped, "{name}");
+        let AppLine {
+            port,
+            written: told,
+            stopped,
+            ..
+        } = *line;
+        let wanted = if quit == Some(told) {
+            Stopped::Quit
+        } else {
+            Stopped::No
+        };
+        assert!(rt; PORTS.get(app) == Some(&port), "{name}: port {port}");
+        assert!(rt;
+            written.get(app) == Some(&told),
+            "{name}: {told} are written"
+        );
+        assert!(rt; stopped == wanted, "{name}: what stopped application {app}");
     }
 }
 
@@ -307,14 +323,23 @@ pub fn check_plain(
     requires { length seen.now < 2 ^ 32 }
 {
     let alloc = rt.alloc();
-    let left = run(rt, given)?;
+    let left = run(rt, name, given)?;
     let outcome = &left.outcome;
-    assert_eq!(rt; outcome.tally, tally_of(seen), "{name}");
-    assert_eq!(rt; outcome.end, None, "{name}");
-    assert_eq!(rt; left.free, given.setup.buffers as usize, "{name}");
-    assert_eq!(rt; outcome.pool.empty, outcome.refused.len() as u64, "{name}");
+    assert!(rt;
+        outcome.tally == tally_of(seen),
+        "{name}: the capture's line"
+    );
+    assert!(rt; outcome.end.is_none(), "{name}: a fault");
+    let refused = outcome.refused.len() as u64;
+    assert!(rt;
+        outcome.pool.empty == refused,
+        "{name}: {refused} frames are refused"
+    );
     let flows = plain_flows(alloc, &PORTS, seen)?;
-    assert_eq!(rt; outcome.flows.len(), flows.len(), "{name}");
+    assert!(rt;
+        outcome.flows.len() == flows.len(),
+        "{name}: another number of flows"
+    );
     assert!(rt; flows.len() <= FLOWS as usize, "{name}: too many flows");
     let mut written = [0u64; 2];
     for (number, flow) in flows.iter().enumerate() {
@@ -342,7 +367,7 @@ fn check_drawn(
     let given = Given {
         setup: drawer.setup(),
         turns: &turns,
-        ..faultless(&bytes)
+        bytes: &bytes,
     };
     let seen: Vec<Seen<'_>> = frames.iter().map(|frame| read_frame(frame)).collect(alloc)?;
     assert!(rt; seen.len() < 100);
