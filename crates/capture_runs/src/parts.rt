@@ -128,50 +128,56 @@ fn push_bytes(text: &mut String, bytes: &[u8], frame: &[u8]) -> Result<(), Fail>
     Ok(())
 }
 
-/// The number of what ended a reading; 0 is no fault.
-fn number_of<T>(ended: &Result<T, Fault>) -> usize {
-    match ended {
-        Ok(_) => 0,
+/// The number of the fault that ended a reading, 0 for its end, and 99 where there is a record.
+fn number_of(read: Result<Option<Record>, Fault>) -> usize {
+    match read {
+        Ok(None) => 0,
+        Ok(Some(_)) => 99,
         Err(fault) => usize::from(fault.number()),
     }
 }
 
 /// Reads at most nine records, up to an end.
-pub fn read<R: Reads>(alloc: Global, source: &mut MemSource) -> Result<Readout, Fail> {
-    let mut readout = Readout {
-        text: String::new(alloc),
-        status: 0,
-        stays: true,
-        room: 0,
-    };
-    let mut capture = match R::begin(alloc, source) {
-        Ok(capture) => capture,
-        Err(fault) => {
-            readout.status = usize::from(fault.number());
-            readout.text = format!(in alloc; "{}", readout.status)?;
-            return Ok(readout);
-        }
-    };
+fn read_records<R: Reads>(
+    alloc: Global,
+    capture: &mut R,
+    source: &mut MemSource,
+) -> Result<Readout, Fail> {
     let hello = bytes_of(alloc, FRAME)?;
     let mut frame = Vec::new(alloc);
-    for records in 0..9 {
+    let mut text = String::new(alloc);
+    let mut status = 0usize;
+    for _ in 0..9 {
         let one = capture.record(source, &mut frame);
-        if let Ok(Some(Record { captured, original })) = one {
-            readout
-                .text
-                .push_str(&format!(in alloc; "{captured}/{original} ")?)?;
-            push_bytes(&mut readout.text, &frame, &hello)?;
-            readout.text.push_str(" ")?;
-            continue;
-        }
-        let number = number_of(&one);
-        readout.text.push_str(&format!(in alloc; "{number}")?)?;
-        readout.status = 100 * records + number;
-        readout.stays = capture.record(source, &mut frame) == one;
-        readout.room = frame.capacity();
-        break;
+        let Ok(Some(Record { captured, original })) = one else {
+            let number = number_of(one);
+            text.push_str(&format!(in alloc; "{number}")?)?;
+            return Ok(Readout {
+                text,
+                status: status.saturating_add(number),
+                stays: number_of(capture.record(source, &mut frame)) == number,
+                room: frame.capacity(),
+            });
+        };
+        text.push_str(&format!(in alloc; "{captured}/{original} ")?)?;
+        push_bytes(&mut text, &frame, &hello)?;
+        text.push_str(" ")?;
+        status = status.saturating_add(100);
     }
-    Ok(readout)
+    Err(Fail::new("too many records"))
+}
+
+/// Reads a capture whole.
+pub fn read<R: Reads>(alloc: Global, source: &mut MemSource) -> Result<Readout, Fail> {
+    match R::begin(alloc, source) {
+        Ok(mut capture) => read_records(alloc, &mut capture, source),
+        Err(fault) => Ok(Readout {
+            text: format!(in alloc; "{}", fault.number())?,
+            status: usize::from(fault.number()),
+            stays: true,
+            room: 0,
+        }),
+    }
 }
 
 /// What a capture reads as, where a call of its source fails, or none, which is call 0.
