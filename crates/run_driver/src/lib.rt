@@ -16,6 +16,6 @@ pub use plain::{WORDS, check_plain, check_whole};
 pub use processors::{APART, TOGETHER};
 pub use reports::{check_report, check_report_behind};
 pub use runs::{
-    Given, Left, Row, Stream, check, check_behind, check_free, check_shelves, faultless, first,
+    FLOWS, Given, Left, Row, ShelfFail, Stream, check, check_behind, check_free, check_shelves, faultless, first,
     run, run_behind,
 };

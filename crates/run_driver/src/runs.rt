@@ -2,7 +2,7 @@
 ghost use Rattle.top_call.specs.Cards.{IsClosed};
 
 use replay_threads::{Gate, NoGate};
-use std::alloc::Global;
+use std::alloc::{AllocError, Global};
 use std::collections::hash_map::RandomState;
 use std::random::RandomSource;
 use std::sync::Wait;
@@ -12,7 +12,7 @@ use top_call::{Card, SHELVES, zcrx};
 use zr_io::{MemShelf, MemSink, MemSource, Source};
 
 /// How many flows a shelf has room for.
-const FLOWS: u32 = 12;
+pub const FLOWS: u32 = 12;
 
 /// How many bytes of a flow a shelf has room for: more than a small test's stream.
 const STREAM_ROOM: usize = 200;
@@ -22,6 +22,15 @@ const REPORT_ROOM: usize = 2000;
 
 /// The most bytes of a small test's capture.
 const MOST: usize = 3000;
+
+/// A call of an application's shelf that fails, and how many bytes go out before.
+#[derive(Clone, Copy)]
+pub struct ShelfFail {
+    pub app: usize,
+    /// From 1.
+    pub call: u64,
+    pub bytes: usize,
+}
 
 /// What a call is given.
 #[derive(Clone, Copy)]
@@ -33,8 +42,8 @@ pub struct Given<'a> {
     pub most: usize,
     /// The calls of the source that fail, from 1.
     pub source_fails: &'a [u64],
-    /// The calls of shelf 0 that fail, with how many bytes go out before.
-    pub shelf_fails: &'a [(u64, usize)],
+    /// The calls of shelves that fail.
+    pub shelf_fails: &'a [ShelfFail],
     /// The calls of the sink that fail, with how many bytes go out before.
     pub sink_fails: &'a [(u64, usize)],
     /// How many bytes of each flow a shelf has room for.
@@ -101,12 +110,27 @@ pub struct Row<'a> {
     pub report: &'a str,
 }
 
-/// Eight shelves with room for so many bytes of each flow. Calls of the first may fail.
-fn shelves(alloc: Global, room: usize, fails: &[(u64, usize)]) -> Result<Vec<MemShelf>, Fail> {
+/// The calls of this application's shelf that fail.
+fn fails_of(
+    alloc: Global,
+    app: usize,
+    fails: &[ShelfFail],
+) -> Result<Vec<(u64, usize)>, AllocError> {
+    let mut own = Vec::new(alloc);
+    for fail in fails {
+        if fail.app == app {
+            own.push((fail.call, fail.bytes))?;
+        }
+    }
+    Ok(own)
+}
+
+/// Eight shelves with room for so many bytes of each flow.
+fn shelves(alloc: Global, room: usize, fails: &[ShelfFail]) -> Result<Vec<MemShelf>, Fail> {
     let mut shelves = Vec::with_capacity(alloc, SHELVES)?;
-    shelves.push(MemShelf::new(alloc, FLOWS, room, fails.to_vec(alloc)?)?)?;
-    for _ in 1..SHELVES {
-        shelves.push(MemShelf::new(alloc, FLOWS, room, Vec::new(alloc))?)?;
+    for app in 0..SHELVES {
+        let own = fails_of(alloc, app, fails)?;
+        shelves.push(MemShelf::new(alloc, FLOWS, room, own)?)?;
     }
     Ok(shelves)
 }
