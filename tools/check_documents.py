@@ -29,7 +29,7 @@ MOST_LINES = 130
 # Words in code font that name nothing under crates/: commands, and the goal that stands as an example.
 COMMANDS = set("rt tcpdump dumpcap tcpflow callgrind malloc ulimit returns-in-Err-clause-turn".split())
 # Options of other programs, and those that there aren't.
-OTHER_OPTIONS = set("--help --version --name".split())
+OTHER_OPTIONS = set("--help --version --name --from --to".split())
 # Files that a run makes, or that the text gives a name.
 MADE_FILES = set("made.pcap flow-N.bin proofs/PATH/OF/FUNCTION/Answers.antt".split())
 # Faults that no replay ends with.
