@@ -11,7 +11,7 @@ bench/RESULTS.md:
 - the statuses: docs/USE.md, docs/zcrx.1, fault.rt of zr_kinds, and the list of them in the top call's theorem;
 - the lines of the report: docs/USE.md, docs/zcrx.1, and run_report; each report that is shown has them, and README's is the
   demo capture's;
-- what a crate stands on: docs/MAP.md, and crates.txt;
+- the crates: each of crates.txt has its paragraph in docs/MAP.md, and what it stands on isn't told there again;
 - each relative link, with its heading, each file or script that is named, and each name in code font that looks like one of
   the code: it stands somewhere under crates/, outside comments;
 - the example of docs/USE.md stands in the test that runs it;
@@ -237,15 +237,11 @@ def crates():
 
 def check_crates():
     wanted = crates()
-    found = {}
-    name = None
     text = read("docs/MAP.md").split("\n## The crates\n", 1)[1]
-    for line in text.split("\n\n"):
-        if line.startswith("### "):
-            name = line[4:]
-        for crate, below in re.findall(r"(?:`(\w+)`\s+s|S)tands\s+on:([^.]*)\.", line):
-            found[crate or name] = sorted(re.findall(r"`(\w+)`", below))
-    compare("crate", {"crates.txt": {crate: sorted(below) for crate, below in wanted.items()}, "docs/MAP.md": found})
+    found = [name for head in re.findall(r"(?m)^### (.*)$", text) for name in head.split(", ")]
+    compare("crates", {"crates.txt": sorted(wanted), "docs/MAP.md": sorted(found)})
+    for paragraph in re.findall(r"(?i)\bstands\s+on: .*", text):
+        say("docs/MAP.md", f"crates.txt has what a crate stands on: '{paragraph}'")
     stands_on = set()
     waiting = ["zcrx_cli"]
     while waiting:
