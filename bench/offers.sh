@@ -14,7 +14,7 @@ runs=${1:-5}
 top=$(cd "$(dirname "$0")/.." && pwd)
 work=$(mktemp -d)
 # what the program below stands on, with the proofs that earlier checks kept
-crates=(zr_kinds run_records area_layout board_face event_log face_callers board_parts plain_board page_pool)
+crates=(zr_kinds run_records area_layout board_face event_log face_table board_parts plain_board page_pool)
 trap 'rm -rf "$work"' EXIT
 
 fail() {
@@ -29,7 +29,7 @@ for crate in "${crates[@]}"; do
     cp -a "$top/crates/$crate" "$work/crates/"
     grep "^$crate:" "$top/crates.txt" >>"$work/crates.txt"
 done
-echo "offers: page_pool plain_board board_face area_layout zr_kinds face_callers" >>"$work/crates.txt"
+echo "offers: page_pool plain_board board_face area_layout zr_kinds face_table" >>"$work/crates.txt"
 
 cat >"$work/crates/offers/proofs/offer_all/Invariants.antt" <<'END'
 use Rattle.std.proofs.Common.{◌≡◌}
@@ -53,13 +53,13 @@ ghost use Rattle.std.specs.Prelude.{◌≡◌, ◌<◌, ◌≤◌, length};
 ghost use Rattle.std.proofs.Props.{props};
 ghost use Rattle.board_face.specs.AppCalls.{IsHere, CanLend};
 ghost use Rattle.board_face.specs.NicCalls.{IsOpen, apps_of};
-ghost use Rattle.face_callers.specs.Reader.{HasNothing};
+ghost use Rattle.face_table.specs.Reader.{HasNothing};
 ghost use Rattle.plain_board.specs.Board.{side_of};
 ghost use Rattle.page_pool.specs.Pool.{PoolStands};
 
 use area_layout::Layout;
 use board_face::NicFace;
-use face_callers::serve;
+use face_table::serve;
 use page_pool::{Offer, Pool, Verdict, nic_drain, nic_offer};
 use plain_board::PlainBoard;
 use std::alloc::{AllocError, Global};

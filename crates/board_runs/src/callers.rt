@@ -49,7 +49,9 @@ fn sends_pending<F: NicFace>(rt: &impl Abort, alloc: Global, face: &mut F) -> Re
     if face.cached() < 64 && face.free_words() > 0 {
         face.sweep(0);
     }
-    let mut own = face.take().ok_or("nothing cached")?;
+    let Some(mut own) = face.take() else {
+        return Err(Fail::from("nothing cached"));
+    };
     let piece = face.place(&mut own, b"hello");
     let note = Note {
         frame: 1,

@@ -343,6 +343,7 @@ fn one_step(
 }
 
 /// Steps with what they have to answer, over areas of these numbers of buffers and their sizes, with rings of so many places.
+#[derive(Drop)]
 struct Play<'a> {
     name: &'a str,
     seed: u64,

@@ -25,6 +25,7 @@ const NONE: PoolStats = PoolStats {
 };
 
 /// Steps with what they have to answer, over so many buffers of 1,024 bytes, applications and places of each ring.
+#[derive(Drop)]
 struct Play<'a> {
     name: &'a str,
     seed: u64,

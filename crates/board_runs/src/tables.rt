@@ -17,6 +17,7 @@ use std::test::*;
 use word_board::WordBoard;
 
 /// A table of calls, the board that it is for, and what is free at its end.
+#[derive(Drop)]
 pub struct Table<'a> {
     pub name: &'a str,
     /// The numbers of buffers of the areas, and their sizes.

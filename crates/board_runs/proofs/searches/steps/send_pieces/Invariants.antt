@@ -8,5 +8,6 @@ invariant-loop g l = record {
   app : l.app < apps_of (g.F.NicFace.seen l.face).setting;
   own : (g.F.NicFace.seen l.face).owns ≡ l.own ∷ [];
   pieces : (g.F.NicFace.seen l.face).pieces ≡ [];
+  setting : (g.F.NicFace.seen l.face).setting ≡ (g.F.NicFace.seen l.fn.face).setting;
   beside : g.F.NicFace.beside l.face ≡ g.F.NicFace.beside l.fn.face;
 }

@@ -1,0 +1,5 @@
+-- Hands with nothing are those of a board that was just opened.
+use Rattle.board_runs.proofs.tables.plain_free.Goals as goal
+
+pub plain_rows-board-requires : goal.plain_rows-board-requires
+plain_rows-board-requires g c = rw (c.in_ok-board.ensures, c.requires.one) record { card = c.new-card.ensures _; app = c.new-app.ensures _ 0 }
