@@ -349,7 +349,7 @@ def check_names(options):
 
 def check_example():
     example = re.search(r"```rust\n(.*?)```", read("docs/USE.md"), re.S).group(1)
-    test = "crates/stream_runs/src/tests/example.rt"
+    test = "crates/app_runs/src/example.rt"
     if example not in read(test):
         say("docs/USE.md", f"its example isn't that of {test}")
 

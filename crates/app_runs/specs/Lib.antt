@@ -1,0 +1,2 @@
+pub mod Moods
+pub mod Scene

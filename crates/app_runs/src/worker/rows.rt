@@ -1,0 +1,197 @@
+//! Runs whose numbers are worked out by hand: buffers of 1,024 bytes and more, payloads that fill them, and copies of 64
+//! bytes.
+use super::cases::*;
+use crate::step::*;
+use std::test::*;
+use zr_kinds::Stopped;
+
+const ROWS: [Case; 8] = [
+    Case {
+        name: "one buffer, and one completion kept unread: it is read at the end",
+        board: (1, 1024, 64),
+        how: (1, 0, 0, None),
+        steps: &[
+            Step::First,
+            Step::Long(0, 1000),
+            DID,
+            EMPTY,
+            Step::End,
+            DID,
+            NOT_QUIET,
+            FREED,
+            FINISHED,
+        ],
+        counted: 1000,
+        line: Line(1000, 1, 0, Stopped::No),
+        ..CASE
+    },
+    Case {
+        name: "one buffer, and nothing kept unread: it comes back for the second payload",
+        board: (1, 1024, 64),
+        steps: &[
+            Step::First,
+            Step::Long(0, 1000),
+            DID,
+            Step::Shut,
+            FREED,
+            Step::Next,
+            Step::Long(1000, 1000),
+            DID,
+            Step::End,
+            DID,
+            FREED,
+            EMPTY,
+            FINISHED,
+        ],
+        counted: 2000,
+        line: Line(2000, 2, 0, Stopped::No),
+        ..CASE
+    },
+    Case {
+        name: "a payload of 64 bytes is copied into a buffer that was never swept, and one of 65 bytes is placed in it",
+        board: (64, 4096, 64),
+        steps: &[
+            Step::ShortLong(0, 64),
+            DID,
+            FREED,
+            Step::Next,
+            Step::Long(64, 65),
+            DID,
+            Step::End,
+            FREED,
+            FINISHED,
+        ],
+        counted: 129,
+        line: Line(129, 2, 1, Stopped::No),
+        ..CASE
+    },
+    Case {
+        name: "each return is followed by a stray, and the second payload is lent once the first of them was dealt with",
+        board: (2, 1024, 64),
+        how: (0, 0, 1, None),
+        steps: &[
+            Step::First,
+            Step::Long(0, 1000),
+            DID,
+            Step::Next,
+            Step::Long(1000, 1000),
+            DID,
+            Step::End,
+            UNSETTLED,
+            FREED,
+            UNSETTLED,
+            STRAY,
+            EMPTY,
+            DID,
+            DID,
+            NOT_QUIET,
+            FREED,
+            NOT_QUIET,
+            STRAY,
+            EMPTY,
+            FINISHED,
+        ],
+        counted: 2000,
+        line: Line(2000, 2, 0, Stopped::No),
+        ..CASE
+    },
+    Case {
+        name: "two leaks, and 100 bytes of two payloads of 80",
+        board: (64, 4096, 64),
+        how: (0, 2, 0, Some(100)),
+        base: 100,
+        steps: &[
+            Step::First,
+            Step::Long(0, 80),
+            DID,
+            EMPTY,
+            Step::Long(80, 80),
+            DID,
+            EMPTY,
+            DID,
+            NO_NOTE,
+            Step::End,
+            FINISHED,
+        ],
+        counted: 100,
+        line: Line(100, 2, 0, Stopped::Quit),
+        ..CASE
+    },
+    Case {
+        name: "a copy in the reserve, with one completion kept unread: both are read",
+        board: (1, 1024, 64),
+        how: (1, 0, 0, None),
+        steps: &[
+            Step::First,
+            Step::Long(0, 1000),
+            Step::ShortLong(1000, 64),
+            Step::End,
+            DID,
+            EMPTY,
+            DID,
+            FREED,
+            HONOURED,
+            EMPTY,
+            FINISHED,
+        ],
+        counted: 1064,
+        line: Line(1064, 2, 1, Stopped::No),
+        ..CASE
+    },
+    Case {
+        name: "rings of one place, and a payload of three pieces",
+        board: (3, 1024, 1),
+        steps: &[
+            Step::First,
+            Step::Piece(0, 2500, 0, 1024),
+            DID,
+            Step::Next,
+            Step::Piece(0, 2500, 1024, 1024),
+            DID,
+            REFILL_FULL,
+            FREED,
+            DID,
+            Step::Next,
+            Step::Piece(0, 2500, 2048, 452),
+            FREED,
+            DID,
+            Step::End,
+            DID,
+            NOT_QUIET,
+            FREED,
+            FINISHED,
+        ],
+        counted: 2500,
+        line: Line(2500, 3, 0, Stopped::No),
+        ..CASE
+    },
+    Case {
+        name: "no buffer is listed: the second copy waits until the card has dealt with the first",
+        board: (1, 1024, 64),
+        how: (1, 0, 0, None),
+        steps: &[
+            Step::First,
+            Step::ShortLong(0, 64),
+            DID,
+            Step::ShortLong(64, 64),
+            DID,
+            RESERVE_HELD,
+            RESERVE_HELD,
+            HONOURED,
+            DID,
+            NO_NOTE,
+            HONOURED,
+            EMPTY,
+            Step::End,
+            FINISHED,
+        ],
+        counted: 128,
+        line: Line(128, 2, 2, Stopped::No),
+        ..CASE
+    },
+];
+
+#[test]
+fn worked_runs(rt: HostRuntime) -> Result<(), Fail> {
+    plays(&rt, rt.alloc(), &ROWS)
+}

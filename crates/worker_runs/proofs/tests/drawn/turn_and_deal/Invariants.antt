@@ -1,5 +1,0 @@
-use Rattle.worker_runs.specs.Scene.{IsPlaying}
-use Rattle.worker_runs.proofs.tests.drawn.turn_and_deal.Given as goal
-
-abbrev pub invariant-loop : goal.invariant-loop
-invariant-loop l = IsPlaying l.board l.scene.card l.scene.st l.scene.left
