@@ -3,7 +3,7 @@
 use crate::calls::{expect_appends, expect_bytes, expect_reads, expect_writes};
 use std::alloc::{AllocError, Global};
 use std::process::Abort;
-use zr_io::{Failed, MemShelf, MemSink, MemSource, SureSource};
+use zr_io::{Failed, MemShelf, MemSink, MemSource, Shelf, SureSource};
 
 /// A source of `hello` that gives at most 3 bytes at a call, and of which the listed calls fail.
 fn hello(alloc: Global, fails: &[u64]) -> Result<MemSource, AllocError> {
@@ -35,7 +35,8 @@ fn expect_sink(
     expect_bytes(rt, sink.bytes(), bytes);
 }
 
-/// A shelf for two flows, with room for so many bytes of each, gets these pieces, and has those of both in the end.
+/// A shelf for two flows, with room for so many bytes of each, gets these pieces and is flushed, and has those of both in
+/// the end.
 fn expect_shelf(
     rt: &(impl Abort + AllocGlobal),
     room: usize,
@@ -46,6 +47,7 @@ fn expect_shelf(
     let fails = fails.to_vec(rt.alloc()).expect(rt, "memory");
     let mut shelf = MemShelf::new(rt.alloc(), 2, room, fails).expect(rt, "memory");
     expect_appends(rt, &mut shelf, pieces);
+    assert!(rt; shelf.flush().is_ok());
     expect_bytes(rt, shelf.flow(0), flows[0]);
     expect_bytes(rt, shelf.flow(1), flows[1]);
 }
