@@ -1,4 +1,4 @@
-//! One replay over memory, and what it left.
+//! One call over memory, and what it left.
 ghost use Rattle.top_call.specs.Cards.{IsClosed};
 
 use replay_threads::{Gate, NoGate};
@@ -50,8 +50,6 @@ pub struct Given<'a> {
     pub stream_room: usize,
     /// How many bytes the sink has room for.
     pub sink_room: usize,
-    /// How many buffers the pool has, by the words.
-    pub buffers: u32,
 }
 
 /// What a call left.
@@ -78,36 +76,7 @@ pub const fn faultless(bytes: &[u8]) -> Given<'_> {
         sink_fails: &[],
         stream_room: STREAM_ROOM,
         sink_room: REPORT_ROOM,
-        buffers: 64,
     }
-}
-
-/// The stream of a flow, on the shelf of its application.
-#[derive(Clone, Copy)]
-pub struct Stream<'a> {
-    pub app: usize,
-    pub flow: u32,
-    pub bytes: &'a [u8],
-}
-
-/// The stream of flow 0, on the first shelf.
-pub const fn first(bytes: &[u8]) -> Stream<'_> {
-    Stream {
-        app: 0,
-        flow: 0,
-        bytes,
-    }
-}
-
-/// A replay, and what it has to leave.
-#[derive(Clone, Copy)]
-pub struct Row<'a> {
-    pub name: &'a str,
-    pub given: Given<'a>,
-    pub status: u8,
-    /// The streams that aren't empty.
-    pub streams: &'a [Stream<'a>],
-    pub report: &'a str,
 }
 
 /// The calls of this application's shelf that fail.
@@ -125,36 +94,19 @@ fn fails_of(
     Ok(own)
 }
 
-/// Eight shelves with room for so many bytes of each flow.
-fn shelves(alloc: Global, room: usize, fails: &[ShelfFail]) -> Result<Vec<MemShelf>, Fail> {
+/// Eight shelves with room for so many bytes of each of so many flows.
+pub fn shelves_for(
+    alloc: Global,
+    flows: u32,
+    room: usize,
+    fails: &[ShelfFail],
+) -> Result<Vec<MemShelf>, AllocError> {
     let mut shelves = Vec::with_capacity(alloc, SHELVES)?;
     for app in 0..SHELVES {
         let own = fails_of(alloc, app, fails)?;
-        shelves.push(MemShelf::new(alloc, FLOWS, room, own)?)?;
+        shelves.push(MemShelf::new(alloc, flows, room, own)?)?;
     }
     Ok(shelves)
-}
-
-/// What a flow has to be on a shelf.
-fn wanted<'a>(streams: &[Stream<'a>], app: usize, flow: u32) -> &'a [u8] {
-    for stream in streams {
-        if stream.app == app && stream.flow == flow {
-            return stream.bytes;
-        }
-    }
-    &[]
-}
-
-/// Every shelf has the streams of its application, and nothing else.
-pub fn check_shelves(name: &str, streams: &[Stream<'_>], shelves: &[MemShelf]) -> Result<(), Fail> {
-    for (app, shelf) in shelves.iter().enumerate() {
-        for flow in 0..FLOWS {
-            if shelf.flow(flow) != wanted(streams, app, flow) {
-                return Err(Fail::new(format_args!("{name}: flow {flow} of shelf {app}")));
-            }
-        }
-    }
-    Ok(())
 }
 
 /// What the source's next call gives.
@@ -174,22 +126,6 @@ pub fn free_buffers(card: Card) -> Option<Vec<u32>>
     }
 }
 
-/// Each of the pool's buffers is free once.
-pub fn check_free(
-    rt: &impl AllocGlobal,
-    name: &str,
-    free: Option<Vec<u32>>,
-    buffers: u32,
-) -> Result<(), Fail> {
-    let mut free = free.ok_or("no board")?;
-    free.sort()?;
-    let all: Vec<u32> = (0..buffers).collect(rt.alloc())?;
-    if free.as_slice() != all.as_slice() {
-        return Err(Fail::new(format_args!("{name}: free {free:?}")));
-    }
-    Ok(())
-}
-
 /// Runs the command. The gate is asked before each turn on threads.
 pub fn run_behind<G: Gate + Sync>(
     rt: &(impl AllocGlobal + RandomSource + Threads + Wait + Sync),
@@ -202,7 +138,7 @@ pub fn run_behind<G: Gate + Sync>(
     }
     let bytes = given.bytes.to_vec(alloc)?;
     let mut source = MemSource::new(bytes, given.most, given.source_fails.to_vec(alloc)?);
-    let mut shelves = shelves(alloc, given.stream_room, given.shelf_fails)?;
+    let mut shelves = shelves_for(alloc, FLOWS, given.stream_room, given.shelf_fails)?;
     if shelves.len() != SHELVES {
         return Err(Fail::new("another number of shelves"));
     }
@@ -235,48 +171,4 @@ pub fn run(
     given: &Given<'_>,
 ) -> Result<Left, Fail> {
     run_behind(rt, given, &NoGate)
-}
-
-/// With status 2 there is no board, and with any other each buffer of the pool is free.
-fn check_board(rt: &impl AllocGlobal, row: &Row<'_>, free: Option<Vec<u32>>) -> Result<(), Fail> {
-    if row.status == 2 {
-        if free.is_some() {
-            return Err(Fail::new(format_args!("{}: a board", row.name)));
-        }
-        return Ok(());
-    }
-    check_free(rt, row.name, free, row.given.buffers)
-}
-
-/// Replays, compares what is left, and gives what the source's next call gives. The gate is asked before each turn on threads.
-pub fn check_behind<G: Gate + Sync>(
-    rt: &(impl AllocGlobal + RandomSource + Threads + Wait + Sync),
-    row: &Row<'_>,
-    gate: &G,
-) -> Result<Vec<u8>, Fail> {
-    let Left {
-        status,
-        free,
-        sent,
-        shelves,
-        next,
-    } = run_behind(rt, &row.given, gate)?;
-    let told = str::from_utf8(&sent)?;
-    if told != row.report {
-        return Err(Fail::new(format_args!("{}: {told}", row.name)));
-    }
-    if status != row.status {
-        return Err(Fail::new(format_args!("{}: status {status}", row.name)));
-    }
-    check_shelves(row.name, row.streams, &shelves)?;
-    check_board(rt, row, free)?;
-    Ok(next)
-}
-
-/// Replays, compares what is left, and gives what the source's next call gives.
-pub fn check(
-    rt: &(impl AllocGlobal + RandomSource + Threads + Wait + Sync),
-    row: &Row<'_>,
-) -> Result<Vec<u8>, Fail> {
-    check_behind(rt, row, &NoGate)
 }

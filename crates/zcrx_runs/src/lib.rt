@@ -1,25 +1,27 @@
-//! Tests of the top call: replays over memory, of captures of each form and with each fault.
+//! Tests of the top call that no row says: drawn captures, threads that are held up, and captures as long as they may be.
 #![tactic(auto)]
 
 #[cfg(test)]
-mod blocks;
+mod alone;
 #[cfg(test)]
-mod closing;
+mod areas;
+#[cfg(test)]
+mod checks;
 #[cfg(test)]
 mod drawn;
 #[cfg(test)]
-mod faults;
+mod enough;
 #[cfg(test)]
-mod leaving;
+mod gates;
 #[cfg(test)]
 mod limits;
 #[cfg(test)]
-mod ports;
+mod making;
+#[cfg(test)]
+mod plain;
 #[cfg(test)]
 mod reading;
 #[cfg(test)]
-mod reordered;
+mod threads;
 #[cfg(test)]
-mod rows;
-#[cfg(test)]
-mod words;
+mod waiting;

@@ -1,150 +1,24 @@
-//! Captures that are read beside the card.
+//! Captures with a flow too many, which are read beside the card.
 ghost use Rattle.std.specs.Prelude.{Some};
 
-use super::faults::two_ports;
-use super::limits::{report_of_syns, syns};
+use super::checks::check_number;
+use super::gates::{APART, waits_for};
+use super::limits::{check_report, report_of_syns, syns};
 use replay_threads::{Gate, NoGate};
-use run_driver::{
-    APART, Given, Row, Stream, WORDS, check, check_report_behind, check_whole, faultless, first,
-};
-use sample_captures::{PSH_ACK, SYN, capture, frame, record_of, to_9000, to_9001};
+use sample_captures::{SYN, frame, record_of, to_9000};
 use std::alloc::Global;
-use std::ops::Range;
-use std::process::Abort;
 use std::random::RandomSource;
 use std::sync::Wait;
 use std::sync::atomic::{AtomicU64, Ordering};
 use std::test::Fail;
-use std::thread::{Threads, yield_now};
+use std::thread::Threads;
 use zr_io::{Failed, MemSource, Source};
-
-/// How many bytes the record of a frame with two bytes of payload has.
-const RECORD: usize = 72;
 
 /// More bytes than a call of a source is asked for.
 const ALL: usize = 65_536;
 
-/// The first byte of each segment. At its position the segment before has another, which comes first.
-const AGAIN: u8 = 255;
-
-/// 100 segments of a flow, and then 100 of another: each flow's bytes depend on the order of its segments.
-fn two_flows(alloc: Global) -> Result<Vec<Vec<u8>>, Fail> {
-    let mut frames = Vec::new(alloc);
-    for byte in 0..200u8 {
-        let text = [AGAIN, byte];
-        let sent = match byte {
-            0..100 => to_9000(u32::from(byte), PSH_ACK, &text),
-            _ => to_9001(u32::from(byte), PSH_ACK, &text),
-        };
-        frames.push(frame(alloc, &sent)?)?;
-    }
-    Ok(frames)
-}
-
-/// The stream of a flow whose segments had these bytes.
-fn stream_of(alloc: Global, bytes: Range<u8>) -> Result<Vec<u8>, Fail> {
-    let mut stream = [AGAIN].to_vec(alloc)?;
-    for byte in bytes {
-        stream.push(byte)?;
-    }
-    Ok(stream)
-}
-
-/// What 199 records of two flows come to. Each payload takes 64 bytes of a buffer, so they fill three and begin a fourth.
-const ALL_BUT_ONE: &str = "\
-capture records 199 tcp 199 steered 199 other 0 fragment 0 cut 0 bad 0
-app 0 port 9000 written 101 loans 100 copied 0 stopped no
-app 1 port 9001 written 100 loans 99 copied 0 stopped no
-flow 0 port 9000 base 0 bytes 101 fin no end open
-flow 1 port 9001 base 100 bytes 100 fin no end open
-pool fast 3 refill 0 slow 1 empty 0 strays 0
-status 6
-";
-
-/// Whatever is missing of the last of 200 records, and however the source gives the bytes.
-#[test]
-fn a_cut_record_is_told_behind_the_others(rt: HostRuntime) -> Result<(), Fail> {
-    let alloc = rt.alloc();
-    let bytes = capture(alloc, &two_flows(alloc)?)?;
-    let zero = stream_of(alloc, 0..100)?;
-    let one = stream_of(alloc, 100..199)?;
-    let other = Stream {
-        app: 1,
-        flow: 1,
-        bytes: &one,
-    };
-    for missing in 1..RECORD {
-        let left = bytes.len().saturating_sub(missing);
-        let front = bytes.get(..left).ok_or("too short")?;
-        let name = format!(in alloc; "{missing} bytes are missing")?;
-        for most in [ALL, 1] {
-            let row = Row {
-                name: &name,
-                given: Given {
-                    words: &["replay", "9000", "9001"],
-                    most,
-                    ..faultless(front)
-                },
-                status: 6,
-                streams: &[first(&zero), other],
-                report: ALL_BUT_ONE,
-            };
-            check(&rt, &row)?;
-        }
-    }
-    Ok(())
-}
-
-/// How many bytes a call gives of a capture that is read in pieces.
-const PIECE: usize = 7;
-
-/// How many calls read so many bytes.
-fn calls(bytes: usize) -> u64 {
-    bytes.div_ceil(PIECE) as u64
-}
-
-/// The call behind which each of the frames was read. Before them come the magic number and the rest of the file header, and
-/// before each the header of its record.
-fn last_calls(alloc: Global, frames: &[Vec<u8>]) -> Result<Vec<u64>, Fail> {
-    let mut last = calls(4).saturating_add(calls(20));
-    let mut all = Vec::new(alloc);
-    for frame in frames {
-        last = last
-            .saturating_add(calls(16))
-            .saturating_add(calls(frame.len()));
-        all.push(last)?;
-    }
-    Ok(all)
-}
-
-/// The records that were whole before a call that fails are replayed, at each call up to the one that looks for a record behind
-/// the last.
-#[test]
-fn a_failed_read_is_told_behind_the_records_before_it(rt: HostRuntime) -> Result<(), Fail> {
-    let alloc = rt.alloc();
-    let frames = two_ports(alloc)?;
-    let bytes = capture(alloc, &frames)?;
-    let last_calls = last_calls(alloc, &frames)?;
-    let end = last_calls.last().ok_or("no frame")?.saturating_add(1);
-    for call in 1..=end {
-        let whole = last_calls.iter().filter(|last| **last < call).count();
-        let name = format!(in alloc; "call {call}")?;
-        let given = Given {
-            words: &WORDS,
-            most: PIECE,
-            source_fails: &[call],
-            ..faultless(&bytes)
-        };
-        check_whole(&rt, &name, frames.get(..whole).ok_or("too few")?, &given, 8)?;
-    }
-    Ok(())
-}
-
 /// The number of the record that would begin a flow too many.
 const LAST: u64 = 65_536;
-
-/// How often the card looks whether the reading has come far enough.
-const LOOKS: u32 = 10_000_000;
 
 /// The first call of a source behind so many records: the file header takes two, and each record takes two.
 const fn call_behind(records: u64) -> u64 {
@@ -188,12 +62,7 @@ impl Gate for Ahead<'_> {
         } else {
             self.end
         };
-        for _ in 0..LOOKS {
-            if self.calls.load(Ordering::SeqCst) >= wanted {
-                return;
-            }
-            yield_now();
-        }
+        waits_for(self.calls, wanted);
     }
 
     fn processors(&self) -> Option<usize> {
@@ -203,7 +72,7 @@ impl Gate for Ahead<'_> {
 
 /// A capture whose reading ends by this call, behind the record that would begin a flow too many and before the card takes that.
 fn check_ahead(
-    rt: &(impl Abort + AllocGlobal + RandomSource + Threads + Wait + Sync),
+    rt: &(impl AllocGlobal + RandomSource + Threads + Wait + Sync),
     bytes: &[u8],
     fails: &[u64],
     end: u64,
@@ -216,9 +85,8 @@ fn check_ahead(
         calls: &calls,
     };
     let gate = Ahead { calls: &calls, end };
-    check_report_behind(rt, &mut source, 10, report, &gate)?;
-    assert_eq!(rt; calls.load(Ordering::SeqCst), end);
-    Ok(())
+    check_report(rt, &mut source, 10, report, &gate)?;
+    check_number("calls", end, calls.load(Ordering::SeqCst))
 }
 
 /// A SYN from each port there is, and so many records more.
@@ -270,7 +138,9 @@ fn a_flow_too_many_stops_the_reading(rt: HostRuntime) -> Result<(), Fail> {
         calls: &calls,
     };
     let report = report_of_syns(alloc)?;
-    check_report_behind(&rt, &mut source, 10, &report, &NoGate)?;
-    assert!(&rt; calls.load(Ordering::SeqCst) < call_behind(LAST + 65));
+    check_report(&rt, &mut source, 10, &report, &NoGate)?;
+    if calls.load(Ordering::SeqCst) >= call_behind(LAST + 65) {
+        return Err(Fail::new("too many calls"));
+    }
     Ok(())
 }

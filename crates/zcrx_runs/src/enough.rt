@@ -1,12 +1,10 @@
 //! Pools of as many buffers as a capture needs, and of fewer.
-use super::threads::Delay;
+use super::checks::{Stream, bytes_from, check_left, check_text, words_of};
+use super::gates::Delay;
 use replay_threads::{Gate, NoGate};
-use run_driver::{
-    Given, Left, bytes_from, check_free, check_shelves, faultless, first, run_behind,
-};
+use run_driver::{Given, faultless, run_behind};
 use sample_captures::{PSH_ACK, SYN, capture, frame, to_9000};
 use std::alloc::Global;
-use std::process::Abort;
 use std::random::RandomSource;
 use std::sync::Wait;
 use std::test::Fail;
@@ -112,48 +110,6 @@ fn capture_of_case(alloc: Global, case: &Case) -> Result<Vec<u8>, Fail> {
     capture(alloc, &frames)
 }
 
-/// Replays a case over so many buffers, and compares the lines of refused frames and the stream, of which so many bytes have to
-/// come out.
-fn check_case<G: Gate + Sync>(
-    rt: &(impl Abort + AllocGlobal + RandomSource + Threads + Wait + Sync),
-    case: &Case,
-    buffers: u32,
-    turns: Option<&str>,
-    gate: &G,
-    refused: &str,
-    written: usize,
-) -> Result<(), Fail> {
-    let alloc = rt.alloc();
-    let bytes = capture_of_case(alloc, case)?;
-    let stream = bytes_from(alloc, 0, written)?;
-    let split = case.split;
-    let mut line = format!(in alloc;
-        "replay --size 1024 --hold 64 --buffers {buffers} --split {split}"
-    )?;
-    if let Some(text) = turns {
-        line.push_str(" --turns ")?;
-        line.push_str(text)?;
-    }
-    line.push_str(" 9000")?;
-    let mut words = Vec::new(alloc);
-    for word in line.split(' ') {
-        words.push(word)?;
-    }
-    let given = Given {
-        words: &words,
-        stream_room: ROOM,
-        ..faultless(&bytes)
-    };
-    let left = run_behind(rt, &given, gate)?;
-    let name = line.as_str();
-    let told = refused_in(alloc, str::from_utf8(&left.sent)?)?;
-    assert_eq!(rt; told.as_str(), refused, "{name}");
-    assert_eq!(rt; left.status, 0, "{name}");
-    let Left { free, shelves, .. } = left;
-    check_shelves(name, &[first(&stream)], &shelves)?;
-    check_free(rt, name, free, buffers)
-}
-
 /// The lines of refused frames.
 fn refused_in(alloc: Global, report: &str) -> Result<String, Fail> {
     let mut lines = String::new(alloc);
@@ -163,6 +119,37 @@ fn refused_in(alloc: Global, report: &str) -> Result<String, Fail> {
         }
     }
     Ok(lines)
+}
+
+/// Replays a capture by these options, and compares the lines of refused frames and the stream.
+fn check_run<G: Gate + Sync>(
+    rt: &(impl AllocGlobal + RandomSource + Threads + Wait + Sync),
+    bytes: &[u8],
+    options: &str,
+    buffers: u32,
+    gate: &G,
+    refused: &str,
+    stream: &[u8],
+) -> Result<(), Fail> {
+    let alloc = rt.alloc();
+    let line = format!(in alloc;
+        "replay --size 1024 --hold 64 --buffers {buffers} {options} 9000"
+    )?;
+    let words = words_of(alloc, &line)?;
+    let given = Given {
+        words: &words,
+        stream_room: ROOM,
+        ..faultless(bytes)
+    };
+    let left = run_behind(rt, &given, gate)?;
+    let told = refused_in(alloc, str::from_utf8(&left.sent)?)?;
+    check_text(&line, refused, &told)?;
+    let stream = Stream {
+        app: 0,
+        flow: 0,
+        bytes: stream,
+    };
+    check_left(alloc, &line, &[stream], buffers, left)
 }
 
 /// A text of eight turns, each the card's or the application's: the first is the card's in every second text.
@@ -176,37 +163,61 @@ fn text_of(alloc: Global, number: u32) -> Result<String, Fail> {
     Ok(text)
 }
 
-/// Under every text of eight turns. With fewer buffers there is a text that leaves too few.
-#[test]
-fn as_many_buffers_as_needed_are_enough_by_turns(rt: HostRuntime) -> Result<(), Fail> {
+/// With the buffers that are needed each text of eight turns leaves enough, and with fewer the case's text leaves too few.
+fn check_by_turns(
+    rt: &(impl AllocGlobal + RandomSource + Threads + Wait + Sync),
+    case: &Case,
+) -> Result<(), Fail> {
     let alloc = rt.alloc();
-    for case in CASES {
-        for number in 0..TEXTS {
-            let text = text_of(alloc, number)?;
-            check_case(&rt, &case, case.need, Some(&text), &NoGate, "", case.whole)?;
-        }
-        let turns = Some(case.turns);
-        check_case(
-            &rt,
-            &case,
-            case.fewer,
-            turns,
-            &NoGate,
-            case.refused,
-            case.front,
-        )?;
+    let bytes = capture_of_case(alloc, case)?;
+    let stream = bytes_from(alloc, 0, case.whole)?;
+    let split = case.split;
+    for number in 0..TEXTS {
+        let turns = text_of(alloc, number)?;
+        let options = format!(in alloc; "--split {split} --turns {turns}")?;
+        check_run(rt, &bytes, &options, case.need, &NoGate, "", &stream)?;
+    }
+    let options = format!(in alloc; "--split {split} --turns {}", case.turns)?;
+    let front = bytes_from(alloc, 0, case.front)?;
+    check_run(
+        rt,
+        &bytes,
+        &options,
+        case.fewer,
+        &NoGate,
+        case.refused,
+        &front,
+    )
+}
+
+/// With the buffers that are needed there are enough, whichever role is held up.
+fn check_by_threads(
+    rt: &(impl AllocGlobal + RandomSource + Threads + Wait + Sync),
+    case: &Case,
+) -> Result<(), Fail> {
+    let alloc = rt.alloc();
+    let bytes = capture_of_case(alloc, case)?;
+    let stream = bytes_from(alloc, 0, case.whole)?;
+    let options = format!(in alloc; "--split {}", case.split)?;
+    for run in 0..RUNS {
+        let gate = Delay::of_run(run, 1);
+        check_run(rt, &bytes, &options, case.need, &gate, "", &stream)?;
     }
     Ok(())
 }
 
-/// Whichever role is held up.
+#[test]
+fn as_many_buffers_as_needed_are_enough_by_turns(rt: HostRuntime) -> Result<(), Fail> {
+    for case in CASES {
+        check_by_turns(&rt, &case)?;
+    }
+    Ok(())
+}
+
 #[test]
 fn as_many_buffers_as_needed_are_enough_by_threads(rt: HostRuntime) -> Result<(), Fail> {
     for case in CASES {
-        for run in 0..RUNS {
-            let gate = Delay::of_run(run, 1);
-            check_case(&rt, &case, case.need, None, &gate, "", case.whole)?;
-        }
+        check_by_threads(&rt, &case)?;
     }
     Ok(())
 }

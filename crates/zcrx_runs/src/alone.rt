@@ -1,11 +1,12 @@
 //! Commands that need no threads.
+use super::checks::{check_number, check_text};
+use run_driver::{free_buffers, shelves_for};
 use sample_captures::{PSH_ACK, capture_of, to_9000};
 use std::collections::hash_map::RandomState;
-use std::process::Abort;
 use std::random::RandomSource;
 use std::test::Fail;
 use top_call::{Card, SHELVES, zcrx_alone};
-use zr_io::{MemShelf, MemSink, MemSource};
+use zr_io::{MemSink, MemSource};
 
 /// What a call left.
 #[derive(Drop)]
@@ -18,15 +19,14 @@ struct Left {
 }
 
 /// Runs a command over a capture of one segment, `hello` to port 9000.
-fn run_alone(rt: &(impl Abort + AllocGlobal + RandomSource), words: &[&str]) -> Result<Left, Fail> {
+fn run_alone(rt: &(impl AllocGlobal + RandomSource), words: &[&str]) -> Result<Left, Fail> {
     let alloc = rt.alloc();
     let bytes = capture_of(alloc, &[to_9000(1001, PSH_ACK, b"hello")])?;
     let mut source = MemSource::new(bytes, 1000, Vec::new(alloc));
-    let mut shelves = Vec::with_capacity(alloc, SHELVES)?;
-    for _ in 0..SHELVES {
-        shelves.push(MemShelf::new(alloc, 1, 100, Vec::new(alloc))?)?;
+    let mut shelves = shelves_for(alloc, 1, 100, &[])?;
+    if shelves.len() != SHELVES {
+        return Err(Fail::new("another number of shelves"));
     }
-    assert_eq!(rt; shelves.len(), SHELVES);
     let mut out = MemSink::new(alloc, 2000, Vec::new(alloc))?;
     let random = RandomState::new(rt)?;
     let mut card = Card::Blank;
@@ -39,13 +39,7 @@ fn run_alone(rt: &(impl Abort + AllocGlobal + RandomSource), words: &[&str]) -> 
         &mut out,
         &mut card,
     );
-    let ran = match card {
-        Card::Blank => false,
-        card => {
-            let _ended = card.free();
-            true
-        }
-    };
+    let ran = free_buffers(card).is_some();
     let stream = match shelves.first() {
         Some(shelf) => shelf.flow(0).to_vec(alloc)?,
         None => Vec::new(alloc),
@@ -58,9 +52,25 @@ fn run_alone(rt: &(impl Abort + AllocGlobal + RandomSource), words: &[&str]) -> 
     })
 }
 
+/// A command is answered by a status, writes a text and a stream, and has a board or none.
+fn check_alone(
+    rt: &(impl AllocGlobal + RandomSource),
+    words: &[&str],
+    answer: Option<u8>,
+    text: &str,
+    stream: &str,
+    ran: bool,
+) -> Result<(), Fail> {
+    let left = run_alone(rt, words)?;
+    if left.answer != answer || left.ran != ran {
+        return Err(Fail::new("another answer or board"));
+    }
+    check_text("what went out", text, str::from_utf8(&left.sent)?)?;
+    check_text("stream", stream, str::from_utf8(&left.stream)?)
+}
+
 #[test]
 fn a_replay_by_turns_needs_no_threads(rt: HostRuntime) -> Result<(), Fail> {
-    let left = run_alone(&rt, &["replay", "--turns", "n", "9000"])?;
     let report = "\
 capture records 1 tcp 1 steered 1 other 0 fragment 0 cut 0 bad 0
 app 0 port 9000 written 5 loans 1 copied 0 stopped no
@@ -68,31 +78,22 @@ flow 0 port 9000 base 1001 bytes 5 fin no end open
 pool fast 0 refill 0 slow 1 empty 0 strays 0
 status 0
 ";
-    assert_eq!(&rt; left.answer, Some(0));
-    assert_eq!(&rt; str::from_utf8(&left.sent)?, report);
-    assert_eq!(&rt; left.stream.as_slice(), b"hello".as_slice());
-    assert!(&rt; left.ran);
-    Ok(())
+    let words = ["replay", "--turns", "n", "9000"];
+    check_alone(&rt, &words, Some(0), report, "hello", true)
 }
 
 #[test]
 fn a_replay_by_threads_is_not_begun(rt: HostRuntime) -> Result<(), Fail> {
-    let left = run_alone(&rt, &["replay", "9000"])?;
-    assert_eq!(&rt; left.answer, None);
-    assert!(&rt; left.sent.is_empty() && left.stream.is_empty() && !left.ran);
-    Ok(())
+    check_alone(&rt, &["replay", "9000"], None, "", "", false)
 }
 
 #[test]
 fn other_commands_need_no_threads(rt: HostRuntime) -> Result<(), Fail> {
+    check_alone(&rt, &["check"], Some(14), "bad 1\n", "", false)?;
+    check_alone(&rt, &["replay"], Some(2), "", "", false)?;
     let made = run_alone(&rt, &["make", "7", "1"])?;
-    assert_eq!(&rt; (made.answer, made.sent.len()), (Some(0), 1094));
-    let checked = run_alone(&rt, &["check"])?;
-    assert_eq!(&rt;
-        (checked.answer, checked.sent.as_slice()),
-        (Some(14), b"bad 1\n".as_slice())
-    );
-    let usage = run_alone(&rt, &["replay"])?;
-    assert_eq!(&rt; (usage.answer, usage.sent.len()), (Some(2), 0));
-    Ok(())
+    if made.answer != Some(0) {
+        return Err(Fail::new("another answer"));
+    }
+    check_number("bytes of a capture", 1094, made.sent.len() as u64)
 }

@@ -1,9 +1,10 @@
 //! Replays that are compared with the plain slow programs.
 ghost use Rattle.std.specs.Prelude.{◌<◌, ◌^◌, length};
 
-use crate::runs::{Given, Stream, check_free, check_shelves, faultless, run};
+use super::checks::{Stream, check_left, check_text};
 use flow_table::plain::{PlainFlow, plain_flows, plain_stream};
 use frame_headers::{Seen, read_frame};
+use run_driver::{Given, faultless, run};
 use sample_captures::capture;
 use std::alloc::Global;
 use std::random::RandomSource;
@@ -13,9 +14,6 @@ use std::thread::Threads;
 
 /// The ports that are replayed.
 const PORTS: [u16; 2] = [9000, 9001];
-
-/// The command that replays them.
-pub const WORDS: [&str; 3] = ["replay", "9000", "9001"];
 
 /// How many frames there are of each class, in all, and to one of the ports.
 #[derive(Clone, Copy, Default)]
@@ -67,14 +65,12 @@ fn end_of(flow: &PlainFlow, bytes: usize) -> &'static str {
     }
 }
 
-/// The report of a replay that takes all of these frames and ends by this status, without loans and the pool's line: these the
-/// plain programs don't know.
+/// The report of a replay of all of these frames, without loans and the pool's line: these the plain programs don't know.
 fn report(
     alloc: Global,
     seen: &[Seen<'_>],
     flows: &[PlainFlow],
     streams: &[Stream<'_>],
-    status: u8,
 ) -> Result<String, Fail> {
     let Counts {
         tcp,
@@ -109,7 +105,7 @@ fn report(
         )?;
         text.push_str(&line)?;
     }
-    text.push_str(&format!(in alloc; "status {status}\n")?)?;
+    text.push_str("status 0\n")?;
     Ok(text)
 }
 
@@ -145,14 +141,13 @@ fn plain_streams(alloc: Global, seen: &[Seen<'_>], count: usize) -> Result<Vec<V
     Ok(streams)
 }
 
-/// Replays the two ports of a capture that ends by this status behind these frames: streams, and the report but for loans and the pool's line,
-/// have to be what the plain programs say of the frames.
-pub fn check_whole(
+/// Replays the two ports of these frames by these words: streams, and the report but for loans and the pool's line, have to be
+/// what the plain programs say.
+pub fn check_by(
     rt: &(impl AllocGlobal + RandomSource + Threads + Wait + Sync),
+    words: &[&str],
     name: &str,
     frames: &[Vec<u8>],
-    given: &Given<'_>,
-    status: u8,
 ) -> Result<(), Fail> {
     let alloc = rt.alloc();
     let seen: Vec<Seen<'_>> = frames.iter().map(|frame| read_frame(frame)).collect(alloc)?;
@@ -170,40 +165,14 @@ pub fn check_whole(
             bytes,
         })?;
     }
-    let report = report(alloc, &seen, &flows, &streams, status)?;
-    let left = run(rt, given)?;
-    let told = without_loans(alloc, str::from_utf8(&left.sent)?)?;
-    if told.as_str() != report.as_str() {
-        return Err(Fail::new(format_args!("{name}: {told}")));
-    }
-    if left.status != status {
-        return Err(Fail::new(format_args!("{name}: status {}", left.status)));
-    }
-    check_shelves(name, &streams, &left.shelves)?;
-    check_free(rt, name, left.free, given.buffers)
-}
-
-/// Replays the two ports of these frames by these words: streams, and the report but for loans and the pool's line, have to be
-/// what the plain programs say.
-pub fn check_by(
-    rt: &(impl AllocGlobal + RandomSource + Threads + Wait + Sync),
-    words: &[&str],
-    name: &str,
-    frames: &[Vec<u8>],
-) -> Result<(), Fail> {
-    let capture = capture(rt.alloc(), frames)?;
+    let report = report(alloc, &seen, &flows, &streams)?;
+    let capture = capture(alloc, frames)?;
     let given = Given {
         words,
         ..faultless(&capture)
     };
-    check_whole(rt, name, frames, &given, 0)
-}
-
-/// The same, where nothing else is said.
-pub fn check_plain(
-    rt: &(impl AllocGlobal + RandomSource + Threads + Wait + Sync),
-    name: &str,
-    frames: &[Vec<u8>],
-) -> Result<(), Fail> {
-    check_by(rt, &WORDS, name, frames)
+    let left = run(rt, &given)?;
+    let told = without_loans(alloc, str::from_utf8(&left.sent)?)?;
+    check_text(name, &report, &told)?;
+    check_left(alloc, name, &streams, 64, left)
 }

@@ -1,21 +1,20 @@
 //! The card waits for buffers that are on their way back, and the loops of the roles go on side by side.
 ghost use Rattle.std.specs.Prelude.{Some};
 
-use super::making::{LONG, made_by, make};
+use super::checks::{bytes_from, check_left, check_number, one_for_each, words_of};
+use super::gates::{APART, Meeting, TOGETHER, waits_for};
+use super::limits::check_report;
+use super::making::{LONG, made};
 use replay_threads::Gate;
-use run_driver::{
-    APART, Given, Left, Stream, TOGETHER, bytes_from, check_free, check_report_behind,
-    check_shelves, faultless, run_behind,
-};
+use run_driver::{Given, faultless, run_behind};
 use sample_captures::{PSH_ACK, Sent, capture, frame, to_9000};
 use std::alloc::Global;
 use std::hint::spin_loop;
-use std::process::Abort;
 use std::random::RandomSource;
 use std::sync::Wait;
 use std::sync::atomic::{AtomicU64, Ordering};
 use std::test::Fail;
-use std::thread::{Threads, yield_now};
+use std::thread::Threads;
 use zr_io::{Failed, MemSource, Source};
 
 /// How often each case runs.
@@ -165,15 +164,6 @@ fn capture_for(alloc: Global, case: &Case) -> Result<(Vec<u8>, usize), Fail> {
     Ok((capture(alloc, &frames)?, position))
 }
 
-/// The command's words.
-fn words_for<'a>(alloc: Global, text: &'a str) -> Result<Vec<&'a str>, Fail> {
-    let mut words = Vec::new(alloc);
-    for word in text.split(' ') {
-        words.push(word)?;
-    }
-    Ok(words)
-}
-
 /// Holds the applications up before each turn, so that the card runs ahead of them.
 #[derive(Drop)]
 struct Slow {
@@ -194,47 +184,43 @@ impl Gate for Slow {
     }
 }
 
-/// A run in which no frame is refused, and each stream is whole.
-fn check_case<G: Gate + Sync>(
-    rt: &(impl Abort + AllocGlobal + RandomSource + Threads + Wait + Sync),
+/// So many copies of a stream.
+fn copies(alloc: Global, count: u16, len: usize) -> Result<Vec<Vec<u8>>, Fail> {
+    let mut all = Vec::new(alloc);
+    for _ in 0..count {
+        all.push(bytes_from(alloc, 0, len)?)?;
+    }
+    Ok(all)
+}
+
+/// So many runs in which no frame is refused, and each stream is whole.
+fn check_case(
+    rt: &(impl AllocGlobal + RandomSource + Threads + Wait + Sync),
     case: &Case,
-    gate: &G,
+    runs: u32,
+    gate: &Slow,
 ) -> Result<(), Fail> {
     let alloc = rt.alloc();
     let (bytes, whole) = capture_for(alloc, case)?;
+    let all = copies(alloc, case.ports, whole)?;
+    let streams = one_for_each(alloc, &all)?;
     let ports = if case.ports == 1 { "9000" } else { "9000 9001" };
     let text = format!(in alloc; "replay --size 1024 {} {ports}", case.options)?;
-    let words = words_for(alloc, &text)?;
+    let words = words_of(alloc, &text)?;
     let given = Given {
         words: &words,
-        buffers: case.buffers,
         most: LONG,
         stream_room: LONG,
         ..faultless(&bytes)
     };
-    let stream = bytes_from(alloc, 0, whole)?;
-    let mut streams = Vec::new(alloc);
-    for flow in 0..case.ports {
-        streams.push(Stream {
-            app: usize::from(flow),
-            flow: u32::from(flow),
-            bytes: &stream,
-        })?;
+    for _ in 0..runs {
+        let left = run_behind(rt, &given, gate)?;
+        if !str::from_utf8(&left.sent)?.contains(" empty 0 strays 0\n") {
+            return Err(Fail::new(format_args!("{text}: refused")));
+        }
+        check_left(alloc, &text, &streams, case.buffers, left)?;
     }
-    let Left {
-        status,
-        free,
-        sent,
-        shelves,
-        ..
-    } = run_behind(rt, &given, gate)?;
-    assert_eq!(rt; status, 0, "{text}");
-    assert!(rt;
-        str::from_utf8(&sent)?.contains(" empty 0 strays 0\n"),
-        "{text}"
-    );
-    check_shelves(&text, &streams, &shelves)?;
-    check_free(rt, &text, free, case.buffers)
+    Ok(())
 }
 
 /// Even where the applications are slow.
@@ -242,9 +228,7 @@ fn check_case<G: Gate + Sync>(
 fn no_frame_is_refused_while_buffers_come_back(rt: HostRuntime) -> Result<(), Fail> {
     let gate = Slow { processors: APART };
     for case in &CASES {
-        for _ in 0..RUNS {
-            check_case(&rt, case, &gate)?;
-        }
+        check_case(&rt, case, RUNS, &gate)?;
     }
     Ok(())
 }
@@ -256,81 +240,38 @@ fn no_frame_is_refused_in_one_thread(rt: HostRuntime) -> Result<(), Fail> {
         processors: TOGETHER,
     };
     for case in &CASES {
-        check_case(&rt, case, &gate)?;
+        check_case(&rt, case, 1, &gate)?;
     }
     Ok(())
 }
 
-/// How often a role looks whether another has come.
-const LOOKS: u32 = 10_000_000;
-
-/// Holds the card at one of its turns until the first application has come to one of its own, and that until the card has.
-#[derive(Drop)]
-struct Meeting {
+/// A turn of the card meets one of an application, over as many buffers as frames, so that the card doesn't wait for the
+/// application that waits.
+fn check_meeting(
+    rt: &(impl AllocGlobal + RandomSource + Threads + Wait + Sync),
+    made: &[u8],
     card_turn: u64,
     app_turn: u64,
-    card: AtomicU64,
-    app: AtomicU64,
-    /// How many have met the other.
-    met: AtomicU64,
-}
-
-impl Meeting {
-    fn at_turns(card_turn: u64, app_turn: u64) -> Meeting {
-        Meeting {
-            card_turn,
-            app_turn,
-            card: AtomicU64::new(0),
-            app: AtomicU64::new(0),
-            met: AtomicU64::new(0),
-        }
-    }
-
-    fn meet(&self, own: &AtomicU64, other: &AtomicU64) {
-        own.store(1, Ordering::SeqCst);
-        for _ in 0..LOOKS {
-            if other.load(Ordering::SeqCst) == 1 {
-                self.met.fetch_add(1, Ordering::SeqCst);
-                return;
-            }
-            yield_now();
-        }
-    }
-}
-
-impl Gate for Meeting {
-    fn at(&self, who: u32, turn: u64) {
-        if who == 0 && turn == self.card_turn {
-            self.meet(&self.card, &self.app);
-        } else if who == 1 && turn == self.app_turn {
-            self.meet(&self.app, &self.card);
-        }
-    }
-
-    fn processors(&self) -> Option<usize> {
-        APART
-    }
+) -> Result<(), Fail> {
+    let gate = Meeting::of_turns((0, card_turn), (1, app_turn));
+    let given = Given {
+        words: &["replay", "--buffers", "2000", "9000"],
+        most: LONG,
+        stream_room: LONG,
+        ..faultless(made)
+    };
+    let left = run_behind(rt, &given, &gate)?;
+    check_number("status", 0, u64::from(left.status))?;
+    check_number("card and application that met", 2, gate.met())
 }
 
 /// The card's first turn meets the first of an application, and a turn far behind its first notes another: the loops of both go
-/// on in threads of their own. There are as many buffers as frames, so the card doesn't wait for the application that waits.
+/// on in threads of their own.
 #[test]
 fn the_card_and_an_application_go_on_side_by_side(rt: HostRuntime) -> Result<(), Fail> {
-    let made = make(&rt, &made_by(&["make", "7", "2000"]), 0)?;
-    for (card_turn, app_turn) in [(0, 0), (1900, 100)] {
-        let gate = Meeting::at_turns(card_turn, app_turn);
-        let given = Given {
-            words: &["replay", "--buffers", "2000", "9000"],
-            buffers: 2000,
-            most: LONG,
-            stream_room: LONG,
-            ..faultless(&made)
-        };
-        let left = run_behind(&rt, &given, &gate)?;
-        assert_eq!(&rt; left.status, 0);
-        assert_eq!(&rt; gate.met.load(Ordering::SeqCst), 2, "{card_turn}");
-    }
-    Ok(())
+    let made = made(&rt, &["make", "7", "2000"])?;
+    check_meeting(&rt, &made, 0, 0)?;
+    check_meeting(&rt, &made, 1900, 100)
 }
 
 /// A source that gives one record only once the card has begun its turns.
@@ -361,13 +302,9 @@ impl Source for Held<'_> {
 
 impl Held<'_> {
     fn wait(&self) {
-        for _ in 0..LOOKS {
-            if self.begun.load(Ordering::SeqCst) == 1 {
-                return;
-            }
-            yield_now();
+        if !waits_for(self.begun, 1) {
+            self.late.fetch_add(1, Ordering::SeqCst);
         }
-        self.late.fetch_add(1, Ordering::SeqCst);
     }
 }
 
@@ -413,7 +350,6 @@ fn the_reading_and_the_card_go_on_side_by_side(rt: HostRuntime) -> Result<(), Fa
         begun: &begun,
         late: &late,
     };
-    check_report_behind(&rt, &mut source, 0, NOTHING_SENT, &Begins { begun: &begun })?;
-    assert_eq!(&rt; late.load(Ordering::SeqCst), 0);
-    Ok(())
+    check_report(&rt, &mut source, 0, NOTHING_SENT, &Begins { begun: &begun })?;
+    check_number("calls in vain", 0, late.load(Ordering::SeqCst))
 }
