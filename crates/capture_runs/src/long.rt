@@ -51,8 +51,9 @@ app 0 port 9000 written {bytes} loans {loans} copied 0 stopped no
 flow 0 port 9000 base 1000 bytes {bytes} fin no end open
 "
     )?;
-    for group in 1..loans {
-        text.push_str(&format!(in alloc; "refused {}\n", 2 * group)?)?;
+    for group in 1..=groups {
+        let refused = 2 * u32::from(group);
+        text.push_str(&format!(in alloc; "refused {refused}\n")?)?;
     }
     text.push_str(&format!(in alloc;
         "pool fast 0 refill {groups} slow 1 empty {groups} strays 0\nstatus 0\n"
