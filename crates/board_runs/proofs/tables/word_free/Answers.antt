@@ -14,7 +14,7 @@ all-back setting nic app due dealt one number = record {
       subst (Contains (app.view.app ∷ [])) (number ∙ sym first) (Contains-push [] app.view.app);
 }
 
-pub face_rows-requires : goal.loop-row-init
+pub face_rows-requires : goal.face_rows-requires
 face_rows-requires g c =
     let nic : c.nic.result ≡ Some c.in_ok-nic.nic = search rules in
     let app : c.app.result ≡ Some c.in_ok-seat.seat = search rules in
@@ -22,13 +22,7 @@ face_rows-requires g c =
     (rw nic at c.nic.ensures.given).2 in
     let app-new : c.in_ok-seat.seat ≡ record { board = c.in_ok-board.board; side = new_app c.in_ok-board.board.setting 0 } =
     (rw app at c.app.ensures.given).2 in
-    rw (card-new, app-new) record {
-      card = c.new-card.ensures _;
-      app = c.new-app.ensures _ 0;
-      number = refl;
-      at = refl;
-      beside = refl;
-    }
+    rw (card-new, app-new) record { card = c.new-card.ensures _; app = c.new-app.ensures _ 0 }
 
 pub finish-requires-clause-back : goal.finish-requires-clause-back
 finish-requires-clause-back g c =
@@ -37,5 +31,8 @@ finish-requires-clause-back g c =
     let app : c.app.result ≡ Some c.in_ok-seat.seat = search rules in
     let card-given : c.nic.new.desk ≡ gave_role c.in_ok-board.desk 0 = (rw nic at c.nic.ensures.given).1 in
     let app-given : c.app.new.desk ≡ gave_role c.nic.new.desk 1 = (rw app at c.app.ensures.given).1 in
+    let app-new : c.in_ok-seat.seat ≡ record { board = c.in_ok-board.board; side = new_app c.in_ok-board.board.setting 0 } =
+    (rw app at c.app.ensures.given).2 in
+    let number : c.face_rows.new.seat.side.view.app ≡ 0 = c.face_rows.ensures.number ∙ rw app-new refl in
     rw (c.back-2.ensures.desk, c.back.ensures.desk, app-given, card-given, c.in_ok-board.ensures.desk)
-    (all-back _ _ _ _ _ many c.face_rows.ensures.number)
+    (all-back _ _ _ _ _ many number)
