@@ -4,7 +4,7 @@ use super::areas::judges;
 use super::tables::{Table, run};
 use area_layout::Layout;
 use board_face::Entry;
-use face_table::{Row, Text, app, card, void_entries};
+use face_table::{Row, Text, app, card, fields, void_entries};
 use std::alloc::Global;
 use std::process::Abort;
 use std::test::*;
@@ -118,45 +118,25 @@ fn entries_of_two_areas_are_strays(rt: HostRuntime) -> Result<(), Fail> {
     run_over(&rt, rt.alloc(), TWO_AREAS, &rows, &[0, 1, 2])
 }
 
-const HELLO: Text = Text {
-    len: 5,
-    bytes: *b"hello\0\0\0",
-};
+const HELLO: Text = fields!(Text len 5 bytes (*b"hello\0\0\0"));
 
 /// The place of a piece of five bytes.
 macro_rules! place {
     ($buffer:expr, $offset:expr) => {
-        Place {
-            buffer: $buffer,
-            offset: $offset,
-            len: 5,
-        }
+        fields!(Place buffer $buffer offset $offset len 5)
     };
 }
 
 /// Its note.
 macro_rules! note {
     ($buffer:expr, $offset:expr) => {
-        Note {
-            frame: 1,
-            flow: 0,
-            base: 1,
-            seq: 1,
-            at: 0,
-            total: 5,
-            place: place!($buffer, $offset),
-            split: true,
-            fin: false,
-        }
+        fields!(Note frame 1 flow 0 base 1 seq 1 at 0 total 5
+            place (place!($buffer, $offset)) split true fin false)
     };
 }
 
 /// The entry of the last of the pieces.
-const ENTRY: Rqe = Rqe {
-    off: AREA_1 + 64,
-    len: 5,
-    pad: 0,
-};
+const ENTRY: Rqe = fields!(Rqe off (AREA_1 + 64) len 5 pad 0);
 
 /// A piece is sent of each buffer of two areas, and two of the last, which lies in area 1. All but that piece are given up. Its
 /// entry is a stray while the piece is only held, and honoured once it was lent.

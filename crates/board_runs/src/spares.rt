@@ -1,7 +1,7 @@
 //! Which buffer a spare is on the board on words, where several are listed.
 use super::tables::face_rows;
 use area_layout::Layout;
-use face_table::{AppHand, CardHand, Row, Text, app, card};
+use face_table::{AppHand, CardHand, Row, Text, app, card, fields};
 use std::alloc::Global;
 use std::process::Abort;
 use std::test::*;
@@ -9,50 +9,18 @@ use word_board::WordBoard;
 use zr_kinds::{Note, Place};
 
 /// A note in which four bytes travel.
-const SHORT: Note = Note {
-    frame: 1,
-    flow: 0,
-    base: 1,
-    seq: 1,
-    at: 0,
-    total: 4,
-    place: Place {
-        buffer: 0,
-        offset: 0,
-        len: 4,
-    },
-    split: false,
-    fin: false,
-};
+const SHORT: Note = fields!(Note frame 1 flow 0 base 1 seq 1 at 0 total 4
+    place (fields!(Place buffer 0 offset 0 len 4)) split false fin false);
 
-const HELLO_PLACE: Place = Place {
-    buffer: 0,
-    offset: 0,
-    len: 5,
-};
+const HELLO_PLACE: Place = fields!(Place buffer 0 offset 0 len 5);
 
 /// A note of a piece of five bytes at the begin of buffer 0.
-const SPLIT: Note = Note {
-    frame: 2,
-    flow: 0,
-    base: 5,
-    seq: 5,
-    at: 0,
-    total: 5,
-    place: HELLO_PLACE,
-    split: true,
-    fin: false,
-};
+const SPLIT: Note =
+    fields!(Note frame 2 flow 0 base 5 seq 5 at 0 total 5 place HELLO_PLACE split true fin false);
 
-const PING: Text = Text {
-    len: 4,
-    bytes: *b"ping\0\0\0\0",
-};
+const PING: Text = fields!(Text len 4 bytes (*b"ping\0\0\0\0"));
 
-const HELLO: Text = Text {
-    len: 5,
-    bytes: *b"hello\0\0\0",
-};
+const HELLO: Text = fields!(Text len 5 bytes (*b"hello\0\0\0"));
 
 /// Two applications on a board of so many pool buffers, of which the first makes the calls of a table, with the card, and then the
 /// second those of another.
