@@ -1,4 +1,6 @@
 pub mod Found
+pub mod Flushed
 pub mod Recording
 pub mod Behind
+pub mod ToldLines
 pub mod Statuses

@@ -2,21 +2,22 @@
 use Rattle.std.proofs.Common.{◌≡◌, ◌≢◌, nat_eq, ℕ, suc, List, [], ◌∷◌, length, ◌<◌, Bool, true, false, ◌||◌, Option, None, Some}
 use Rattle.std.proofs.{Common.{refl, sym, ap, subst, ◌∙◌, ◌⊎◌, ⊎_elim, inl, inr, arith, get_or, ◌≤◌, option_map}, lemmas.List.Folds.{list_any_at}}
 use Rattle.std.{proofs.lemmas.Option.{get_or_from_slice_get}, specs.{Prelude.{IfSome, OnOk, Result, Ok, Err, ◌==◌, if◌then◌else◌, is_some}, List.{slice_get}}}
-use Rattle.std.proofs.lemmas.Bool.{cases_eq, cases_lt, Decides.{nat_tests}}
+use Rattle.std.proofs.lemmas.Bool.{cases_Bool, cases_eq, cases_lt, or_cases, Decides.{nat_tests}}
 use Rattle.zr_kinds.specs.declared.fault.Fault.{Fault, TheVariants.{Memory, Usage, NotPcap, Version, LinkType, Cut, LongRecord, Read, Write, TooManyFlows}}
 use Rattle.zr_kinds.specs.declared.{fault.Fault.TheVariants.{TooManyFrames, BadBlock, BadRun}, behaviour.Stopped.{Stopped}, outcome.AppLine.{AppLine}}
 use Rattle.zr_kinds.specs.declared.behaviour.Stopped.TheVariants as stop
-use Rattle.zr_io.{specs.Moved.{Rose, Took}, proofs.Moved.{Took-then, Took-weaker}}
+use Rattle.zr_io.{specs.Moved.{Rose, Took}, proofs.Moved.{Rose-earlier, Took-then, Took-weaker}}
 use Rattle.frames_read.{specs.{Ending.{Ending, ended_of, steered_in}, Reading.{ShowsEnding, BreaksOff, TakenEnds, IsEnding, IsReadToEnd}}, proofs.Endings.{some-weaker}}
 use Rattle.board_face.specs.declared.views.{nic.NicSide.{NicSide}, app.AppSide.{AppSide}}
 use Rattle.card_feed.specs.{Need.{buffers_of, need_in}, Offered.{offers_of, WantsRoom}, declared.plan.Plan.{Plan}, Plan.{how_of, plain_behaviour}}
 use Rattle.card_feed.proofs.OfFlow.{there}
-use Rattle.run_account.{specs.{Running.{losses_in, losses_or}, Ran.{HasReadOn, HaveWholeStreams, Ran, Told}}, proofs.WholeStreams.{whole-streams}}
-use Rattle.run_account.proofs.{AppLines.{found-there}, Places.{get-within}}
+use Rattle.run_account.{specs.{Running.{losses_in, losses_or}, Ran.{HasReadOn, HaveWholeStreams, IsAppLine, Ran, Told}}, proofs.WholeStreams.{whole-streams}}
+use Rattle.run_account.proofs.{AppLines.{found-there, one-value}, Places.{get-within}}
 use Rattle.command_words.specs.{Options.{AreInRange}, Words.{ReplayShown}}
 use Rattle.top_call.{specs.{Planned.{IsPlanOf}, Records.{HasRecord, record_in}, declared.card.Card.{Card}}, proofs.{Behind.{ended_of-behind}, Found.{get-same_rest}}}
+use Rattle.top_call.{specs.Flushing.{Flushes, HasLost}, proofs.ToldLines.{record-told, rose-or-same, told-flow, told-others, told-streams}}
 use Rattle.top_call.specs.Status.{is_memory, is_write, any_stopped, end_number, status_from, status_of}
-use Rattle.top_call.specs.StreamTheorem.{HasLost, IsStatusOf, IsStatus, IsBrokenOff, RanWith, Replays, Tells}
+use Rattle.top_call.specs.StreamTheorem.{Finishes, IsStatusOf, IsStatus, IsBrokenOff, RanWith, Replays}
 use Rattle.run_report.specs.{Report.{Reports, answer_of}, declared.report.Unreported.{Unreported}}
 use Rattle.run_report.specs.declared.report.Unreported.TheVariants as unreported
 
@@ -154,6 +155,13 @@ stopped-any test apps number app is holds =
     list_any_at (λ (a : AppLine). test a.stopped) apps number app (get-within apps number app is)
     (ap (λ (a : AppLine). test a.stopped) at ∙ holds)
 
+rose-later : (a b c : ℕ) → Rose a b → b ≤ c → Rose a c
+rose-later a b c rose later = omega arith
+
+or-true : (b : Bool) → (b || true) ≡ true
+or-true true = refl
+or-true false = refl
+
 -- where a shelf failed
 lost-status : (wanting : Bool) (end : Option Fault) → (status_from wanting true end ≡ 1) ⊎ (status_from wanting true end ≡ 9)
 lost-status true end = inl refl
@@ -211,16 +219,20 @@ module _ (wanting lost : Bool) (end : Option Fault) {answer refusals refusals_no
 -- ---- the parts of what a replay leaves
 
 module _ {S T : Type 0} {left : S → Option (List ℕ)} {failed : S → ℕ} {kept : T → ℕ → Option (List ℕ)} {losses : T → ℕ}
-    {source at source_now : S} {shelves shelves_now : List T} {plan : Plan} {outcome : Told} {nic : NicSide} {apps : List AppSide}
-    {answer refusals refusals_now : ℕ}
-    (replayed : Ran left failed kept losses source at shelves shelves_now plan outcome nic apps)
+    {source at source_now : S} {shelves shelves_run shelves_now : List T} {plan : Plan} {outcome : Told} {lines : List AppLine} {flush_failed : Bool}
+    {nic : NicSide} {apps : List AppSide} {answer refusals refusals_now : ℕ}
+    (replayed : Ran left failed kept losses source at shelves shelves_run plan outcome nic apps)
     (ahead : HasReadOn left failed at source_now outcome.end)
-    (is : IsAnswer (status_of outcome) answer refusals refusals_now) where
+    (flushes : Flushes kept losses (length plan.ports.items) shelves_run shelves_now outcome.apps lines flush_failed)
+    (is : IsAnswer (status_of (record outcome { apps = lines }) flush_failed) answer refusals refusals_now) where
+  abbrev pub wanting : Bool
+  wanting = any_stopped is_memory lines
+
   abbrev pub lost : Bool
-  lost = any_stopped is_write outcome.apps
+  lost = any_stopped is_write lines || flush_failed
 
   causes : HasCauses lost outcome.end answer refusals refusals_now
-  causes = has_causes (any_stopped is_memory outcome.apps) lost outcome.end is replayed.ended.kind
+  causes = has_causes wanting lost outcome.end is replayed.ended.kind
 
   kind-of : IsStatus answer
   unfolding IsNumbered
@@ -278,7 +290,7 @@ module _ {S T : Type 0} {left : S → Option (List ℕ)} {failed : S → ℕ} {k
         subst (λ s. Rose (failed source) (failed s)) (still-at none) (replayed.ended.cause failed_read),
       )) causes.cases) hidden)) ends-at)
       (λ others. ⊎_elim
-      (λ memory. inr (inl (at-memory (any_stopped is_memory outcome.apps) lost outcome.end is replayed.ended.kind memory)))
+      (λ memory. inr (inl (at-memory wanting lost outcome.end is replayed.ended.kind memory)))
       (λ flows. inl (ends-now flows)) others)
       (apart outcome.end replayed.ended.kind)
 
@@ -305,16 +317,52 @@ module _ {S T : Type 0} {left : S → Option (List ℕ)} {failed : S → ℕ} {k
             (subst (λ e. TakenEnds (WantsRoom plan.split plan.ports.items) plan.ports.items taken replayed.before e) by_read ends)) replayed.ended.taken,
       )) others) causes.cases
 
+  -- the line of an application as the run left it
+  IsRunLine : ℕ → AppLine → Type 0
+  IsRunLine number line = (port : ℕ)
+      × IsAppLine (how_of plan) port (losses_in losses shelves number) (losses_in losses shelves_run number) outcome.flows line
+
+  run-line : (number : ℕ) → number < length plan.ports.items
+      → (line : AppLine) × (slice_get outcome.apps number ≡ Some line) × IsRunLine number line
+  unfolding IsRunLine
+  run-line number own =
+      let (port, port_is) = there plan.ports.items number own in
+      let (line, line_at, is_line) = found-there (slice_get outcome.apps number) _ (replayed.app number port port_is) in
+      (line, line_at, (port, is_line))
+
+  later-run : (number : ℕ) → number < length plan.ports.items → losses_in losses shelves number ≤ losses_in losses shelves_run number
+  unfolding IsRunLine
+  later-run number own = (run-line number own).2.1.later
+
+  -- where a line that is told says `write`, a call of its shelf failed in the run, or its flush
+  written-lost : (number : ℕ) (app : AppLine) → number < length plan.ports.items → slice_get lines number ≡ Some app → app.stopped ≡ stop.Write
+      → Rose (losses_in losses shelves number) (losses_in losses shelves_now number)
+  unfolding IsRunLine
+  written-lost number app own at write =
+      let before = losses_in losses shelves number in
+      let run = losses_in losses shelves_run number in
+      let now = losses_in losses shelves_now number in
+      let (was, was_at, is_line) = run-line number own in
+      let (fails, told, told_at, flushed) = flushes.line number was own was_at in
+      let same : told ≡ app = one-value (sym told_at ∙ at) in
+      ⊎_elim (λ rose. Rose-earlier before run now (later-run number own) rose)
+      (λ (kept : told ≡ was).
+      let rose : Rose before run = is_line.1.cause (ap (λ (l : AppLine). l.stopped) (sym kept ∙ same) ∙ write) in
+      rose-later before run now rose (flushes.later number))
+      (rose-or-same run now was told fails flushed)
+
   shelf-failed : lost ≡ true → HasLost losses shelves shelves_now (length plan.ports.items)
-  shelf-failed some =
-      let stands : Stands outcome.apps = any-write outcome.apps some in
-      let within : stands.number < length outcome.apps = get-within outcome.apps stands.number stands.app stands.at in
-      let many = replayed.many_apps in
-      let own : stands.number < length plan.ports.items = omega (arith, within, many) in
-      let (port, port_is) = there plan.ports.items stands.number own in
-      let (app, app_is, line) = found-there (slice_get outcome.apps stands.number) _ (replayed.app stands.number port port_is) in
-      let same : app ≡ stands.app = (let at = stands.at in cc) in
-      (stands.number, own, line.cause (ap (λ a. a.stopped) same ∙ stands.why))
+  shelf-failed some = ⊎_elim
+      (λ (write : any_stopped is_write lines ≡ true).
+      let stands : Stands lines = any-write lines write in
+      let own : stands.number < length plan.ports.items =
+      omega (arith, get-within lines stands.number stands.app stands.at, flushes.many_lines, replayed.many_apps) in
+      (stands.number, own, written-lost stands.number stands.app own stands.at stands.why))
+      (λ flush.
+      let (app, own, rose) = flushes.failed_at flush in
+      (app, own, Rose-earlier (losses_in losses shelves app) (losses_in losses shelves_run app) (losses_in losses shelves_now app)
+      (later-run app own) rose))
+      (or_cases (any_stopped is_write lines) flush_failed some)
 
   lost-of : answer ≡ 9 → HasLost losses shelves shelves_now (length plan.ports.items) ⊎ Rose refusals refusals_now
   unfolding IsNumbered
@@ -326,7 +374,7 @@ module _ {S T : Type 0} {left : S → Option (List ℕ)} {failed : S → ℕ} {k
 
   settled-of : answer ≢ 1 → answer ≢ 9 → answer ≢ 10 → at ≡ source_now
   settled-of not_1 not_9 not_10 = ahead.same
-      (λ memory. not_1 (at-memory (any_stopped is_memory outcome.apps) lost outcome.end is replayed.ended.kind memory))
+      (λ memory. not_1 (at-memory wanting lost outcome.end is replayed.ended.kind memory))
       (λ flows. ⊎_elim not_1 (λ others. ⊎_elim (λ (nine, why). not_9 nine) (λ number. not_10 (number ∙ ap end_number flows)) others) causes.cases)
 
   read_well : answer ≢ 1 → answer ≢ 8 → answer ≢ 9 → failed at ≡ failed source
@@ -335,30 +383,42 @@ module _ {S T : Type 0} {left : S → Option (List ℕ)} {failed : S → ℕ} {k
 
   -- ---- what stopped applications
 
-  wanting-of : (number : ℕ) (app : AppLine) → slice_get outcome.apps number ≡ Some app → app.stopped ≡ stop.Memory → answer ≡ 1
+  wanting-of : (number : ℕ) (app : AppLine) → slice_get lines number ≡ Some app → app.stopped ≡ stop.Memory → answer ≡ 1
   wanting-of number app at memory =
-      let some : any_stopped is_memory outcome.apps ≡ true = stopped-any is_memory outcome.apps number app at (ap is_memory memory) in
-      let said : status_of outcome ≡ 1 = ap (λ w. status_from w lost outcome.end) some in
+      let some : wanting ≡ true = stopped-any is_memory lines number app at (ap is_memory memory) in
+      let said : status_from wanting lost outcome.end ≡ 1 = ap (λ w. status_from w lost outcome.end) some in
       ⊎_elim (λ same. same ∙ said) (λ others. ⊎_elim (λ one. one) (λ (nine, rose, other). absurd (other said)) others) is.cases
 
-  failing-of : (number : ℕ) (app : AppLine) → slice_get outcome.apps number ≡ Some app → app.stopped ≡ stop.Write
-      → (answer ≡ 1) ⊎ (answer ≡ 9)
-  failing-of number app at write =
-      let wanting = any_stopped is_memory outcome.apps in
-      let some : lost ≡ true = stopped-any is_write outcome.apps number app at (ap is_write write) in
-      let said : (status_of outcome ≡ 1) ⊎ (status_of outcome ≡ 9) =
+  -- the answer where a shelf failed
+  lost-answer : lost ≡ true → (answer ≡ 1) ⊎ (answer ≡ 9)
+  lost-answer some =
+      let said : (status_from wanting lost outcome.end ≡ 1) ⊎ (status_from wanting lost outcome.end ≡ 9) =
       subst (λ l. (status_from wanting l outcome.end ≡ 1) ⊎ (status_from wanting l outcome.end ≡ 9)) (sym some) (lost-status wanting outcome.end) in
       ⊎_elim (λ same. ⊎_elim (λ one. inl (same ∙ one)) (λ nine. inr (same ∙ nine)) said)
       (λ others. ⊎_elim (λ one. inl one) (λ (nine, rose, other). inr nine) others) is.cases
 
+  failing-of : (number : ℕ) (app : AppLine) → slice_get lines number ≡ Some app → app.stopped ≡ stop.Write
+      → (answer ≡ 1) ⊎ (answer ≡ 9)
+  failing-of number app at write =
+      lost-answer (ap (λ b. b || flush_failed) (stopped-any is_write lines number app at (ap is_write write)))
+
+  unflushed-of : flush_failed ≡ true → (answer ≡ 1) ⊎ (answer ≡ 9)
+  unflushed-of failed_one = lost-answer (ap (λ b. any_stopped is_write lines || b) failed_one ∙ or-true (any_stopped is_write lines))
+
+  -- where the answer is neither, all flushes went well
+  all-flushed : answer ≢ 1 → answer ≢ 9 → flush_failed ≡ false
+  all-flushed not_1 not_9 = ⊎_elim (λ failed_one. absurd (⊎_elim not_1 not_9 (unflushed-of failed_one))) (λ none. none) (cases_Bool flush_failed)
+
   kept_well : answer ≢ 1 → answer ≢ 9 → (app : ℕ) → losses_in losses shelves_now app ≡ losses_in losses shelves app
-  kept_well not_1 not_9 app = ⊎_elim
+  kept_well not_1 not_9 app =
+      let none = all-flushed not_1 not_9 in
+      flushes.still none app ∙ ⊎_elim
       (λ (within : app < length plan.ports.items).
       let (port, port_is) = there plan.ports.items app within in
       let (line, line_is, was) = found-there (slice_get outcome.apps app) _ (replayed.app app port port_is) in
-      was.still (λ write. ⊎_elim not_1 not_9 (failing-of app line line_is write)))
+      was.still (λ write. ⊎_elim not_1 not_9 (failing-of app line (ap (λ ls. slice_get ls app) (flushes.as_before none) ∙ line_is) write)))
       (λ (past : length plan.ports.items ≤ app). ap (λ s. losses_or (option_map losses s))
-      (get-same_rest (length plan.ports.items) shelves shelves_now app replayed.beyond past))
+      (get-same_rest (length plan.ports.items) shelves shelves_run app replayed.beyond past))
       (cases_lt app (length plan.ports.items))
 
   -- ---- completeness
@@ -381,7 +441,7 @@ module _ {S T : Type 0} {left : S → Option (List ℕ)} {failed : S → ℕ} {k
       let shows : ShowsEnding (ended_of plan.ports.items all) replayed.before outcome.end = rw told_all at replayed.ended.shown in
       subst (λ e. ShowsEnding (ended_of plan.ports.items all) replayed.before e) at_end shows) others) causes.cases
 
-  going-of : answer ≡ 0 → (number : ℕ) (app : AppLine) → slice_get outcome.apps number ≡ Some app → (app.stopped ≡ stop.No) ⊎ (app.stopped ≡ stop.Quit)
+  going-of : answer ≡ 0 → (number : ℕ) (app : AppLine) → slice_get lines number ≡ Some app → (app.stopped ≡ stop.No) ⊎ (app.stopped ≡ stop.Quit)
   going-of zero number app at = by_cause app.stopped refl
     where
       by_cause : (stopped : Stopped) → app.stopped ≡ stopped → (app.stopped ≡ stop.No) ⊎ (app.stopped ≡ stop.Quit)
@@ -396,11 +456,15 @@ module _ {S T : Type 0} {left : S → Option (List ℕ)} {failed : S → ℕ} {k
       (subst (λ (e : Ending). need_in plan (offers_of (steered_in plan.ports.items e.before)) ≤ buffers_of plan) (all_read-of zero all told_all) fits)
 
   streams-of : answer ≡ 0 → (all : List ℕ) → left source ≡ Some all
-      → HaveWholeStreams kept shelves shelves_now plan.ports.items (how_of plan).quit (ended_of plan.ports.items all).before outcome
+      → HaveWholeStreams kept shelves shelves_now plan.ports.items (how_of plan).quit (ended_of plan.ports.items all).before
+      (record outcome { apps = lines })
   streams-of zero all told_all =
-      subst (λ (e : Ending). HaveWholeStreams kept shelves shelves_now plan.ports.items (how_of plan).quit e.before outcome)
+      let same : lines ≡ outcome.apps = flushes.as_before (all-flushed (λ one. absurd (omega (arith, one, zero))) (λ nine. absurd (omega (arith, nine, zero)))) in
+      subst (λ (e : Ending). HaveWholeStreams kept shelves shelves_now plan.ports.items (how_of plan).quit e.before (record outcome { apps = lines }))
       (sym (all_read-of zero all told_all))
-      (whole-streams left failed kept losses source at shelves shelves_now plan outcome nic apps replayed (going-of zero))
+      (told-streams replayed flushes (how_of plan).quit same
+      (whole-streams left failed kept losses source at shelves shelves_run plan outcome nic apps replayed
+      (λ number app at. going-of zero number app (ap (λ ls. slice_get ls number) same ∙ at))))
 
 -- each application behaves as the options say
 how-said : (told : ReplayShown) (plan : Plan) → AreInRange told.options → IsPlanOf told plan → how_of plan ≡ told.options.how
@@ -420,43 +484,55 @@ told_well refusals refusals_now said answer (Err unreported.Write) still is not_
     ⊎_elim (λ one. absurd (not_1 one)) (λ nine. absurd (not_9 nine.0)) (chosen said answer is)
 
 module _ {S T O : Type 0} {left : S → Option (List ℕ)} {failed : S → ℕ} {kept : T → ℕ → Option (List ℕ)} {losses : T → ℕ}
-    (sent : O → Option (List ℕ)) (refusals : O → ℕ) {source source_now : S} {shelves shelves_now : List T} (out out_now : O)
+    (sent : O → Option (List ℕ)) (refusals : O → ℕ) {source source_now : S} {shelves shelves_run shelves_now : List T} (out out_now : O)
     {plan : Plan} {outcome : Told} {answer : ℕ} where
   pub replays : (told : ReplayShown) (card_now : Card) → AreInRange told.options → IsPlanOf told plan
-      → RanWith left failed kept losses source source_now shelves shelves_now card_now told.turns plan outcome
+      → RanWith left failed kept losses source source_now shelves shelves_run card_now told.turns plan outcome
       → HasRecord plan outcome card_now
-      → Tells (sent out) (sent out_now) (refusals out) (refusals out_now) outcome (record_in plan card_now) answer
+      → Finishes kept losses shelves_run shelves_now (sent out) (sent out_now) (refusals out) (refusals out_now) outcome (record_in plan card_now) answer
       → Replays left failed kept losses sent refusals source source_now shelves shelves_now out out_now card_now told answer
-  replays told card_now in_range planned with recorded tells =
+  replays told card_now in_range planned with recorded finishes =
       let ran = with.ran in
       let ahead = with.ahead in
-      let is : IsAnswer (status_of outcome) answer (refusals out) (refusals out_now) = is_answer (sent out) (sent out_now) (refusals out)
-      (refusals out_now) (status_of outcome) answer _ tells.reported tells.report tells.answered in
+      let tells = finishes.tells in
+      let flushes : Flushes kept losses (length plan.ports.items) shelves_run shelves_now outcome.apps finishes.lines finishes.lost =
+      subst (λ n. Flushes kept losses n shelves_run shelves_now outcome.apps finishes.lines finishes.lost) ran.many_apps finishes.flushes in
+      let outcome_now : Told = record outcome { apps = finishes.lines } in
+      let is : IsAnswer (status_of outcome_now finishes.lost) answer (refusals out) (refusals out_now) = is_answer (sent out) (sent out_now) (refusals out)
+      (refusals out_now) (status_of outcome_now finishes.lost) answer _ tells.reported tells.report tells.answered in
       let same : plan.ports.items ≡ told.ports = planned.ports_are in
       record {
         plan = plan;
         planned = planned;
-        outcome = outcome;
+        shelves_run = shelves_run;
+        outcome_run = outcome;
         ran = with;
+        outcome = outcome_now;
+        flush_failed = finishes.lost;
+        flushes = rw (← same) flushes;
+        told_is = refl;
+        flow = rw (← same) (told-flow ran flushes);
+        others = rw (← same) (told-others ran flushes);
         reported = tells.reported;
         report = tells.report;
-        recorded = recorded;
+        recorded = record-told outcome flushes ran.many_apps plan card_now recorded;
         answered = tells.answered;
-        reached = rw (← same) (reached-of ran ahead is);
-        ending = rw (← same) (some-weaker (left source) _ _ ran.ended.shown (λ all shows. ending-of ran ahead is all shows));
-        kind = kind-of ran ahead is;
-        whole = whole-of ran ahead is;
-        read = rw (← same) (read-of ran ahead is);
-        lost = rw (← same) (lost-of ran ahead is);
-        wanting = wanting-of ran ahead is;
-        failing = failing-of ran ahead is;
-        complete = rw (← same) (complete-of ran ahead is);
-        all_read = rw (← same) (all_read-of ran ahead is);
-        going = going-of ran ahead is;
-        enough = rw (← same) (enough-of ran ahead is);
-        streams = rw (← same, ← how-said told plan in_range planned) (streams-of ran ahead is);
-        settled = settled-of ran ahead is;
-        sound_reads = read_well ran ahead is;
-        sound_shelves = kept_well ran ahead is;
-        sound_sink = told_well (refusals out) (refusals out_now) (status_of outcome) answer tells.reported tells.still tells.answered;
+        reached = rw (← same) (reached-of ran ahead flushes is);
+        ending = rw (← same) (some-weaker (left source) _ _ ran.ended.shown (λ all shows. ending-of ran ahead flushes is all shows));
+        kind = kind-of ran ahead flushes is;
+        whole = whole-of ran ahead flushes is;
+        read = rw (← same) (read-of ran ahead flushes is);
+        lost = rw (← same) (lost-of ran ahead flushes is);
+        wanting = wanting-of ran ahead flushes is;
+        failing = failing-of ran ahead flushes is;
+        unflushed = unflushed-of ran ahead flushes is;
+        complete = rw (← same) (complete-of ran ahead flushes is);
+        all_read = rw (← same) (all_read-of ran ahead flushes is);
+        going = going-of ran ahead flushes is;
+        enough = rw (← same) (enough-of ran ahead flushes is);
+        streams = rw (← same, ← how-said told plan in_range planned) (streams-of ran ahead flushes is);
+        settled = settled-of ran ahead flushes is;
+        sound_reads = read_well ran ahead flushes is;
+        sound_shelves = kept_well ran ahead flushes is;
+        sound_sink = told_well (refusals out) (refusals out_now) (status_of outcome_now finishes.lost) answer tells.reported tells.still tells.answered;
       }

@@ -1,4 +1,5 @@
 pub mod Status
+pub mod Flushing
 pub mod Making
 pub mod Checking
 pub mod Cards

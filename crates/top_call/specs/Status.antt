@@ -1,5 +1,5 @@
 -- The status of a replay.
-use Rattle.std.specs.{Prelude.{ℕ, List, Bool, true, false, Option, Some, None}, List.{list_any}}
+use Rattle.std.specs.{Prelude.{ℕ, List, Bool, true, false, ◌||◌, Option, Some, None}, List.{list_any}}
 use Rattle.zr_kinds.specs.{declared.{fault.Fault.{Fault, TheVariants.{Memory}}, behaviour.Stopped.{Stopped}, outcome.AppLine.{AppLine}}, Fault.{number_of}}
 use Rattle.zr_kinds.specs.declared.behaviour.Stopped.TheVariants as stop
 use Rattle.run_account.specs.Ran.{Told}
@@ -32,5 +32,6 @@ status_from false lost (Some Memory) = 1
 status_from false true end = 9
 status_from false false end = end_number end
 
-abbrev pub status_of : Told → ℕ
-status_of outcome = status_from (any_stopped is_memory outcome.apps) (any_stopped is_write outcome.apps) outcome.end
+-- A shelf failed where its application's line says so, or where one of the flushes did.
+abbrev pub status_of : Told → Bool → ℕ
+status_of outcome lost = status_from (any_stopped is_memory outcome.apps) (any_stopped is_write outcome.apps || lost) outcome.end

@@ -1,17 +1,20 @@
 -- What a replay leaves: the streams on their shelves, the report, the status, and the board of the run.
-use Rattle.std.specs.Prelude.{◌≡◌, ◌≢◌, ℕ, ◌<◌, ◌≤◌, List, [], ◌∷◌, ◌++◌, length, ◌==◌, true, Option, Some, None, Result, IfSome, OnOk, ◌⊎◌, ⊤}
-use Rattle.std.specs.List.{list_any, slice_get}
+use Rattle.std.specs.Prelude.{◌≡◌, ◌≢◌, ℕ, ◌≤◌, List, [], ◌∷◌, ◌++◌, length, ◌==◌, Bool, true, Option, Some, None, Result, IfSome, OnOk, ◌⊎◌, ⊤, option_map}
+use Rattle.std.specs.{List.{list_any, slice_get}, Io.KnownBytes.{Keeps}}
 use Rattle.zr_kinds.specs.declared.{fault.Fault.{Fault, TheVariants.{Cut}}, outcome.AppLine.{AppLine}}
-use Rattle.zr_io.specs.Moved.{Rose, Took}
+use Rattle.zr_io.specs.Moved.{Gained, Rose, Took}
+use Rattle.flow_table.specs.{Flows.{Flow, flows_of}, Stream.{stream_of}}
 use Rattle.board_face.specs.declared.views.{nic.NicSide.{NicSide}, app.AppSide.{AppSide}}
 use Rattle.command_words.specs.{Words.{ReplayShown, Shown, replay, make, check}, declared.options.Options.{Options}}
 use Rattle.frames_read.specs.{Ending.{ended_of, steered_in}, Reading.{IsReadToEnd}}
 use Rattle.zr_kinds.specs.declared.behaviour.Stopped.TheVariants as stop
-use Rattle.card_feed.specs.{declared.plan.Plan.{Plan}, Need.{buffers_of, need_in}, Offered.{offers_of}}
-use Rattle.run_account.specs.{Running.{losses_in}, Ran.{HasReadOn, HaveWholeStreams, LacksMemory, LacksMemoryBeside, Ran, Told}}
+use Rattle.card_feed.specs.{declared.plan.Plan.{Plan}, Account.{kept_in}, Need.{buffers_of, need_in}, Offered.{offers_of}}
+use Rattle.run_account.specs.Running.{losses_in}
+use Rattle.run_account.specs.Ran.{HasReadOn, HaveWholeStreams, IsLineOf, IsStreamed, LacksMemory, LacksMemoryBeside, Ran, There, Told}
 use Rattle.replay_turns.specs.Following.{RunsBy}
 use Rattle.run_report.specs.{Report.{report_of, Reports, answer_of}, declared.report.Unreported.{Unreported}}
-use Rattle.top_call.specs.{Cards.{HasOver, HasSides, IsClosed, IsOfWay}, Planned.{IsPlanOf}, Records.{HasRecord, record_in}, Status.{end_number, status_of}}
+use Rattle.top_call.specs.{Cards.{HasOver, HasSides, IsClosed, IsOfWay}, Flushing.{Flushes, HasLost}, Planned.{IsPlanOf}, Records.{HasRecord, record_in}}
+use Rattle.top_call.specs.Status.{end_number, status_of}
 use Rattle.top_call.specs.{Making.{Makes}, Checking.{Checks}, declared.card.Card.{Card}}
 
 -- Want of memory, a failed read and a lost shelf show in no byte. Any other status is that of what ended the reading.
@@ -27,9 +30,9 @@ abbrev pub IsBrokenOff : Option Fault → Type 0
 IsBrokenOff end = (end ≡ None) ⊎ (end ≡ Some Cut)
 
 -- the text of an outcome's report, which says its status
-abbrev pub text_of : Told → List ℕ
-text_of outcome =
-    report_of outcome.tally outcome.apps outcome.flows outcome.refused outcome.pool (status_of outcome)
+abbrev pub text_of : Told → Bool → List ℕ
+text_of outcome lost =
+    report_of outcome.tally outcome.apps outcome.flows outcome.refused outcome.pool (status_of outcome lost)
 
 -- With a text of turns the run's turns are those of the text, one a letter, and then whole rounds.
 abbrev pub IsPlayed : {S T : Type 0} → (S → Option (List ℕ)) → (S → ℕ) → (T → ℕ → Option (List ℕ)) → (T → ℕ) → S → S
@@ -55,11 +58,6 @@ pub record RanWith {S T : Type 0} (left : S → Option (List ℕ)) (failed : S �
   pub way : IsOfWay turns card_now
   pub played : IsPlayed left failed kept losses source source_now shelves shelves_now plan outcome turns card_now
 
--- a call of the shelf of one of these applications failed
-abbrev pub HasLost : {T : Type 0} → (T → ℕ) → List T → List T → ℕ → Type 0
-HasLost losses shelves shelves_now apps =
-    (app : ℕ) × (app < apps) × Rose (losses_in losses shelves app) (losses_in losses shelves_now app)
-
 -- What a replay leaves of its source, its shelves and its sink, which board is in the card, and what its answer says. `ran.at` is the
 -- source as the ending of the reading left it.
 pub record Replays {S T O : Type 0} (left : S → Option (List ℕ)) (failed : S → ℕ) (kept : T → ℕ → Option (List ℕ)) (losses : T → ℕ)
@@ -67,16 +65,32 @@ pub record Replays {S T O : Type 0} (left : S → Option (List ℕ)) (failed : S
     (source source_now : S) (shelves shelves_now : List T) (out out_now : O) (card_now : Card) (told : ReplayShown) (answer : ℕ) : Type 0 where
   pub plan : Plan
   pub planned : IsPlanOf told plan
-  -- The stream theorem, what the lines of the report say, and the board in the card.
+  -- The run: what it leaves on the shelves and of itself, and the board in the card.
+  pub shelves_run : List T
+  pub outcome_run : Told
+  pub ran : RanWith left failed kept losses source source_now shelves shelves_run card_now told.turns plan outcome_run
+  -- Then the shelf of each application was flushed. What is told is what the run left, but for the lines of those where that failed.
   pub outcome : Told
-  pub ran : RanWith left failed kept losses source source_now shelves shelves_now card_now told.turns plan outcome
+  pub flush_failed : Bool
+  pub flushes : Flushes kept losses (length told.ports) shelves_run shelves_now outcome_run.apps outcome.apps flush_failed
+  pub told_is : outcome ≡ record outcome_run { apps = outcome.apps }
+  -- The stream theorem, of the shelves that are left and the lines that are told: each flow's shelf gained a front of what the copying
+  -- receiver gives of what counts of the flow's payloads but those that were refused, and all of it where its application wasn't stopped.
+  pub flow : (number : ℕ) (flow : Flow) → slice_get (flows_of (steered_in told.ports ran.ran.before)) number ≡ Some flow →
+      There (slice_get outcome.flows number) (λ line. There (slice_get outcome.apps flow.app) (λ app.
+      IsLineOf flow line × Gained (kept_in kept shelves flow.app number) (kept_in kept shelves_now flow.app number)
+      (λ bytes. IsStreamed app.stopped (stream_of (steered_in told.ports ran.ran.before) outcome.refused number) bytes line.bytes)))
+  -- No other flow of any shelf gained anything.
+  pub others : (app number : ℕ)
+      → option_map (λ (flow : Flow). flow.app) (slice_get (flows_of (steered_in told.ports ran.ran.before)) number) ≢ Some app
+      → Keeps (kept_in kept shelves app number) (kept_in kept shelves_now app number)
   -- The report, with the status of that outcome, went out whole, and the record behind it where one is asked for; or not, and then the
   -- answer says so.
   pub reported : Result (Unit {0}) Unreported
-  pub report : Reports (sent out) (sent out_now) (refusals out) (refusals out_now) (text_of outcome ++ record_in plan card_now) reported
+  pub report : Reports (sent out) (sent out_now) (refusals out) (refusals out_now) (text_of outcome flush_failed ++ record_in plan card_now) reported
   -- The record tells of that run.
   pub recorded : HasRecord plan outcome card_now
-  pub answered : answer ≡ answer_of (status_of outcome) reported
+  pub answered : answer ≡ answer_of (status_of outcome flush_failed) reported
   -- What was taken ends as all the bytes do, after the same records and by the same fault, unless memory ran out or a read failed.
   pub reached : IfSome (left source) (λ all. Took (left source) (left source_now) (λ taken. ended_of told.ports taken ≡ ended_of told.ports all))
       ⊎ ((answer ≡ 1) ⊎ (((answer ≡ 8) ⊎ (answer ≡ 9)) × Rose (failed source) (failed source_now)))
@@ -93,6 +107,8 @@ pub record Replays {S T O : Type 0} (left : S → Option (List ℕ)) (failed : S
   pub wanting : (number : ℕ) (app : AppLine) → slice_get outcome.apps number ≡ Some app → app.stopped ≡ stop.Memory → answer ≡ 1
   pub failing : (number : ℕ) (app : AppLine) → slice_get outcome.apps number ≡ Some app → app.stopped ≡ stop.Write
       → (answer ≡ 1) ⊎ (answer ≡ 9)
+  -- So it is where a flush failed, whatever the lines say.
+  pub unflushed : flush_failed ≡ true → (answer ≡ 1) ⊎ (answer ≡ 9)
   -- Completeness: where all the bytes end without a fault, and no read and no call of a shelf or of the sink failed, it is 0 or 1.
   pub complete : (all : List ℕ) → left source ≡ Some all → (ended_of told.ports all).fault ≡ None → ¬ Rose (failed source) (failed source_now)
       → ¬ HasLost losses shelves shelves_now (length told.ports) → ¬ Rose (refusals out) (refusals out_now) → (answer ≡ 0) ⊎ (answer ≡ 1)
@@ -129,7 +145,7 @@ LacksMemoryBy left failed kept losses source source_now shelves shelves_now (Som
 LacksMemoryBy left failed kept losses source source_now shelves shelves_now None plan =
     LacksMemoryBeside left failed kept losses source source_now shelves shelves_now plan
 
--- There was no memory: before the first turn, and nothing was touched; or for the outcome behind the last turn.
+-- There was no memory: before the first turn, and nothing was touched; or for the outcome behind the last turn. No shelf was flushed.
 pub record Lacks {S T O : Type 0} (left : S → Option (List ℕ)) (failed : S → ℕ) (kept : T → ℕ → Option (List ℕ)) (losses : T → ℕ)
     (source source_now : S) (shelves shelves_now : List T) (out out_now : O) (card_now : Card) (told : ReplayShown) (answer : ℕ) : Type 0 where
   pub answer_is : answer ≡ 1
@@ -184,9 +200,18 @@ IsThreaded (Some (make told)) = ⊥
 IsThreaded (Some check) = ⊥
 IsThreaded None = ⊥
 
--- the report of an outcome, what stands behind it, and the answer
-pub record Tells (sent now : Option (List ℕ)) (refusals refusals_now : ℕ) (outcome : Told) (record_text : List ℕ) (answer : ℕ) : Type 0 where
+-- the report of an outcome, with what came of the flush, what stands behind it, and the answer
+pub record Tells (sent now : Option (List ℕ)) (refusals refusals_now : ℕ) (outcome : Told) (lost : Bool) (record_text : List ℕ)
+    (answer : ℕ) : Type 0 where
   pub reported : Result (Unit {0}) Unreported
-  pub report : Reports sent now refusals refusals_now (text_of outcome ++ record_text) reported
+  pub report : Reports sent now refusals refusals_now (text_of outcome lost ++ record_text) reported
   pub still : OnOk reported (refusals_now ≡ refusals)
-  pub answered : answer ≡ answer_of (status_of outcome) reported
+  pub answered : answer ≡ answer_of (status_of outcome lost) reported
+
+-- The shelves of an outcome's applications are flushed, and then it is told.
+pub record Finishes {T : Type 0} (kept : T → ℕ → Option (List ℕ)) (losses : T → ℕ) (shelves shelves_now : List T)
+    (sent now : Option (List ℕ)) (refusals refusals_now : ℕ) (outcome : Told) (record_text : List ℕ) (answer : ℕ) : Type 0 where
+  pub lines : List AppLine
+  pub lost : Bool
+  pub flushes : Flushes kept losses (length outcome.apps) shelves shelves_now outcome.apps lines lost
+  pub tells : Tells sent now refusals refusals_now (record outcome { apps = lines }) lost record_text answer

@@ -5,6 +5,7 @@
 
 mod card;
 mod checking;
+mod flushing;
 mod status;
 mod top;
 

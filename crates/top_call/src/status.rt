@@ -20,16 +20,17 @@ fn lost_shelves(apps: &[AppLine]) -> bool
     apps.iter().any(|app| matches!(app.stopped, Stopped::Write))
 }
 
-/// Want of memory comes first, then a shelf that failed, then what ended the reading; 0 at the end of the bytes.
-pub fn status_of(outcome: &Outcome) -> u8
-    ensures { result ≡ status_of (told_of outcome.now) }
+/// Want of memory comes first, then a shelf that failed, then what ended the reading; 0 at the end of the bytes. `lost` says that
+/// the flush of a shelf failed.
+pub fn status_of(outcome: &Outcome, lost: bool) -> u8
+    ensures { result ≡ status_of (told_of outcome.now) lost }
 {
     if want_memory(&outcome.apps) {
         return Fault::Memory.number();
     }
     match outcome.end {
         Some(Fault::Memory) => Fault::Memory.number(),
-        _ if lost_shelves(&outcome.apps) => Fault::Write.number(),
+        _ if lost_shelves(&outcome.apps) || lost => Fault::Write.number(),
         Some(fault) => fault.number(),
         None => 0,
     }

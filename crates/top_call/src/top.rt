@@ -9,10 +9,11 @@ ghost use Rattle.card_feed.specs.Plan.{IsPlan, TakesTurns};
 ghost use Rattle.run_account.specs.Ran.{told_of};
 ghost use Rattle.run_report.specs.Report.{Reports, report_of};
 ghost use Rattle.replay_turns.specs.Schedule.{AreTurns};
-ghost use Rattle.top_call.specs.{Cards.{IsClosed}, Planned.{IsPlanOf}, Records.{HasRecord, record_in}, StreamTheorem.{Answers, Commands, IsThreaded, IsUntouched, LacksMemoryBy, RanWith, RepliesTo, Tells, asked_by}};
+ghost use Rattle.top_call.specs.{Cards.{IsClosed}, Planned.{IsPlanOf}, Records.{HasRecord, record_in}, StreamTheorem.{Answers, Commands, Finishes, IsThreaded, IsUntouched, LacksMemoryBy, RanWith, RepliesTo, Tells, asked_by}};
 
 use crate::card::Card;
 use crate::checking::check_record;
+use crate::flushing::flush_shelves;
 use crate::status::status_of;
 use cap_make::make;
 use card_feed::{Outcome, Plan};
@@ -62,13 +63,20 @@ fn write_told<O: Sink>(
     }
 }
 
-/// Writes what a replay tells: the answer.
-fn tell<O: Sink>(alloc: Global, outcome: &Outcome, plan: &Plan, card: &Card, out: &mut O) -> u8
+/// Writes what a replay tells: the answer. `lost` says that the flush of a shelf failed.
+fn tell<O: Sink>(
+    alloc: Global,
+    outcome: &Outcome,
+    lost: bool,
+    plan: &Plan,
+    card: &Card,
+    out: &mut O,
+) -> u8
     requires plan { IsPlan plan.now }
-    ensures { Tells (O.sent out.old) (O.sent out.new) (O.faults out.old) (O.faults out.new) (told_of outcome.now)
+    ensures { Tells (O.sent out.old) (O.sent out.new) (O.faults out.old) (O.faults out.new) (told_of outcome.now) lost
         (record_in plan.now card.now) result }
 {
-    let status = status_of(outcome);
+    let status = status_of(outcome, lost);
     let report = Report {
         tally: &outcome.tally,
         apps: &outcome.apps,
@@ -78,6 +86,24 @@ fn tell<O: Sink>(alloc: Global, outcome: &Outcome, plan: &Plan, card: &Card, out
         status,
     };
     answer(status, write_told(alloc, &report, plan, card, out))
+}
+
+/// Flushes the shelves behind the last turn, and writes what the replay tells: the answer.
+fn finish<T: Shelf, O: Sink>(
+    alloc: Global,
+    mut outcome: Outcome,
+    plan: &Plan,
+    card: &Card,
+    shelves: &mut [T],
+    out: &mut O,
+) -> u8
+    requires plan { IsPlan plan.now }
+    requires shelves { length outcome.apps.items ≤ length shelves.old }
+    ensures { Finishes T.kept T.faults shelves.old shelves.new (O.sent out.old) (O.sent out.new) (O.faults out.old) (O.faults out.new)
+        (told_of outcome) (record_in plan.now card.now) result }
+{
+    let lost = flush_shelves(shelves, &mut outcome.apps);
+    tell(alloc, &outcome, lost, plan, card, out)
 }
 
 fn plan_of(command: Asked) -> Plan
@@ -170,7 +196,7 @@ struct Asked {
     options: Options,
 }
 
-/// Replays a capture by a text of turns, and writes the report, and the record where it is asked for.
+/// Replays a capture by a text of turns, flushes the shelves, and writes the report, and the record where it is asked for.
 fn replay_alone<S: Source, T: Shelf, O: Sink>(
     alloc: Global,
     random: RandomState,
@@ -193,12 +219,12 @@ fn replay_alone<S: Source, T: Shelf, O: Sink>(
 {
     let plan = plan_of(command);
     match play_turns(alloc, random, source, shelves, &plan, turns, card) {
-        Ok(outcome) => tell(alloc, &outcome, &plan, card, out),
+        Ok(outcome) => finish(alloc, outcome, &plan, card, shelves, out),
         Err(_) => Fault::Memory.number(),
     }
 }
 
-/// Replays a capture by threads, and writes the report.
+/// Replays a capture by threads, flushes the shelves, and writes the report.
 fn replay<S: Source + Send, T: Shelf + Send, O: Sink, G: Gate + Sync, R: Threads + Wait + Sync>(
     rt: &R,
     alloc: Global,
@@ -220,7 +246,7 @@ fn replay<S: Source + Send, T: Shelf + Send, O: Sink, G: Gate + Sync, R: Threads
 {
     let plan = plan_of(command);
     match play_beside(rt, alloc, random, source, shelves, &plan, gate, card) {
-        Ok(outcome) => tell(alloc, &outcome, &plan, card, out),
+        Ok(outcome) => finish(alloc, outcome, &plan, card, shelves, out),
         Err(_) => Fault::Memory.number(),
     }
 }

@@ -27,13 +27,16 @@ use std::rt::{Env, Files};
 use std::sync::Wait;
 use std::sync::atomic::AtomicU64;
 use std::thread::Threads;
-use std::{env, io};
+use std::{env, fs, io};
 use top_call::{Card, SHELVES, zcrx};
 use zr_io::{StdSink, StdSource};
 use zr_kinds::Fault;
 
 /// How many bytes of standard input are read at a time.
 const INPUT_BUFFER: usize = 65_536;
+
+/// How many bytes of each open file are gathered before they are written, where standard input is a file.
+const GATHERED: usize = 65_536;
 
 /// All arguments. One that isn't UTF-8 is a faulty command line.
 fn read_arguments(rt: &(impl Env + AllocGlobal)) -> Result<Vec<String>, Fault> {
@@ -54,17 +57,27 @@ fn is_replay(words: &[&str]) -> bool {
     matches!(words, ["replay", ..])
 }
 
-/// Shelves that together keep no more than `files` open, and count their flows.
+/// How many bytes of each open file are gathered. What comes by a pipe, a socket or a terminal may still be going on, so its streams
+/// are written as they come.
+fn gathered(rt: &impl Files) -> usize {
+    match fs::metadata(rt, "/dev/stdin") {
+        Ok(input) if input.is_file() => GATHERED,
+        _ => 0,
+    }
+}
+
+/// Shelves that together keep no more than `files` open, gather so many bytes of each, and count their flows.
 fn make_shelves<'a, R: Files + AllocGlobal>(
     rt: &'a R,
     files: usize,
+    gathered: usize,
     flows: &'a AtomicU64,
 ) -> Result<Vec<FileShelf<'a, &'a R>>, AllocError>
     ensures { IfOk result (λ shelves. vec_len shelves ≡ 8) }
 {
     let mut shelves = Vec::with_capacity(rt.alloc(), SHELVES)?;
     for _ in 0..SHELVES {
-        shelves.push(FileShelf::new(rt, files / SHELVES, 0, flows)?)?;
+        shelves.push(FileShelf::new(rt, files / SHELVES, gathered, flows)?)?;
     }
     Ok(shelves)
 }
@@ -84,7 +97,8 @@ fn start(rt: &HostRuntime, threads: &(impl Threads + Wait + Sync)) -> Result<u8,
     let replays = is_replay(&words);
     let progress = Progress::new(rt, &flows, replays);
     let mut source = Front::new(StdSource::new(input.map_err(|_| Fault::Memory)?), progress);
-    let mut shelves = make_shelves(rt, spare_files(rt), &flows).map_err(|_| Fault::Memory)?;
+    let shelves = make_shelves(rt, spare_files(rt), gathered(rt), &flows);
+    let mut shelves = shelves.map_err(|_| Fault::Memory)?;
     let mut out = StdSink::new(io::writer(rt));
     let random = RandomState::new(rt).map_err(|_| Fault::Read)?;
     let mut card = Card::Blank;

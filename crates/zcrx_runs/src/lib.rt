@@ -12,6 +12,8 @@ mod drawn;
 #[cfg(test)]
 mod enough;
 #[cfg(test)]
+mod flushing;
+#[cfg(test)]
 mod gates;
 #[cfg(test)]
 mod limits;
