@@ -72,13 +72,17 @@ impl<'a, R: Files + AllocGlobal + Drop> FileShelf<'a, R> {
 impl<R: Files + AllocGlobal> FileShelf<'_, R> {
     /// Counts what failed.
     fn count<V>(&mut self, outcome: Result<V, Lost>) -> Result<V, Failed>
-        ensures { MatchResult result (λ _. self.new ≡ self.old) (λ _. self.new ≡ raised self.old) }
+        ensures cause { HasCause self.old self.new result }
+        ensures after { MatchResult result (λ _. self.new ≡ self.old) (λ _. self.new ≡ raised self.old) }
     {
-        outcome.map_err(|lost| {
-            self.lost = self.lost.or(Some(lost));
-            self.faults = self.faults.saturating_add(1);
-            Failed
-        })
+        match outcome {
+            Ok(value) => Ok(value),
+            Err(lost) => {
+                self.lost = self.lost.or(Some(lost));
+                self.faults = self.faults.saturating_add(1);
+                Err(Failed)
+            }
+        }
     }
 }
 

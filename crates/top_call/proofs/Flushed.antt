@@ -117,8 +117,12 @@ module _ {T : Type 0} (kept : T → ℕ → Option (List ℕ)) (losses : T → �
       let (a, below, rose) = so_far.failed_at before in
       let other : a ≢ app = omega (arith, below) in
       (a, omega (arith, below), subst (Rose (losses_in losses shelves a)) (sym (lost-other a other)) rose))
-      (λ own. (app, omega arith, subst (λ n. Rose n (losses_in losses (set now app shelf_now) app)) (sym lost-first)
-      (subst (Rose (losses shelf)) (sym lost-now) (rose-at (losses shelf) (losses shelf_now) line line_now failed flushed own))))
+      (λ own. (
+        app,
+        omega arith,
+        subst (λ n. Rose n (losses_in losses (set now app shelf_now) app)) (sym lost-first)
+            (subst (Rose (losses shelf)) (sym lost-now) (rose-at (losses shelf) (losses shelf_now) line line_now failed flushed own)),
+      ))
       (or_cases lost failed is)
 
   still-one : (lost || failed) ≡ false → (a : ℕ) → losses_in losses (set now app shelf_now) a ≡ losses_in losses shelves a

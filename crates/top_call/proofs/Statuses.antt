@@ -359,9 +359,12 @@ module _ {S T : Type 0} {left : S → Option (List ℕ)} {failed : S → ℕ} {k
       omega (arith, get-within lines stands.number stands.app stands.at, flushes.many_lines, replayed.many_apps) in
       (stands.number, own, written-lost stands.number stands.app own stands.at stands.why))
       (λ flush.
-      let (app, own, rose) = flushes.failed_at flush in
-      (app, own, Rose-earlier (losses_in losses shelves app) (losses_in losses shelves_run app) (losses_in losses shelves_now app)
-      (later-run app own) rose))
+      let (app, own, rose) = flushes.failed_at flush in (
+        app,
+        own,
+        Rose-earlier (losses_in losses shelves app) (losses_in losses shelves_run app) (losses_in losses shelves_now app)
+            (later-run app own) rose,
+      ))
       (or_cases (any_stopped is_write lines) flush_failed some)
 
   lost-of : answer ≡ 9 → HasLost losses shelves shelves_now (length plan.ports.items) ⊎ Rose refusals refusals_now
