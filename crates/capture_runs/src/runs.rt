@@ -125,7 +125,7 @@ fn shelves_of(alloc: Global, apps: usize, room: usize) -> Result<Vec<MemShelf>, 
     Ok(shelves)
 }
 
-/// Runs, and ends the board: each of its buffers is free, and its log has nothing.
+/// Runs, and ends the board: each of its buffers is free, and its log has no event, which isn't all where a buffer was taken.
 pub fn run(
     rt: &(impl Abort + AllocGlobal + RandomSource),
     name: &str,
@@ -142,7 +142,11 @@ pub fn run(
     let random = RandomState::new(rt)?;
     let (outcome, board) = run_turns(alloc, random, &mut source, &mut shelves, &plan, given.turns)?;
     let log = board.log();
-    assert!(rt; log.events.is_empty() && !log.whole, "{name}: a log");
+    let is_silent = outcome.pool.slow == 0;
+    assert!(rt;
+        log.events.is_empty() && (is_silent || !log.whole),
+        "{name}: a log"
+    );
     let free = board.finish().free.len();
     assert!(rt;
         free == given.setup.buffers as usize,
