@@ -1,10 +1,11 @@
 //! Callers that are generic over boards, at both boards: a card that sweeps and takes, one that sends what is pending, and an
 //! application that takes it, reads it and gives it back. And seats, which are given once.
 ghost use Rattle.std.specs.Prelude.{◌≡◌};
-ghost use Rattle.board_face.specs.NicCalls.{IsOpen, HasNoToken};
+ghost use Rattle.board_face.specs.{AppCalls.{IsHere, CanLend}, NicCalls.{IsOpen, HasNoToken}};
+ghost use Rattle.face_table.specs.Reader.{HasNothing};
 
 use area_layout::Layout;
-use board_face::{Entry, NicFace};
+use board_face::{AppFace, Entry, NicFace};
 use face_table::{Pending, Served, flush, serve};
 use plain_board::PlainBoard;
 use std::alloc::Global;
@@ -28,14 +29,23 @@ fn lists_each<F: NicFace>(rt: &impl Abort, face: &mut F, words: &[(u32, u32)], a
     assert!(rt; first == Some((0, 1024)));
 }
 
+/// The words of 70 buffers.
+const WORDS: &[(u32, u32)] = &[(1, 6), (0, 64)];
+
 #[test]
-fn new_boards_list_each_buffer(rt: HostRuntime) -> Result<(), Fail> {
+fn new_plain_board_lists_each_buffer(rt: HostRuntime) -> Result<(), Fail> {
+    let layout = Layout::new(70, 1, 1024).ok_or("no layout")?;
+    let mut nic = PlainBoard::open(rt.alloc(), layout, 1, 2)?.nic();
+    lists_each(&rt, &mut nic, WORDS, 70);
+    Ok(())
+}
+
+#[test]
+fn new_word_board_lists_each_buffer(rt: HostRuntime) -> Result<(), Fail> {
     let layout = Layout::new(70, 1, 1024).ok_or("no layout")?;
     let (board, mut desk) = WordBoard::open(rt.alloc(), layout, 1, 2)?;
     let mut nic = board.nic(&mut desk).ok_or("no seat of the card")?;
-    lists_each(&rt, &mut nic, &[(1, 6), (0, 64)], 70);
-    let mut nic = PlainBoard::open(rt.alloc(), layout, 1, 2)?.nic();
-    lists_each(&rt, &mut nic, &[(1, 6), (0, 64)], 70);
+    lists_each(&rt, &mut nic, WORDS, 70);
     Ok(())
 }
 
@@ -74,23 +84,41 @@ fn sends_pending<F: NicFace>(rt: &impl Abort, alloc: Global, face: &mut F) -> Re
     Ok(())
 }
 
-/// One caller sends what is pending, the other takes it, reads it and gives it back.
+/// The application takes it, reads it and gives it back.
+fn serves<F: AppFace>(rt: &impl Abort, face: &mut F)
+    requires here { IsHere (F.seen face.old) }
+    requires can { CanLend (F.seen face.old) }
+    requires nothing { HasNothing (F.seen face.old) }
+{
+    assert!(rt; serve(face, 2) == Served::NoNote);
+}
+
+/// The card is given one entry back.
+fn is_given_back<F: NicFace>(rt: &impl Abort, face: &mut F) {
+    assert!(rt; face.apps() == 1 && face.entry(0) == Entry::Honoured);
+}
+
 #[test]
-fn callers_run(rt: HostRuntime) -> Result<(), Fail> {
+fn callers_run_on_words(rt: HostRuntime) -> Result<(), Fail> {
     let layout = Layout::new(1, 1, 1024).ok_or("no layout")?;
     let (board, mut desk) = WordBoard::open(rt.alloc(), layout, 1, 4)?;
     let mut nic = board.nic(&mut desk).ok_or("no seat of the card")?;
     let mut seat = board.app(&mut desk, 0).ok_or("no seat of the application")?;
     sends_pending(&rt, rt.alloc(), &mut nic)?;
-    assert!(rt; serve(&mut seat, 2) == Served::NoNote);
-    assert!(rt; nic.apps() == 1 && nic.entry(0) == Entry::Honoured);
+    serves(&rt, &mut seat);
+    is_given_back(&rt, &mut nic);
+    Ok(())
+}
+
+#[test]
+fn callers_run_in_turn(rt: HostRuntime) -> Result<(), Fail> {
+    let layout = Layout::new(1, 1, 1024).ok_or("no layout")?;
     let mut nic = PlainBoard::open(rt.alloc(), layout, 1, 4)?.nic();
     sends_pending(&rt, rt.alloc(), &mut nic)?;
     nic.sound();
     let mut app = nic.back().app(0);
-    assert!(rt; serve(&mut app, 2) == Served::NoNote);
-    let mut nic = app.back().nic();
-    assert!(rt; nic.apps() == 1 && nic.entry(0) == Entry::Honoured);
+    serves(&rt, &mut app);
+    is_given_back(&rt, &mut app.back().nic());
     Ok(())
 }
 
