@@ -492,14 +492,16 @@ module _ {S T O : Type 0} {left : S → Option (List ℕ)} {failed : S → ℕ} 
   pub replays : (told : ReplayShown) (card_now : Card) → AreInRange told.options → IsPlanOf told plan
       → RanWith left failed kept losses source source_now shelves shelves_run card_now told.turns plan outcome
       → HasRecord plan outcome card_now
-      → Finishes kept losses shelves_run shelves_now (sent out) (sent out_now) (refusals out) (refusals out_now) outcome (record_in plan card_now) answer
+      → (given : List T) → given ≡ shelves_run
+      → Finishes kept losses given shelves_now (sent out) (sent out_now) (refusals out) (refusals out_now) outcome (record_in plan card_now) answer
       → Replays left failed kept losses sent refusals source source_now shelves shelves_now out out_now card_now told answer
-  replays told card_now in_range planned with recorded finishes =
+  replays told card_now in_range planned with recorded given given_is finishes =
       let ran = with.ran in
       let ahead = with.ahead in
       let tells = finishes.tells in
       let flushes : Flushes kept losses (length plan.ports.items) shelves_run shelves_now outcome.apps finishes.lines finishes.lost =
-      subst (λ n. Flushes kept losses n shelves_run shelves_now outcome.apps finishes.lines finishes.lost) ran.many_apps finishes.flushes in
+      subst (λ n. Flushes kept losses n shelves_run shelves_now outcome.apps finishes.lines finishes.lost) ran.many_apps
+      (subst (λ them. Flushes kept losses (length outcome.apps) them shelves_now outcome.apps finishes.lines finishes.lost) given_is finishes.flushes) in
       let outcome_now : Told = record outcome { apps = finishes.lines } in
       let is : IsAnswer (status_of outcome_now finishes.lost) answer (refusals out) (refusals out_now) = is_answer (sent out) (sent out_now) (refusals out)
       (refusals out_now) (status_of outcome_now finishes.lost) answer _ tells.reported tells.report tells.answered in

@@ -7,7 +7,8 @@ pub returns-in-Ok : goal.returns-in-Ok
 returns-in-Ok g c = record {
   replays = inl (replays g.O.Sink.sent g.O.Sink.faults c.args.out.now c.finish.new.out
       (asked_by c.args.command.ports.items c.args.command.areas.items c.args.command.options None) _ c.requires.options
-      (c.plan_of-plan.ensures.told _) c.in-Ok.ensures.ran c.in-Ok.ensures.recorded c.finish.ensures);
+      (c.plan_of-plan.ensures.told _) c.in-Ok.ensures.ran c.in-Ok.ensures.recorded
+      c.deref_mut.result.now c.deref_mut.ensures.value c.finish.ensures);
 }
 
 pub returns : goal.returns
