@@ -71,7 +71,9 @@ impl Case {
         other: &str,
         bad: u32,
     ) -> Result<(), Wrong> {
-        let text = str::from_utf8(&self.bytes).map_err(|_| Wrong("no text"))?;
+        let Ok(text) = str::from_utf8(&self.bytes) else {
+            return Err(Wrong("no text"));
+        };
         let mut replaced = Vec::new(alloc);
         for (before, line) in text.lines().enumerate() {
             let is_other = before.saturating_add(1) == number;
