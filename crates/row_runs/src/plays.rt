@@ -40,7 +40,6 @@ fn plain_call<'a>(words: &'a [&'a str], bytes: &'a [u8]) -> Given<'a> {
         sink_fails: &[],
         stream_room: 0,
         sink_room: SENT,
-        buffers: 0,
     }
 }
 
