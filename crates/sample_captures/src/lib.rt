@@ -153,18 +153,3 @@ pub fn stream_bytes(alloc: Global, len: usize) -> Result<Vec<u8>, Fail> {
     }
     Ok(bytes)
 }
-
-/// The capture of a stream to port 9000 from sequence number 1000 on, in payloads of these lengths.
-pub fn in_sequence(alloc: Global, stream: &[u8], lengths: &[usize]) -> Result<Vec<u8>, Fail> {
-    let mut capture = FILE_HEADER.to_vec(alloc)?;
-    let mut seq = 1000u32;
-    let mut left = stream;
-    for len in lengths {
-        let (text, rest) = left.split_at_checked(*len).ok_or("a stream too short")?;
-        let made = frame(alloc, &to_9000(seq, PSH_ACK, text))?;
-        capture.extend_from_slice(&record_of(alloc, &made)?)?;
-        seq = seq.wrapping_add(u32::try_from(*len)?);
-        left = rest;
-    }
-    Ok(capture)
-}
