@@ -117,6 +117,7 @@ fn play(
     rt: &impl Abort,
     alloc: Global,
     case: &Case<'_>,
+    steps: &[Step<'_>],
     counted: &[u8],
     board: PlainBoard,
     scene: &mut Scene,
@@ -126,7 +127,7 @@ fn play(
 {
     let mut board = board;
     let mut number = 0u32;
-    for step in case.steps {
+    for step in steps {
         number = number.wrapping_add(1);
         let call = move_of(*step, case.base, number, counted);
         board = step_once(rt, alloc, case.name, number, *step, call, board, scene);
@@ -159,13 +160,14 @@ fn line_of(rt: &impl Abort, name: &str, st: &AppState, shelf: &MemShelf) -> Line
     Line(st.written(), st.loans(), st.copied(), st.stopped())
 }
 
-/// Plays a run, and answers what the application tells of itself. Where both have ended each buffer is free.
+/// Plays these steps, and answers what the application tells of itself, and the shelf. Where both have ended each buffer is free.
 pub fn played(
     rt: &impl Abort,
     alloc: Global,
     case: &Case<'_>,
+    steps: &[Step<'_>],
     counted: &[u8],
-) -> Result<Line, Fail> {
+) -> Result<(Line, MemShelf), Fail> {
     let (buffers, size, places) = case.board;
     let (hold, leak, stray, quit) = case.how;
     let how = Behaviour {
@@ -176,22 +178,23 @@ pub fn played(
     };
     let fails = case.fails.to_vec(alloc)?;
     let (board, mut scene) = open(alloc, buffers, size, places, how, fails)?;
-    let board = play(rt, alloc, case, counted, board, &mut scene);
-    compare_shelf(rt, case, counted, &scene.shelf);
+    let board = play(rt, alloc, case, steps, counted, board, &mut scene);
     let line = line_of(rt, case.name, &scene.st, &scene.shelf);
     if scene.left {
         let free = all_free(board, &scene)?;
         went(rt, case.name, 0, free == buffers as usize);
     }
-    Ok(line)
+    let Scene { shelf, .. } = scene;
+    Ok((line, shelf))
 }
 
 /// Plays these runs.
 pub fn plays(rt: &impl Abort, alloc: Global, cases: &[Case<'_>]) -> Result<(), Fail> {
     let counted = counted_bytes(alloc)?;
     for case in cases {
-        let line = played(rt, alloc, case, &counted)?;
+        let (line, shelf) = played(rt, alloc, case, case.steps, &counted)?;
         same_line(rt, case.name, line, case.line);
+        compare_shelf(rt, case, &counted, &shelf);
     }
     Ok(())
 }

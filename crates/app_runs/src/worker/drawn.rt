@@ -1,6 +1,6 @@
 //! Drawn lists of notes, against a plain copying receiver.
 use super::cases::{CASE, Case, played};
-use crate::step::{Line, Step, part, piece, short};
+use crate::step::{Line, Step, part, piece, same_bytes, short};
 use app_worker::{Turn, Why};
 use std::alloc::{AllocError, Global};
 use std::process::Abort;
@@ -175,18 +175,18 @@ fn drawn_list(
         used: 0,
     };
     list.draw(draws, noise)?;
-    let zeroth = list.stream(alloc, 0)?;
-    let first = list.stream(alloc, 1)?;
-    let second = list.stream(alloc, 2)?;
     let case = Case {
         name: "a drawn list",
         board: (8, 4096, 256),
         how: (hold, 0, 0, None),
-        steps: &list.steps,
-        streams: &[&zeroth, &first, &second],
         ..CASE
     };
-    played(rt, alloc, &case, noise)
+    let (line, shelf) = played(rt, alloc, &case, &list.steps, b"")?;
+    for flow in 0..3 {
+        let stream = list.stream(alloc, flow)?;
+        same_bytes(rt, case.name, flow, shelf.flow(flow), &stream);
+    }
+    Ok(line)
 }
 
 /// Notes that overlap, repeat, leave gaps and come out of order, of several flows, in pieces and with their bytes.
