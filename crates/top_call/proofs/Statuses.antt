@@ -1,7 +1,8 @@
 -- What the status of a replay says of how it went.
-use Rattle.std.proofs.Common.{◌≡◌, ◌≢◌, nat_eq, ℕ, suc, List, [], ◌∷◌, length, ◌<◌, Bool, true, false, ◌||◌, Option, None, Some}
+use Rattle.std.proofs.Common.{◌≡◌, ◌≢◌, nat_eq, ℕ, suc, List, [], ◌∷◌, ◌++◌, take, drop, length, ◌<◌, Bool, true, false, ◌||◌, Option, None, Some}
 use Rattle.std.proofs.{Common.{refl, sym, ap, subst, ◌∙◌, ◌⊎◌, ⊎_elim, inl, inr, arith, get_or, ◌≤◌, option_map}, lemmas.List.Folds.{list_any_at}}
 use Rattle.std.{proofs.lemmas.Option.{get_or_from_slice_get}, specs.{Prelude.{IfSome, OnOk, Result, Ok, Err, ◌==◌, if◌then◌else◌, is_some}, List.{slice_get}}}
+use Rattle.std.proofs.Math.Seq.{take-append_seam}
 use Rattle.std.proofs.lemmas.Bool.{cases_Bool, cases_eq, cases_lt, or_cases, Decides.{nat_tests}}
 use Rattle.zr_kinds.specs.declared.fault.Fault.{Fault, TheVariants.{Memory, Usage, NotPcap, Version, LinkType, Cut, LongRecord, Read, Write, TooManyFlows}}
 use Rattle.zr_kinds.specs.declared.{fault.Fault.TheVariants.{TooManyFrames, BadBlock, BadRun}, behaviour.Stopped.{Stopped}, outcome.AppLine.{AppLine}}
@@ -478,6 +479,10 @@ how-said told plan in_range planned = rw (planned.polled, planned.forward, plann
     go true other = rw other (sym (in_range.plain other))
     go false other = rw other refl
 
+-- what was lent as a slice is the vector's again
+back : {T : Type 0} (room : ℕ) (xs all : List T) → length xs ≡ room → take room (xs ++ drop (length xs) all) ≡ xs
+back room xs all same = ap (λ k. take k (xs ++ drop (length xs) all)) (sym same) ∙ take-append_seam xs (drop (length xs) all)
+
 -- the report went out whole
 told_well : (refusals refusals_now said answer : ℕ) (reported : Result (Unit {0}) Unreported) → OnOk reported (refusals_now ≡ refusals)
     → answer ≡ answer_of said reported → answer ≢ 1 → answer ≢ 9 → refusals_now ≡ refusals
@@ -489,13 +494,13 @@ told_well refusals refusals_now said answer (Err unreported.Write) still is not_
 module _ {S T O : Type 0} {left : S → Option (List ℕ)} {failed : S → ℕ} {kept : T → ℕ → Option (List ℕ)} {losses : T → ℕ}
     (sent : O → Option (List ℕ)) (refusals : O → ℕ) {source source_now : S} {shelves shelves_run shelves_now : List T} (out out_now : O)
     {plan : Plan} {outcome : Told} {answer : ℕ} where
-  pub replays : (told : ReplayShown) (card_now : Card) → AreInRange told.options → IsPlanOf told plan
+  replays-so : (told : ReplayShown) (card_now : Card) → AreInRange told.options → IsPlanOf told plan
       → RanWith left failed kept losses source source_now shelves shelves_run card_now told.turns plan outcome
       → HasRecord plan outcome card_now
       → (given : List T) → given ≡ shelves_run
       → Finishes kept losses given shelves_now (sent out) (sent out_now) (refusals out) (refusals out_now) outcome (record_in plan card_now) answer
       → Replays left failed kept losses sent refusals source source_now shelves shelves_now out out_now card_now told answer
-  replays told card_now in_range planned with recorded given given_is finishes =
+  replays-so told card_now in_range planned with recorded given given_is finishes =
       let ran = with.ran in
       let ahead = with.ahead in
       let tells = finishes.tells in
@@ -541,3 +546,15 @@ module _ {S T O : Type 0} {left : S → Option (List ℕ)} {failed : S → ℕ} 
         sound_shelves = kept_well ran ahead flushes is;
         sound_sink = told_well (refusals out) (refusals out_now) (status_of outcome_now finishes.lost) answer tells.reported tells.still tells.answered;
       }
+
+  pub replays : (told : ReplayShown) (card_now : Card) → AreInRange told.options → IsPlanOf told plan
+      → RanWith left failed kept losses source source_now shelves shelves_run card_now told.turns plan outcome
+      → HasRecord plan outcome card_now
+      → (given : List T) → given ≡ shelves_run → (room : ℕ) → room ≡ length shelves_run
+      → Finishes kept losses given shelves_now (sent out) (sent out_now) (refusals out) (refusals out_now) outcome (record_in plan card_now) answer
+      → Replays left failed kept losses sent refusals source source_now shelves (take room (shelves_now ++ drop (length shelves_now) shelves_run))
+      out out_now card_now told answer
+  replays told card_now in_range planned with recorded given given_is room size finishes =
+      subst (λ them. Replays left failed kept losses sent refusals source source_now shelves them out out_now card_now told answer)
+      (sym (back room shelves_now shelves_run (finishes.flushes.many ∙ ap length given_is ∙ sym size)))
+      (replays-so told card_now in_range planned with recorded given given_is finishes)

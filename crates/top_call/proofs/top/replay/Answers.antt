@@ -1,5 +1,5 @@
 -- The outcome is told, and the board is in the card; or there was no memory for a board or an outcome.
-use Rattle.std.proofs.Common.{inl, inr, refl, ◌∙◌, None}
+use Rattle.std.proofs.Common.{inl, inr, refl, ◌∙◌, None, arith}
 use Rattle.top_call.{specs.StreamTheorem.{asked_by}, proofs.Statuses.{replays}}
 use Rattle.top_call.proofs.top.replay.Goals as goal
 
@@ -8,7 +8,7 @@ returns-in-Ok g c = record {
   replays = inl (replays g.O.Sink.sent g.O.Sink.faults c.args.out.now c.finish.new.out
       (asked_by c.args.command.ports.items c.args.command.areas.items c.args.command.options None) _ c.requires.options
       (c.plan_of-plan.ensures.told _) c.in-Ok.ensures.ran c.in-Ok.ensures.recorded
-      c.deref_mut.result.now c.deref_mut.ensures.value c.finish.ensures);
+      c.deref_mut.result.now c.deref_mut.ensures.value c.play_beside.new.shelves.len (omega (arith, c.play_beside.new.shelves.ok)) c.finish.ensures);
 }
 
 pub returns : goal.returns
