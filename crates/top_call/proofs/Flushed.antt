@@ -1,5 +1,5 @@
 -- The flush of one shelf more.
-use Rattle.std.proofs.Common.{◌≡◌, ◌≢◌, ℕ, ◌+◌, ◌<◌, ◌≤◌, Bool, true, false, ◌||◌, List, length, drop, set, get_or, Option, Some, refl, sym, ap, subst, ◌∙◌, ⊎_elim, arith}
+use Rattle.std.proofs.Common.{◌≡◌, ◌≢◌, ℕ, ◌+◌, ◌<◌, ◌≤◌, Bool, true, false, ◌||◌, List, length, set, get_or, Option, Some, refl, sym, ap, subst, ◌∙◌, ⊎_elim, arith}
 use Rattle.std.{specs.{List.{slice_get}, Io.KnownBytes.{Keeps}}, proofs.KnownBytes.{Keeps-refl, Keeps-trans}}
 use Rattle.std.proofs.lemmas.{Bool.{cases_eq, or_cases}, Grind.{drop_more_same}, List.{drop-set-lt, length-set, set-get_or}, Option.{get_or_from_slice_get}}
 use Rattle.zr_kinds.specs.declared.outcome.AppLine.{AppLine}
