@@ -4,10 +4,10 @@ streams are written as they come.
 
 usage: tools/gathering_test.py
 
-A file may have no more than so many bytes, as on a disk that is full; what goes on behind that fails. So a stream that is gathered is
-lost at the flush behind the last turn, or where its file is closed to make room for another; and a stream that isn't is lost at once.
-Then there are more flows than files that may be open, and captures of which the first record comes alone. A line for each run that
-went otherwise than it should, and the status is 1 then, else 0.
+A file may have no more than so many bytes, as on a disk that is full; what goes on behind that fails. So a stream that is
+gathered is lost at the flush behind the last turn, or where its file is closed to make room for another; and a stream that isn't
+is lost at once. Then there are more flows than files that may be open, and captures of which the first record comes alone. A line
+for each run that went otherwise than it should, and the status is 1 then, else 0.
 
 ZCRX=FILE names another program than crates/zcrx_cli/out/zcrx_cli, which `make build` leaves there.
 """
@@ -134,7 +134,7 @@ def full_at_once():
 
 
 def closed_to_make_room():
-    """The file of the first flow is closed to make room for another, and what was gathered of it is lost there: the application stops."""
+    """The first flow's file is closed to make room, and what was gathered of it is lost there: the application stops."""
     flows = [(9000, LONG)] + 15 * [(9000, PIECE)]
     bytes_in = capture(flows)
     for way, options in WAYS.items():
@@ -193,24 +193,22 @@ def comes_to(path, size):
 
 
 def as_it_comes():
-    """The bytes of the first record are in the file before the second one comes."""
+    """The bytes of the first record are in the file before the second one comes. By turns the one thread waits where it reads."""
     bytes_in = capture([(9000, 2 * PIECE)])
     first = len(bytes_in) - (len(bytes_in) - len(frames.FILE_HEADER)) // 2
     for way in (by_pipe, by_socket, by_terminal):
-        for options in WAYS.values():
-            name = f"{way.__name__} {options}"
-            given, gives = way()
-            with tempfile.TemporaryDirectory() as folder:
-                child = subprocess.Popen(
-                    [PROGRAM, "replay", *options, "9000"], cwd=folder, stdin=given, stdout=subprocess.DEVNULL, stderr=subprocess.DEVNULL)
-                os.close(given)
-                os.write(gives, bytes_in[:first])
-                file = pathlib.Path(folder, "flow-0.bin")
-                expect(f"{name}, first record", comes_to(file, PIECE) and file.read_bytes(), stream(0, 2 * PIECE)[:PIECE])
-                os.write(gives, bytes_in[first:])
-                expect(f"{name}, second record", comes_to(file, 2 * PIECE) and file.read_bytes(), stream(0, 2 * PIECE))
-                os.close(gives)
-                child.wait(timeout=60)
+        given, gives = way()
+        with tempfile.TemporaryDirectory() as folder:
+            child = subprocess.Popen(
+                [PROGRAM, "replay", "9000"], cwd=folder, stdin=given, stdout=subprocess.DEVNULL, stderr=subprocess.DEVNULL)
+            os.close(given)
+            file = pathlib.Path(folder, "flow-0.bin")
+            for part, size in ((bytes_in[:first], PIECE), (bytes_in[first:], 2 * PIECE)):
+                os.write(gives, part)
+                if not comes_to(file, size) or file.read_bytes() != stream(0, size):
+                    wrong.append(f"{way.__name__}: no {size} bytes in the file while the capture goes on")
+            os.close(gives)
+            child.wait(timeout=60)
 
 
 def main():
