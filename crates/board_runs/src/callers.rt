@@ -62,6 +62,9 @@ fn sends_pending<F: NicFace>(rt: &impl Abort, alloc: Global, face: &mut F) -> Re
     let Some(mut own) = face.take() else {
         return Err(Fail::from("nothing cached"));
     };
+    if own.size() - own.start() < 5 {
+        return Err(Fail::from("no room"));
+    }
     let piece = face.place(&mut own, b"hello");
     let note = Note {
         frame: 1,

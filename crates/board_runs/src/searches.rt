@@ -228,7 +228,7 @@ fn drawn_steps(lists: &mut Lists, state: &mut u64) -> Result<Vec<(Step, Told)>, 
     for _ in 0..8 {
         let needed = drawn(state, 65);
         let found = lists.search(needed as usize)?;
-        let told = Told::Found(found, lists.cache.len() as u32, lists.stats);
+        let told = Told::Found(found, lists.cached(), lists.stats);
         steps.push((Step::Search(needed), told))?;
         for _ in 0..drawn(state, 200) {
             if let Some(step) = drawn_step(lists, state)? {
@@ -239,10 +239,7 @@ fn drawn_steps(lists: &mut Lists, state: &mut u64) -> Result<Vec<(Step, Told)>, 
     let before = lists.stats.strays;
     let count = lists.drain()?;
     let strays = lists.stats.strays.wrapping_sub(before);
-    steps.push((
-        Step::Drain,
-        Told::Drained(count, strays, lists.cache.len() as u32),
-    ))?;
+    steps.push((Step::Drain, Told::Drained(count, strays, lists.cached())))?;
     Ok(steps)
 }
 

@@ -8,17 +8,8 @@ use std::test::*;
 use std::thread::Threads;
 use word_board::WordBoard;
 
-/// So many notes of 100 bytes to each application, through buffers of 1,024.
-fn plan_of(buffers: u32, apps: u32, notes: u32) -> Result<Plan, Fail> {
-    Ok(Plan {
-        layout: Layout::new(buffers, apps, 1_024).ok_or("no layout")?,
-        places: 16,
-        notes,
-        bytes: 100,
-    })
-}
-
-/// The notes come to each application in order with their texts. Then all buffers are free, each once.
+/// So many notes of 100 bytes come to each application, through buffers of 1,024, in order with their texts. Then all buffers are
+/// free, each once.
 fn passes<R: Threads + Sync + Abort>(
     rt: &R,
     alloc: Global,
@@ -26,7 +17,12 @@ fn passes<R: Threads + Sync + Abort>(
     apps: u32,
     notes: u32,
 ) -> Result<(), Fail> {
-    let plan = plan_of(buffers, apps, notes)?;
+    let plan = Plan {
+        layout: Layout::new(buffers, apps, 1_024).ok_or("no layout")?,
+        places: 16,
+        notes,
+        bytes: 100,
+    };
     let mut passed = run_threads(rt, alloc, &plan)?.ok_or("a role was not done")?;
     passed.free.sort()?;
     let all: Vec<u32> = (0..buffers).collect(alloc)?;

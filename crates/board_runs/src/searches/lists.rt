@@ -56,6 +56,11 @@ impl Lists {
         Ok(lists)
     }
 
+    /// How many buffers are cached.
+    pub fn cached(&self) -> u32 {
+        self.cache.len().min(u32::MAX as usize) as u32
+    }
+
     /// So many pieces of one buffer go to an application, if there is room. It answers whether they went.
     pub fn send(&mut self, app: u32, pieces: u32) -> Result<bool, AllocError> {
         let Some(ways) = self.apps.get_mut(app as usize) else {

@@ -13,9 +13,9 @@ face_rows-requires g c =
     (rw app at c.app.ensures.given).2 in
     rw (card-new, app-new) record { card = c.new-card.ensures _; app = c.new-hand.ensures _ 0 }
 
-pub face_rows-2-requires : goal.face_rows-2-requires
-face_rows-2-requires g c =
+pub face_rows-requires-2-clause-app : goal.face_rows-requires-2-clause-app
+face_rows-requires-2-clause-app g c =
     let app : c.app-2.result ≡ Some c.in_ok-second.second = search rules in
     let app-new : c.in_ok-second.second ≡ record { board = c.in_ok-board.board; side = new_app c.in_ok-board.board.setting 1 } =
     (rw app at c.app-2.ensures.given).2 in
-    rw app-new record { card = c.face_rows.ensures.card; app = c.new-other.ensures _ 1 }
+    rw app-new (c.new-other.ensures _ 1)
