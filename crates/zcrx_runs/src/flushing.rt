@@ -1,6 +1,6 @@
 //! Shelves whose flush fails, behind a run in which all went well.
-ghost use Rattle.std.specs.{Prelude.{◌≡◌, ℕ, ◌≢◌, None, MatchResult}, Io.KnownBytes.{Keeps}};
-ghost use Rattle.zr_io.specs.{Moved.{AddsPiece, HasCause}, Memory.{raised}};
+ghost use Rattle.std.specs.{Prelude.{ℕ, ◌≢◌, None}, Io.KnownBytes.{Keeps}};
+ghost use Rattle.zr_io.specs.Moved.{AddsPiece, HasCause};
 
 use replay_threads::NoGate;
 use sample_captures::{PSH_ACK, capture_of, to_9000, to_9001};
@@ -32,12 +32,15 @@ struct Flushed {
 impl Flushed {
     /// Counts what failed.
     fn count(&mut self, outcome: Result<(), Failed>) -> Result<(), Failed>
-        ensures { MatchResult result (λ _. self.new.faults ≡ self.old.faults) (λ _. self.new.faults ≡ raised self.old.faults) }
+        ensures cause { HasCause self.old.faults self.new.faults result }
     {
-        if outcome.is_err() {
-            self.faults = self.faults.saturating_add(1);
+        match outcome {
+            Ok(()) => Ok(()),
+            Err(Failed) => {
+                self.faults = self.faults.saturating_add(1);
+                Err(Failed)
+            }
         }
-        outcome
     }
 }
 
