@@ -420,13 +420,16 @@ replay --size=1024 -- --events => '--events' is no port, a number from 1 to 6553
 replay 9000 09000 => port 09000 stands twice
 replay 1 2 3 4 5 6 7 8 9 => '9' is a ninth port, and there may be 8
 replay --buffers 4096 --size 65536 1 => --buffers times --size is above 67108864
-replay --areas 1:1000 1 => --areas takes 1 to 4 areas as COUNT:SIZE, with commas between, not '1:1000'
+replay --areas 1:1000 1 => --areas takes parts COUNT:SIZE, a number from 1 to 4096 and a power of two from 1024 to 65536, not '1:1000'
+replay --areas 1:1024,5000:1024 1 => --areas takes parts COUNT:SIZE, a number from 1 to 4096 and a power of two from 1024 to 65536, not '5000:1024'
+replay --areas 1:1024,1:1024,1:1024,1:1024,1:2048 1 => --areas takes 1 to 4 areas as COUNT:SIZE, with commas between, not '1:1024,1:1024,1:1024,1:1024,1:2048'
 replay --areas 4096:1024,1:1024 1 => --areas has more than 4096 buffers, or more than 67108864 bytes, together
 replay --areas 1:1024 --buffers 64 1 => --areas stands without --buffers and --size
 replay --turns n1 1 => --turns takes 1 to 4096 letters n and digits of the ports, counted from 0, not 'n1'
 make 7 => make wants two numbers
 make 4294967296 1 => make takes a seed from 0 to 4294967295, not '4294967296'
 make 1 1000001 => make takes 0 to 1000000 frames, not '1000001'
+make 7 1 --polled => make takes no option, as '--polled'
 mak 1 1 => 'mak' is no command
 check it => check takes no word more, as 'it'";
     refuse_all(&rt, lines)
