@@ -14,17 +14,24 @@ bench/RESULTS.md:
 - the crates: each of crates.txt has its paragraph in docs/MAP.md, and what it stands on isn't told there again;
 - each relative link, with its heading, each file or script that is named, and each name in code font that looks like one of
   the code: it stands somewhere under crates/, outside comments;
-- the example of docs/USE.md stands in the test that runs it;
+- the example of docs/USE.md stands in the test that runs it, and its examples with a `$` print what stands there, where the
+  proved program was built;
 - README.md has at most 130 lines.
+
+And it says in which files under crates/ the imports aren't in their form (tools/house.py --imports).
 """
 
 import pathlib
 import re
+import subprocess
 import sys
+import tempfile
 
 TOP = pathlib.Path(__file__).resolve().parent.parent
 DOCUMENTS = [TOP / "README.md", *sorted((TOP / "docs").glob("*.md")), TOP / "bench" / "RESULTS.md"]
 MOST_LINES = 130
+# The proved program, where it was built.
+PROGRAM = TOP / "crates" / "zcrx_cli" / "out" / "zcrx_cli"
 
 # Words in code font that name nothing under crates/: commands, and the goal that stands as an example.
 COMMANDS = set("rt tcpdump dumpcap tcpflow callgrind malloc ulimit returns-in-Err-clause-turn".split())
@@ -280,9 +287,9 @@ def check_links(document, text):
 
 
 def words_of_code():
-    """The names that the code under crates/ has outside comments, and those of its files."""
-    names = set()
+    """The names that the code under crates/ has outside comments, and those of its files and of the edits beside the gate's."""
     files = {path.name for path in (TOP / "crates").glob("*/*")}
+    names = {path.stem for path in (TOP / "more-edits").glob("*/*.edit")}
     for folder in ("src", "specs", "proofs", "must-fail"):
         for path in (TOP / "crates").glob(f"*/{folder}/**/*"):
             files.add(path.name)
@@ -355,6 +362,34 @@ def check_example():
         say("docs/USE.md", f"its example isn't that of {test}")
 
 
+def capture_of(name):
+    """The bytes of a capture that docs/USE.md names."""
+    if name == "hello.pcap":
+        return (TOP / "demo-data" / name).read_bytes()
+    return subprocess.run([PROGRAM, "make", "7", "40"], capture_output=True, check=True).stdout
+
+
+def check_runs():
+    """Each example with a `$` prints what stands there. `..` is any lines, and `capture` and `status 0` may be left out."""
+    if not PROGRAM.exists():
+        return
+    for words, name, shown in re.findall(r"(?m)^    \$ zcrx (.*) < (.*)\n((?:    .*\n)+)", read("docs/USE.md")):
+        with tempfile.TemporaryDirectory() as folder:
+            run = subprocess.run([PROGRAM, *words.split()], input=capture_of(name), capture_output=True, cwd=folder)
+        wanted = [line.strip() for line in shown.splitlines()]
+        left_out = tuple(word for word in ("capture", "status 0") if not any(line.startswith(word) for line in wanted))
+        said = "".join(f"{line}\n" for line in run.stdout.decode().splitlines() if not left_out or not line.startswith(left_out))
+        form = "".join("(?:.*\n)*" if line == ".." else re.escape(line) + "\n" for line in wanted)
+        if not re.fullmatch(form, said):
+            say("docs/USE.md", f"zcrx {words} prints: {said!r}")
+
+
+def check_imports():
+    found = subprocess.run([TOP / "tools" / "house.py", "--imports"], capture_output=True, text=True)
+    for line in found.stdout.splitlines():
+        say("imports", line)
+
+
 def main():
     page = plain(read("docs/zcrx.1"))
     options = check_options(page)
@@ -363,6 +398,8 @@ def main():
     check_crates()
     check_names(options)
     check_example()
+    check_runs()
+    check_imports()
     lines = len(read("README.md").splitlines())
     if lines > MOST_LINES:
         say("README.md", f"{lines} lines, more than {MOST_LINES}")

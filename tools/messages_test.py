@@ -4,8 +4,8 @@
 usage: tools/messages_test.py
 
 A line for each run that says something else than it should, and the status is 1 then, else 0. Where standard error is closed or
-full, status and streams are the same as without. Where it is a terminal, a replay of three seconds shows how far it has come, and
-clears the line at its end; where it isn't, it shows nothing.
+full, status and streams are the same as without. Where it is a terminal, a replay or a check of three seconds shows how far it
+has come, and clears the line at its end; where it isn't, it shows nothing.
 
 ZCRX=FILE names another program than crates/zcrx_cli/out/zcrx_cli, which `make build` leaves there.
 """
@@ -73,7 +73,7 @@ def readings():
     replay("gzip", gzip.compress(HELLO), 3, "status 3: standard input is compressed", "gzip -dc")
     replay("binary", b"\x00\x01\x02\x03" * 8, 3, "status 3: standard input is no pcap or pcapng capture")
     replay("version", HELLO[:4] + b"\x03" + HELLO[5:], 4, "status 4: the capture's major version")
-    replay("link type", HELLO[:20] + b"\x71" + HELLO[21:], 5, "status 5: the capture, or an interface", "isn't of Ethernet", "'any'")
+    replay("link type", HELLO[:20] + b"\x71" + HELLO[21:], 5, "status 5: the capture, or an interface", "isn't of Ethernet", "not at 'any'")
     replay("long record", HELLO + BIG_RECORD, 7, "status 7: a record states more than 262144 bytes", "(at record 2, behind 99 bytes)")
     replay("closed input", None, 8, "status 8: standard input", preexec_fn=lambda: os.close(0))
     replay("flows", many_flows(), 10, "status 10: there are more than 65535 flows")
@@ -87,32 +87,74 @@ def blocks():
     packet, last = 48, len(small) - 20
     replay("blocks", small, 0)
     replay("section cut", small[:27], 6, "status 6: the capture ends within", "(at the block behind 0 bytes)")
-    replay("packet cut", small[:-21], 6, "status 6", f"(at the block behind {packet} bytes)")
-    replay("last block", small[:-1] + b"\x01", 13, "status 13: a block of the pcapng capture", f"(at the block behind {last} bytes)")
+    replay("packet cut", small[:-21], 6, "status 6", f"(at record 1, the block behind {packet} bytes)")
+    replay("last block", small[:-1] + b"\x01", 13, "status 13: a block of the pcapng capture", f"(at record 2, the block behind {last} bytes)")
     replay("eight bytes", small + struct.pack("<2I", 6, 6), 13, f"(at the block behind {len(small)} bytes)")
     replay("section version", small + small[:12] + b"\x02" + small[13:], 4, f"(at the block behind {len(small)} bytes)")
-    replay("interface", small[:36] + b"\x71" + small[37:], 5, "status 5", f"(at the block behind {packet} bytes)")
-    replay("long packet", small[:packet + 22] + b"\x04" + small[packet + 23:], 7, "status 7", f"(at the block behind {packet} bytes)")
+    replay("interface", small[:36] + b"\x71" + small[37:], 5, "status 5", f"(at record 1, the block behind {packet} bytes)", "tshark -r", "editcap")
+    replay("long packet", small[:packet + 22] + b"\x04" + small[packet + 23:], 7, "status 7", f"(at record 1, the block behind {packet} bytes)")
+
+
+# A legal run, and what stands in place of one of its lines, with why that one is bad then.
+LEGAL = ["run 1:1024 1", "take 0 1", "place 0 0 5 2", "sent 0 0 0 5", "held 0 0 0 5", "lend 0 0 0 5 2 1", "back 0 0 0 5 1",
+         "shut 0 1", "honour 0 0 0 0", "end"]
+BAD = [
+    (1, [], "it is missing, has no line feed, or more than 128 bytes"),
+    (1, ["run 1:1000 1"], "it isn't the first line of a record"),
+    (2, ["takes 0 1"], "it says no event, and neither 'end' nor 'more'"),
+    (2, ["take 0 01"], "it says no event"),
+    (2, ["take 2 1"], "there is no buffer 2"),
+    (2, ["take 1 1"], "buffer 1 has a holder, or is none of the pool"),
+    (2, ["take 0 2"], "the counts don't fit: pool 1, told 2"),
+    (2, ["end"], "the record ended before it"),
+    (2, ["stray 1"], "there is no application 1"),
+    (2, ["spare 0 0 1", "place 0 0 5 2"], "the card hasn't buffer 0"),
+    (3, ["place 0 1020 5 2"], "there is no buffer 0, or it has fewer bytes"),
+    (3, ["place 0 1 5 2"], "the card hasn't buffer 0, or the bytes aren't apart from others, or none, or begin at no multiple of 64"),
+    (4, ["sent 0 0 0 4"], "the card hasn't the piece"),
+    (4, ["sent 1 0 0 5"], "there is no application 1, or no buffer 0, or it has fewer bytes"),
+    (5, ["held 0 0 0 4"], "no note of the piece was sent to application 0"),
+    (6, ["lend 0 0 0 4 2 1"], "the piece isn't held by application 0"),
+    (6, ["cut 0 0 0 5 5 3"], "the piece isn't held by application 0, or isn't cut within"),
+    (6, ["free 0 0 64 5 1"], "the piece isn't held by application 0"),
+    (6, ["lend 0 0 0 5 2 2"], "the counts don't fit: user 1, told 2"),
+    (7, ["back 0 0 0 4 1"], "the piece isn't lent by application 0"),
+    (7, ["back 0 0 0 5 0"], "the counts don't fit: user 1, told 0"),
+    (8, ["shut 0 1", "shut 0 0"], "the card hasn't buffer 0"),
+    (9, ["scrub 0 0 0 0", "honour 0 0 0 0"], "application 0 owes nothing in buffer 0"),
+    (9, ["spare 0 1 1", "own 0 1 0 1 1"], "application 0 hasn't buffer 1 to copy into, or the bytes aren't 1 to 256"),
+    (9, [], "a buffer has a holder still"),
+    (10, [], "it is missing"),
+    (10, ["end", "end"], "the record ended before it"),
+]
 
 
 def records():
-    """Records of runs: a legal one, and one whose last line is missing."""
+    """Records of runs: a legal one, and bad ones, with the line and why it is bad."""
     with tempfile.TemporaryDirectory() as folder:
-        answer = run(["check"], b"run 1:1024 1\nend\n", folder)
+        answer = run(["check"], ("\n".join(LEGAL) + "\n").encode(), folder)
         expect("legal run", answer, 0)
-        if answer.stdout != b"checked 2\n":
+        if answer.stdout != b"checked 10\n":
             wrong.append(f"legal run: {answer.stdout!r}")
-        answer = run(["check"], b"run 1:1024 1\n", folder)
-        expect("run without an end", answer, 14, "status 14: the run record isn't that of a legal run")
-        if answer.stdout != b"bad 2\n":
-            wrong.append(f"run without an end: {answer.stdout!r}")
+        for number, lines, text in BAD:
+            given = LEGAL[:number - 1] + lines + LEGAL[number:]
+            if not lines and number == 1:
+                given = []
+            # The line that is bad is the last one put in, or that behind an end that came too early.
+            bad = number + max(len(lines), 1) - 1 + (lines == ["end"])
+            answer = run(["check"], "".join(line + "\n" for line in given).encode(), folder)
+            expect(f"line {number}", answer, 14, f"zcrx: line {bad}: {text}", "status 14: the run record isn't that of a legal run")
+            if answer.stdout != f"bad {bad}\n".encode():
+                wrong.append(f"line {number}: {answer.stdout!r}")
+        for given, bad, text in ((b"run 1:1024 1\nmore", 2, "no line feed"), (b"x" * 129 + b"\n", 1, "more than 128 bytes")):
+            expect(text, run(["check"], given, folder), 14, f"zcrx: line {bad}: ", text)
 
 
 def memory():
     limit = lambda: resource.setrlimit(resource.RLIMIT_AS, (48 << 20, 48 << 20))
     words = ["replay", "--buffers", "1024", "--size", "65536", "--turns", "n", "9000"]
     with tempfile.TemporaryDirectory() as folder:
-        expect("memory", run(words, HELLO, folder, preexec_fn=limit), 1, "status 1: there was no memory")
+        expect("memory", run(words, HELLO, folder, preexec_fn=limit), 1, "status 1: there was no memory", "--buffers")
 
 
 def writing():
@@ -145,6 +187,10 @@ WORDS = [
     (["replay", "--events=1", "--turns=n", "9000"], "--events takes no value"),
     (["make", "7"], "make wants two numbers"),
     (["make", "7", "1000001"], "make takes 0 to 1000000 frames, not '1000001'"),
+    (["make", "--", "7", "1000001"], "make takes 0 to 1000000 frames, not '1000001'"),
+    (["make", "7", "--", "-1"], "make takes 0 to 1000000 frames, not '-1'"),
+    (["make", "--", "7"], "make wants two numbers"),
+    (["make", "--seed", "--", "7"], "make takes no option, as '--seed'"),
     (["check", "it"], "check takes no word more, as 'it'"),
 ]
 
@@ -184,14 +230,25 @@ def slowly(pipe):
     return sent
 
 
-def shown_at_terminal():
+def lines_slowly(pipe):
+    """Writes a legal record of 200,001 lines within three seconds: how many bytes."""
+    sent = pipe.write(b"run 1:1024 1\n")
+    for piece in range(20):
+        sent += pipe.write(b"take 0 1\nshut 0 0\n" * 5000)
+        pipe.flush()
+        time.sleep(0.15)
+    pipe.close()
+    return sent
+
+
+def shown_at_terminal(words, write):
     """What the program shows on a terminal."""
     main_end, other_end = pty.openpty()
     with tempfile.TemporaryDirectory() as folder:
         child = subprocess.Popen(
-            [PROGRAM, "replay", "9000"], cwd=folder, stdin=subprocess.PIPE, stdout=subprocess.DEVNULL, stderr=other_end)
+            [PROGRAM, *words], cwd=folder, stdin=subprocess.PIPE, stdout=subprocess.DEVNULL, stderr=other_end)
         os.close(other_end)
-        slowly(child.stdin)
+        write(child.stdin)
         child.wait(timeout=60)
     shown = b""
     try:
@@ -204,7 +261,14 @@ def shown_at_terminal():
 
 
 def progress():
-    shown = shown_at_terminal()
+    shown = shown_at_terminal(["check"], lines_slowly)
+    lines = re.findall(r"\r\x1b\[Kzcrx: (\d+) lines, (\d+) bytes", shown)
+    if not 2 <= len(lines) <= 30:
+        wrong.append(f"check at a terminal: {len(lines)} lines of progress")
+    for count, size in lines:
+        if not (0 < int(count) <= 200_001 and abs(13 + 9 * (int(count) - 1) - int(size)) < 9):
+            wrong.append(f"check at a terminal: {count} lines, {size} bytes")
+    shown = shown_at_terminal(["replay", "9000"], slowly)
     lines = re.findall(r"\r\x1b\[Kzcrx: (\d+) records, (\d+) bytes, (\d+) flows", shown)
     if not 2 <= len(lines) <= 30 or not shown.endswith("\r\x1b[K"):
         wrong.append(f"terminal: {len(lines)} lines of progress, behind them {shown[-20:]!r}")

@@ -1,6 +1,7 @@
 -- What sits in lanes goes on: turns come behind turns.
 use Rattle.std.{proofs.Common.{ℕ, List, Option, refl, ◌∙◌, arith}, specs.Prelude.{All, slice_index_or}}
 use Rattle.app_lanes.specs.{declared.lane.Lane.{Lane}, Lanes.{AllGo, LanesFit, LanesGo}}
+use Rattle.zr_io.specs.Moved.{ShelfCounts}
 
 pub all_same : {W : Type 0} {fits : W → Type 0} {goes : W → W → Type 0} → ((x : W) → fits x → goes x x) → (lanes : List W) → All fits lanes
     → AllGo goes lanes lanes
@@ -18,5 +19,5 @@ pub all_fit : {W : Type 0} {fits : W → Type 0} {goes : W → W → Type 0} →
     → All fits v
 all_fit again u v go i d within = again (slice_index_or u i d) (slice_index_or v i d) (go.each i d (omega (arith, within, go.many)))
 
-pub lanes_fit : {T : Type 0} (kept : T → ℕ → Option (List ℕ)) (losses : T → ℕ) (u v : List (Lane T)) → LanesGo kept losses u v → LanesFit kept losses v
+pub lanes_fit : {T : Type 0} (kept : T → ℕ → Option (List ℕ)) (losses : T → ShelfCounts) (u v : List (Lane T)) → LanesGo kept losses u v → LanesFit kept losses v
 lanes_fit kept losses u v go i d within = (go.each i d (omega (arith, within, go.many))).fits

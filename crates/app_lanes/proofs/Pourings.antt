@@ -1,65 +1,68 @@
 -- A turn of what has its loans polled goes on with its part of the run, or leaves.
 use Rattle.std.proofs.Common.{◌≡◌, ℕ, List, Option, Some, None, refl, sym, subst}
 use Rattle.zr_kinds.specs.declared.behaviour.Behaviour.{Behaviour}
+use Rattle.zr_io.specs.Moved.{ShelfCounts}
 use Rattle.board_face.specs.declared.views.app.AppView.{AppView}
 use Rattle.flow_queues.specs.{Ends.{HasLeft}, Returned.{HasReturned}}
 use Rattle.zc_poll.specs.{PourTurns.{pour_end}, declared.to_shelf.Poured.{Poured}}
 use Rattle.card_feed.specs.Plan.{plain_behaviour}
-use Rattle.app_lanes.specs.{declared.seated.{Forwarding.{Forwarding}, Pouring.{Pouring}}, Seated.{ForwardsSince, SeatedGoes, PoursSince, RunsOn, StandsOn}}
+use Rattle.app_lanes.specs.{declared.seated.{Forwarding.{Forwarding}, Pouring.{Pouring}}, Seated.{ForwardsSince, SeatedGoes, PoursSince, RunsOn, StandsOn, forward_moment, poll_moment}}
+use Rattle.run_account.specs.{Behind.{behind}, Ways.{ForwardTurns, PollTurns}}
 use Rattle.app_lanes.specs.declared.seated.Seated.TheVariants as seated
 
 -- what stood since a beginning
-pub stood : (Stands : (ℕ → Option (List ℕ)) → ℕ → Type 0) (v : AppView) (poured : Option Poured) → poured ≡ None → StandsOn Stands v poured
-    → (first : ℕ → Option (List ℕ)) × (count : ℕ) × Stands first count
+pub stood : (Stands : (ℕ → Option (List ℕ)) → ShelfCounts → Type 0) (v : AppView) (poured : Option Poured) → poured ≡ None → StandsOn Stands v poured
+    → (first : ℕ → Option (List ℕ)) × (count : ShelfCounts) × Stands first count
 stood Stands v poured none fits = subst (StandsOn Stands v) none fits
 
 -- what it has left with is what any application owes that keeps nothing and never quits
-abbrev pub LeavesWith : ((ℕ → Option (List ℕ)) → ℕ → Type 0) → (ℕ → Option (List ℕ)) → ℕ → AppView → Poured → Type 0
-LeavesWith Was kept losses v poured = (first : ℕ → Option (List ℕ)) (count : ℕ) → Was first count → (how : Behaviour)
+abbrev pub LeavesWith : ((ℕ → Option (List ℕ)) → ShelfCounts → Type 0) → (ℕ → Option (List ℕ)) → ShelfCounts → AppView → Poured → Type 0
+LeavesWith Was kept losses v poured = (first : ℕ → Option (List ℕ)) (count : ShelfCounts) → Was first count → (how : Behaviour)
     → (how.quit ≡ None → HasLeft how first kept count losses v (pour_end poured))
     × (how.leak ≡ 0 → how.stray ≡ 0 → HasReturned how poured.stopped poured.written v)
 
-module _ (Was Now : (ℕ → Option (List ℕ)) → ℕ → Type 0) (v v_now : AppView) (poured poured_now : Option Poured) (here : poured ≡ None)
+module _ (Was Now : (ℕ → Option (List ℕ)) → ShelfCounts → Type 0) (v v_now : AppView) (poured poured_now : Option Poured) (here : poured ≡ None)
     (fits : StandsOn Was v poured) where
   -- it goes on
-  module _ (none : poured_now ≡ None) (gives : (first : ℕ → Option (List ℕ)) (count : ℕ) → Was first count → Now first count) where
+  module _ (none : poured_now ≡ None) (gives : (first : ℕ → Option (List ℕ)) (count : ShelfCounts) → Was first count → Now first count) where
     pub on-fits : StandsOn Now v_now poured_now
     on-fits =
         let (first, count, stands) = stood Was v poured here fits in
         subst (StandsOn Now v_now) (sym none) (first, count, gives first count stands)
 
-    pub on-runs : (first kept kept_now : ℕ → Option (List ℕ)) (count losses losses_now : ℕ)
+    pub on-runs : (first kept kept_now : ℕ → Option (List ℕ)) (count losses losses_now : ShelfCounts)
         → RunsOn (Was first count) first kept count losses v poured → RunsOn (Now first count) first kept_now count losses_now v_now poured_now
     on-runs first kept kept_now count losses losses_now runs =
         subst (RunsOn (Now first count) first kept_now count losses_now v_now) (sym none)
         (gives first count (subst (RunsOn (Was first count) first kept count losses v) here runs))
 
   -- or it has left with this
-  module _ (left_with : Poured) (some : poured_now ≡ Some left_with) (kept_now : ℕ → Option (List ℕ)) (losses_now : ℕ)
+  module _ (left_with : Poured) (some : poured_now ≡ Some left_with) (kept_now : ℕ → Option (List ℕ)) (losses_now : ShelfCounts)
       (gives : LeavesWith Was kept_now losses_now v_now left_with) where
     pub end-fits : StandsOn Now v_now poured_now
     end-fits =
         let (first, count, stands) = stood Was v poured here fits in
         subst (StandsOn Now v_now) (sym some) ((gives first count stands plain_behaviour).0 refl).left
 
-    pub end-runs : (first kept : ℕ → Option (List ℕ)) (count losses : ℕ) → RunsOn (Was first count) first kept count losses v poured
+    pub end-runs : (first kept : ℕ → Option (List ℕ)) (count losses : ShelfCounts) → RunsOn (Was first count) first kept count losses v poured
         → RunsOn (Now first count) first kept_now count losses_now v_now poured_now
     end-runs first kept count losses runs =
         let ends = gives first count (subst (RunsOn (Was first count) first kept count losses v) here runs) plain_behaviour in
         subst (RunsOn (Now first count) first kept_now count losses_now v_now) (sym some) (ends.0 refl, ends.1 refl refl)
 
-module _ {T : Type 0} (kept : T → ℕ → Option (List ℕ)) (losses : T → ℕ) where
+module _ {T : Type 0} (kept : T → ℕ → Option (List ℕ)) (losses : T → ShelfCounts) where
   -- ---- into a shelf
 
   module _ (was now : Pouring T) (here : was.poured ≡ None) (fits : StandsOn (PoursSince kept losses was.stream) was.stream.face.side.view was.poured)
-      (board : now.stream.face.board ≡ was.stream.face.board) (app : now.stream.face.side.view.app ≡ was.stream.face.side.view.app) where
-    abbrev Since : (ℕ → Option (List ℕ)) → ℕ → Type 0
+      (board : now.stream.face.board ≡ was.stream.face.board) (app : now.stream.face.side.view.app ≡ was.stream.face.side.view.app)
+      (does : PollTurns (poll_moment was) (poll_moment now)) where
+    abbrev Since : (ℕ → Option (List ℕ)) → ShelfCounts → Type 0
     Since = PoursSince kept losses was.stream
 
-    abbrev Now : (ℕ → Option (List ℕ)) → ℕ → Type 0
+    abbrev Now : (ℕ → Option (List ℕ)) → ShelfCounts → Type 0
     Now = PoursSince kept losses now.stream
 
-    pub pours : now.poured ≡ None → ((first : ℕ → Option (List ℕ)) (count : ℕ) → Since first count → Now first count)
+    pub pours : now.poured ≡ None → ((first : ℕ → Option (List ℕ)) (count : ShelfCounts) → Since first count → Now first count)
         → SeatedGoes kept losses (seated.Pouring was) (seated.Pouring now)
     pours none gives = record {
       board = board;
@@ -70,6 +73,7 @@ module _ {T : Type 0} (kept : T → ℕ → Option (List ℕ)) (losses : T → �
         on-runs Since Now was.stream.face.side.view now.stream.face.side.view was.poured now.poured here fits none gives first
             (kept was.stream.shelf) (kept now.stream.shelf) count (losses was.stream.shelf) (losses now.stream.shelf) runs.1,
       );
+      comes = λ plan first count comes. (comes.0, comes.1, comes.2, comes.3, behind _ _ comes.4 does);
     }
 
     pub pours-out : (poured : Poured) → now.poured ≡ Some poured
@@ -87,20 +91,22 @@ module _ {T : Type 0} (kept : T → ℕ → Option (List ℕ)) (losses : T → �
         end-runs Since Now was.stream.face.side.view now.stream.face.side.view was.poured now.poured here fits poured some
             (kept now.stream.shelf) (losses now.stream.shelf) gives first (kept was.stream.shelf) count (losses was.stream.shelf) runs.1,
       );
+      comes = λ plan first count comes. (comes.0, comes.1, comes.2, comes.3, behind _ _ comes.4 does);
     }
 
   -- ---- by a carrier over a shelf
 
   module _ (was now : Forwarding T) (here : was.poured ≡ None)
       (fits : StandsOn (ForwardsSince kept losses was.forward) was.forward.face.side.view was.poured)
-      (board : now.forward.face.board ≡ was.forward.face.board) (app : now.forward.face.side.view.app ≡ was.forward.face.side.view.app) where
-    abbrev SinceThen : (ℕ → Option (List ℕ)) → ℕ → Type 0
+      (board : now.forward.face.board ≡ was.forward.face.board) (app : now.forward.face.side.view.app ≡ was.forward.face.side.view.app)
+      (does : ForwardTurns (forward_moment was) (forward_moment now)) where
+    abbrev SinceThen : (ℕ → Option (List ℕ)) → ShelfCounts → Type 0
     SinceThen = ForwardsSince kept losses was.forward
 
-    abbrev NowThen : (ℕ → Option (List ℕ)) → ℕ → Type 0
+    abbrev NowThen : (ℕ → Option (List ℕ)) → ShelfCounts → Type 0
     NowThen = ForwardsSince kept losses now.forward
 
-    pub forwards : now.poured ≡ None → ((first : ℕ → Option (List ℕ)) (count : ℕ) → SinceThen first count → NowThen first count)
+    pub forwards : now.poured ≡ None → ((first : ℕ → Option (List ℕ)) (count : ShelfCounts) → SinceThen first count → NowThen first count)
         → SeatedGoes kept losses (seated.Forwarding was) (seated.Forwarding now)
     forwards none gives = record {
       board = board;
@@ -112,6 +118,7 @@ module _ {T : Type 0} (kept : T → ℕ → Option (List ℕ)) (losses : T → �
             (kept was.forward.carrier.shelf) (kept now.forward.carrier.shelf) count (losses was.forward.carrier.shelf)
             (losses now.forward.carrier.shelf) runs.1,
       );
+      comes = λ plan first count comes. (comes.0, comes.1, comes.2, comes.3, comes.4, comes.5, comes.6, behind _ _ comes.7 does);
     }
 
     pub forwards-out : (poured : Poured) → now.poured ≡ Some poured
@@ -130,4 +137,5 @@ module _ {T : Type 0} (kept : T → ℕ → Option (List ℕ)) (losses : T → �
             (kept now.forward.carrier.shelf) (losses now.forward.carrier.shelf) gives first (kept was.forward.carrier.shelf) count
             (losses was.forward.carrier.shelf) runs.1,
       );
+      comes = λ plan first count comes. (comes.0, comes.1, comes.2, comes.3, comes.4, comes.5, comes.6, behind _ _ comes.7 does);
     }

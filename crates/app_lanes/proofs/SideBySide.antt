@@ -2,12 +2,13 @@
 use Rattle.std.proofs.Common.{◌≡◌, ℕ, zero, suc, ◌+◌, ◌-◌, ◌<◌, true, List, [], ◌∷◌, ◌++◌, length, map, take, drop, Option, Some, refl, sym, ap, ◌∙◌, subst, arith}
 use Rattle.std.specs.{Prelude.{All, Contains, reverse, slice_index_or, ⊤}, List.{slice_get}}
 use Rattle.std.proofs.lemmas.List.{append-nil, drop_all, get_or-reverse, length-reverse, reverse-reverse, take_all, Elements.{All-nil, All-cons}}
-use Rattle.zr_kinds.specs.declared.behaviour.Behaviour.{Behaviour}
 use Rattle.board_face.specs.{Opened.{new_app}, Sides.{AreNumbered, side_in}, declared.views.app.AppSide.{AppSide}}
 use Rattle.flow_queues.specs.Ends.{AppEnd}
+use Rattle.card_feed.specs.declared.plan.Plan.{Plan}
 use Rattle.word_board.specs.Board.{TheBoard}
 use Rattle.app_lanes.specs.{declared.lane.Lane.{Lane}, Lanes.{LanesGo, LanesFit, AreAtOpening}, Seated.{Begins, SeatedGoes, end_of, is_gone, seat_of, shelf_of}}
 use Rattle.app_lanes.proofs.Leavings.{gone-left}
+use Rattle.zr_io.specs.Moved.{ShelfCounts}
 
 -- ---- lists
 
@@ -33,7 +34,7 @@ is-numbered first (app ∷ apps) numbers (suc a) n within is =
     let there = is-numbered (suc first) apps numbers.1 a n (omega (arith, within)) (omega (arith, is)) in
     (suc there.0, omega (arith, there.1), there.2)
 
-module _ {T : Type 0} (kept : T → ℕ → Option (List ℕ)) (losses : T → ℕ) where
+module _ {T : Type 0} (kept : T → ℕ → Option (List ℕ)) (losses : T → ShelfCounts) where
   pub go-reverse : (was now : List (Lane T)) → LanesGo kept losses was now → LanesGo kept losses (reverse was) (reverse now)
   go-reverse was now go = record {
     many = length-reverse now ∙ go.many ∙ sym (length-reverse was);
@@ -47,8 +48,8 @@ module _ {T : Type 0} (kept : T → ℕ → Option (List ℕ)) (losses : T → �
   }
 
   -- what has taken no turn fits its side
-  pub begun-fit : (how : Behaviour) (lanes : List (Lane T)) → All (λ (lane : Lane T). Begins kept losses how lane.seated) lanes → LanesFit kept losses lanes
-  begun-fit how lanes begun i d within = (begun i d within).fits
+  pub begun-fit : (plan : Plan) (lanes : List (Lane T)) → All (λ (lane : Lane T). Begins kept losses plan lane.seated) lanes → LanesFit kept losses lanes
+  begun-fit plan lanes begun i d within = (begun i d within).fits
 
   -- an application that is done has left its board
   pub lanes-left : (lanes : List (Lane T)) → LanesFit kept losses lanes → All (λ (lane : Lane T). is_gone lane.seated ≡ true) lanes
@@ -57,11 +58,11 @@ module _ {T : Type 0} (kept : T → ℕ → Option (List ℕ)) (losses : T → �
 
   -- ---- side by side
 
-  module _ (how : Behaviour) where
+  module _ (plan : Plan) where
     -- an application's lane: nothing was done at the one, and the other came of it and has left
     pub record LaneWent (board : TheBoard) (number : ℕ) (was now : Lane T) : Type 0 where
       pub opened : seat_of was.seated ≡ record { board = board; side = new_app board.setting number }
-      pub begins : Begins kept losses how was.seated
+      pub begins : Begins kept losses plan was.seated
       pub goes : SeatedGoes kept losses was.seated now.seated
       pub gone : is_gone now.seated ≡ true
 
@@ -72,7 +73,7 @@ module _ {T : Type 0} (kept : T → ℕ → Option (List ℕ)) (losses : T → �
     HaveGone board number (u ∷ us) (v ∷ vs) = LaneWent board number u v × HaveGone board (suc number) us vs
 
     pub have-gone : (board : TheBoard) (number : ℕ) (us vs : List (Lane T)) → AreAtOpening board number us
-        → All (λ (lane : Lane T). Begins kept losses how lane.seated) us → LanesGo kept losses us vs
+        → All (λ (lane : Lane T). Begins kept losses plan lane.seated) us → LanesGo kept losses us vs
         → All (λ (lane : Lane T). is_gone lane.seated ≡ true) vs → HaveGone board number us vs
     have-gone board number [] [] opened begun go gone = tt
     have-gone board number [] (v ∷ vs) opened begun go gone = let many = go.many in absurd (omega (arith, many))

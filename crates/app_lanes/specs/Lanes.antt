@@ -3,6 +3,7 @@ use Rattle.std.specs.Prelude.{◌≡◌, ℕ, suc, ◌<◌, List, [], ◌∷◌,
 use Rattle.board_face.specs.Opened.{new_app}
 use Rattle.word_board.specs.Board.{TheBoard}
 use Rattle.app_lanes.specs.{Seated.{Fits, SeatedGoes, seat_of}, declared.lane.Lane.{Lane}}
+use Rattle.zr_io.specs.Moved.{ShelfCounts}
 
 -- ---- turns
 
@@ -12,17 +13,17 @@ pub record AllGo {W : Type 0} (goes : W → W → Type 0) (was now : List W) : T
   pub each : (i : ℕ) (d : W) → i < length was → goes (slice_index_or was i d) (slice_index_or now i d)
 
 -- what the application keeps fits its side
-abbrev pub LaneFits : {T : Type 0} → (T → ℕ → Option (List ℕ)) → (T → ℕ) → Lane T → Type 0
+abbrev pub LaneFits : {T : Type 0} → (T → ℕ → Option (List ℕ)) → (T → ShelfCounts) → Lane T → Type 0
 LaneFits kept losses lane = Fits kept losses lane.seated
 
 -- some turns of the application
-abbrev pub LaneGoes : {T : Type 0} → (T → ℕ → Option (List ℕ)) → (T → ℕ) → Lane T → Lane T → Type 0
+abbrev pub LaneGoes : {T : Type 0} → (T → ℕ → Option (List ℕ)) → (T → ShelfCounts) → Lane T → Lane T → Type 0
 LaneGoes kept losses was now = SeatedGoes kept losses was.seated now.seated
 
-abbrev pub LanesFit : {T : Type 0} → (T → ℕ → Option (List ℕ)) → (T → ℕ) → List (Lane T) → Type 0
+abbrev pub LanesFit : {T : Type 0} → (T → ℕ → Option (List ℕ)) → (T → ShelfCounts) → List (Lane T) → Type 0
 LanesFit kept losses lanes = All (LaneFits kept losses) lanes
 
-abbrev pub LanesGo : {T : Type 0} → (T → ℕ → Option (List ℕ)) → (T → ℕ) → List (Lane T) → List (Lane T) → Type 0
+abbrev pub LanesGo : {T : Type 0} → (T → ℕ → Option (List ℕ)) → (T → ShelfCounts) → List (Lane T) → List (Lane T) → Type 0
 LanesGo kept losses was now = AllGo (LaneGoes kept losses) was now
 
 -- ---- seats

@@ -22,19 +22,20 @@ pub struct Lane<'b, T> {
 }
 
 impl<'b, T: Shelf> Sits for Lane<'b, T> {
-    ghost fits = { LaneFits T.kept T.faults };
+    ghost fits = { LaneFits T.kept T.counts };
 
-    ghost goes = { LaneGoes T.kept T.faults };
+    ghost goes = { LaneGoes T.kept T.counts };
 
     ghost gone = { λ lane. is_gone lane.seated };
 
-    ghost same = { λ lane fits. record { board = refl; app = refl; fits = fits; runs = λ first count how runs. runs } };
+    ghost same = { λ lane fits. record { board = refl; app = refl; fits = fits; runs = λ first count how runs. runs; comes = λ plan first count comes. comes } };
 
     ghost more = { λ was mid now before after. record {
       board = after.board ∙ before.board;
       app = after.app ∙ before.app;
       fits = after.fits;
       runs = λ first count how runs. after.runs first count how (before.runs first count how runs);
+      comes = λ plan first count comes. after.comes plan first count (before.comes plan first count comes);
     } };
 
     ghost again = { λ was now goes. goes.fits };

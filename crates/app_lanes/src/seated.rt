@@ -1,8 +1,11 @@
 //! What sits in the lane of an application and takes its turns there.
 ghost use Rattle.std.specs.Prelude.{◌≡◌, true, false, Option, None};
 ghost use Rattle.board_face.specs.Opened.{new_app};
-ghost use Rattle.card_feed.specs.{Plan.{how_of}, declared.plan.Plan.{Plan}};
-ghost use Rattle.app_lanes.specs.Seated.{Begins, Fits, SeatedGoes, IsStart, end_of, is_gone, left_end, seat_of, shelf_of};
+ghost use Rattle.card_feed.specs.declared.plan.Plan.{Plan};
+ghost use Rattle.zc_poll.specs.declared.to_shelf.PollTurn.TheVariants.{Idle};
+ghost use Rattle.run_account.specs.Ways.{DidOwn, DidPoll};
+ghost use Rattle.app_lanes.specs.declared.seated.Came.TheVariants.{Did};
+ghost use Rattle.app_lanes.specs.Seated.{Begins, Fits, SeatedGoes, IsStart, TakesTurn, end_of, is_gone, left_end, seat_of, shelf_of};
 
 use app_worker::{Turn, Why, app_turn};
 use run_account::{Leaves, Worker};
@@ -89,7 +92,9 @@ impl Leaves for Left {
 }
 
 /// What this answer says.
-fn came_of(turn: Turn) -> Came {
+fn came_of(turn: Turn) -> Came
+    ensures { result ≡ Did → DidOwn turn }
+{
     match turn {
         Turn::Idle(Why::NoNote) => Came::Rests,
         Turn::Idle(_) => Came::WaitsForCard,
@@ -99,7 +104,9 @@ fn came_of(turn: Turn) -> Came {
 
 /// What this says of a turn that did nothing. One that took notes, and had no item of them, has more to do. Where a carrier has no
 /// notice yet, one may come as little later as an entry is dealt with.
-fn rests_on(why: Rests) -> Came {
+fn rests_on(why: Rests) -> Came
+    ensures { result ≡ Did → DidPoll (Idle why) }
+{
     match why {
         Rests::Stream(Waits::NoNote) => Came::Rests,
         Rests::Stream(Waits::Enough) => Came::Did,
@@ -110,9 +117,10 @@ fn rests_on(why: Rests) -> Came {
 
 /// A turn of its own.
 fn take_turn<T: Shelf>(alloc: Global, own: &mut Turning<'_, T>) -> Came
-    requires fits { Fits T.kept T.faults (Seated.Turning own.old) }
+    requires fits { Fits T.kept T.counts (Seated.Turning own.old) }
     requires here { own.old.worker.left ≡ false }
-    ensures goes { SeatedGoes T.kept T.faults (Seated.Turning own.old) (Seated.Turning own.new) }
+    ensures goes { SeatedGoes T.kept T.counts (Seated.Turning own.old) (Seated.Turning own.new) }
+    ensures takes { TakesTurn T.kept T.counts (Seated.Turning own.old) (Seated.Turning own.new) result }
 {
     let turn = app_turn(alloc, &mut own.seat, &mut own.worker.state, &mut own.shelf);
     own.worker.left = matches!(turn, Turn::Finished);
@@ -121,9 +129,10 @@ fn take_turn<T: Shelf>(alloc: Global, own: &mut Turning<'_, T>) -> Came
 
 /// A turn of what pours its loans.
 fn pour<T: Shelf>(own: &mut Pouring<'_, T>) -> Came
-    requires fits { Fits T.kept T.faults (Seated.Pouring own.old) }
+    requires fits { Fits T.kept T.counts (Seated.Pouring own.old) }
     requires here { own.old.poured ≡ None }
-    ensures goes { SeatedGoes T.kept T.faults (Seated.Pouring own.old) (Seated.Pouring own.new) }
+    ensures goes { SeatedGoes T.kept T.counts (Seated.Pouring own.old) (Seated.Pouring own.new) }
+    ensures takes { TakesTurn T.kept T.counts (Seated.Pouring own.old) (Seated.Pouring own.new) result }
 {
     match own.stream.turn() {
         PollTurn::Did => Came::Did,
@@ -137,9 +146,10 @@ fn pour<T: Shelf>(own: &mut Pouring<'_, T>) -> Came
 
 /// A turn of what hands its loans on.
 fn forward<T: Shelf>(own: &mut Forwarding<'_, T>) -> Came
-    requires fits { Fits T.kept T.faults (Seated.Forwarding own.old) }
+    requires fits { Fits T.kept T.counts (Seated.Forwarding own.old) }
     requires here { own.old.poured ≡ None }
-    ensures goes { SeatedGoes T.kept T.faults (Seated.Forwarding own.old) (Seated.Forwarding own.new) }
+    ensures goes { SeatedGoes T.kept T.counts (Seated.Forwarding own.old) (Seated.Forwarding own.new) }
+    ensures takes { TakesTurn T.kept T.counts (Seated.Forwarding own.old) (Seated.Forwarding own.new) result }
 {
     match own.forward.turn() {
         PollTurn::Did => Came::Did,
@@ -171,7 +181,7 @@ impl<'b, T: Shelf> Seated<'b, T> {
         requires start { (plan : Plan) × IsStart plan app start }
         ensures seat { seat_of result ≡ seat.entry }
         ensures shelf { shelf_of result ≡ shelf }
-        ensures begins { (plan : Plan) → IsStart plan app start → Begins T.kept T.faults (how_of plan) result }
+        ensures begins { (plan : Plan) → IsStart plan app start → Begins T.kept T.counts plan result }
     {
         match start {
             Start::Turning(worker) => Seated::Turning(Turning {
@@ -195,9 +205,10 @@ impl<'b, T: Shelf> Seated<'b, T> {
 
     /// A turn.
     pub fn turn(&mut self, alloc: Global) -> Came
-        requires fits { Fits T.kept T.faults self.old }
+        requires fits { Fits T.kept T.counts self.old }
         requires here { is_gone self.old ≡ false }
-        ensures goes { SeatedGoes T.kept T.faults self.old self.new }
+        ensures goes { SeatedGoes T.kept T.counts self.old self.new }
+        ensures takes { TakesTurn T.kept T.counts self.old self.new result }
     {
         match self {
             Seated::Turning(own) => take_turn(alloc, own),

@@ -1,7 +1,7 @@
 //! How the roles come to their seats, and back from there.
 ghost use Rattle.std.specs.Prelude.{◌≡◌, ◌+◌, ◌<◌, ◌≤◌, ℕ, [], map, reverse, true, false, All, vec_len, vec_capacity};
 ghost use Rattle.board_face.specs.NicCalls.{apps_of};
-ghost use Rattle.card_feed.specs.{Plan.{how_of}, declared.plan.Plan.{Plan}};
+ghost use Rattle.card_feed.specs.declared.plan.Plan.{Plan};
 ghost use Rattle.word_board.specs.{Board.{was_given}, Desk.{AreOfBoard, AreServed}};
 ghost use Rattle.app_lanes.specs.{Lanes.{AreAtOpening, AreAtBoard}, Seated.{AreStarts, Begins, end_of, is_gone, left_end, seat_of, shelf_of}};
 
@@ -33,7 +33,7 @@ pub fn open_lanes<'b, T: Shelf>(
     ensures shelves { (shelves.new.items ≡ []) × (vec_capacity shelves.new ≡ vec_capacity shelves.old) }
     ensures lanes { AreAtOpening board.now 0 (reverse lanes.new.items) }
     ensures begin { (plan : Plan) → AreStarts plan starts.old.items
-        → All (λ lane. Begins T.kept T.faults (how_of plan) lane.seated) lanes.new.items }
+        → All (λ lane. Begins T.kept T.counts plan lane.seated) lanes.new.items }
     ensures kept { map (λ lane. shelf_of lane.seated) (reverse lanes.new.items) ≡ shelves.old.items }
 {
     while let Some(start) = starts.pop() {

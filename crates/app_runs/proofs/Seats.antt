@@ -1,6 +1,5 @@
--- At the end both seats are back, and the buffers of the pool are those that were asked for.
+-- At the end both seats are back.
 use Rattle.std.{proofs.{Common.{◌≡◌, ℕ, List, [], ◌∷◌, refl, sym, subst, ◌∙◌, arith}, lemmas.List.Elements.{Contains-push}}, specs.Prelude.{Contains}}
-use Rattle.area_layout.specs.Layout.{pool_buffers, shape_of}
 use Rattle.board_face.specs.{NicCalls.{apps_of}, declared.views.{parts.Setting.{Setting}, nic.NicSide.{NicSide}, app.AppSide.{AppSide}}}
 use Rattle.word_board.specs.Desk.{AllAreBack}
 
@@ -13,6 +12,3 @@ all-back setting nic app due dealt one number = record {
       let first : a ≡ 0 = omega (arith, less, one) in
       subst (Contains (app.view.app ∷ [])) (number ∙ sym first) (Contains-push [] app.view.app);
 }
-
-pub only-pool : (buffers : ℕ) → pool_buffers (shape_of buffers 1 1024) ≡ buffers
-only-pool buffers = omega arith

@@ -1,2 +1,3 @@
 pub mod Moods
+pub mod Plain
 pub mod Scene

@@ -6,4 +6,5 @@ pub record Mind (T : Type 0) : Type 0 where
   pub shelf : T
   pub out : Tags
   pub faults : ℕ
+  pub appended : ℕ
   pub looks : ℕ

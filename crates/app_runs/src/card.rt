@@ -28,7 +28,7 @@ pub enum CardMove<'a> {
 }
 
 /// What came of a move of the card.
-#[derive(Clone, Copy, Debug, PartialEq, Eq)]
+#[derive(Clone, Copy, PartialEq, Eq)]
 pub enum Told {
     Done,
     /// There was no buffer, no room or no slot, or the call may not be made. What was done before it stands: a buffer closed, a

@@ -36,7 +36,7 @@ impl<F: AppFace + Drop> Future for Lines<F> {
                         self.lines = self.lines.saturating_add(1);
                     }
                 }
-                if let Err(loan) = self.stream.give(lent.loan) {
+                if let Err(loan) = self.stream.give(lent.into_loan()) {
                     self.stream.abandon(loan);
                 }
                 cx.yield_now()

@@ -1,6 +1,5 @@
 //! Forwarding over the board on words, by one thread: the card sends a note where the stream waits, and deals with entries.
-ghost use Rattle.std.specs.Prelude.{◌≡◌, ◌<◌, ◌≤◌, [], IfOk};
-ghost use Rattle.board_face.specs.Ended.{IsEachOnce};
+ghost use Rattle.std.specs.Prelude.{◌≡◌, ◌<◌, ◌≤◌, []};
 
 use crate::card::{CardMove, Told};
 use crate::moody::{Mood, Moody};
@@ -32,10 +31,9 @@ fn bytes_of(number: u32) -> [u8; 3] {
     [letter, letter + 1, letter + 2]
 }
 
-/// The card, how many payloads it sent, and how many loans came back.
-#[derive(Drop)]
-struct Hand<'b> {
-    card: Card<'b>,
+/// How many payloads the card sent, and how many loans came back.
+#[derive(Clone, Copy)]
+struct Count {
     sent: u32,
     back: u32,
     /// A loan came back before it was to.
@@ -44,33 +42,34 @@ struct Hand<'b> {
 
 /// The card deals with an entry. Where the stream waits for a note, it sends the next payload, or ends behind the last. Where it has no buffer
 /// the payload travels in its note.
-fn feed(hand: &mut Hand<'_>, script: &Script, why: Rests)
-    ensures { hand.new.card.nic.board ≡ hand.old.card.nic.board }
+fn feed(card: &mut Card<'_>, count: &mut Count, script: &Script, why: Rests)
+    ensures { card.new.nic.board ≡ card.old.nic.board }
 {
-    if hand.card.make(CardMove::Entry) != Told::Entry(Entry::Empty) {
-        hand.back = hand.back.wrapping_add(1);
+    if card.make(CardMove::Entry) != Told::Entry(Entry::Empty) {
+        count.back = count.back.wrapping_add(1);
     }
-    if !hand.card.hand.ended() && hand.sent.wrapping_sub(hand.back) < script.kept.min(hand.sent) {
-        hand.early = true;
+    if !card.hand.ended() && count.sent.wrapping_sub(count.back) < script.kept.min(count.sent) {
+        count.early = true;
     }
-    hand.card.make(CardMove::Sweep);
+    card.make(CardMove::Sweep);
     if why != Rests::Stream(Waits::NoNote) {
         return;
     }
-    if hand.sent == script.payloads {
-        hand.card.make(CardMove::End);
+    if count.sent == script.payloads {
+        card.make(CardMove::End);
         return;
     }
-    send_next(hand, script);
+    if sends(card, script, count.sent) {
+        count.sent = count.sent.wrapping_add(1);
+    }
 }
 
-/// The card sends the next payload, if it can.
-fn send_next(hand: &mut Hand<'_>, script: &Script)
-    ensures { hand.new.card.nic.board ≡ hand.old.card.nic.board }
+/// The card sends the payload of this number, if it can: whether it did.
+fn sends(card: &mut Card<'_>, script: &Script, number: u32) -> bool
+    ensures { card.new.nic.board ≡ card.old.nic.board }
 {
-    let number = hand.sent;
     let wants = script.short_each == 0 || number % script.short_each != 0;
-    let split = wants && hand.card.make(CardMove::Take) == Told::Done;
+    let split = wants && card.make(CardMove::Take) == Told::Done;
     let (flow, seq) = (number % 4, 1000u32.wrapping_add(number / 4 * 3));
     let bytes = bytes_of(number);
     let next = if split {
@@ -78,24 +77,20 @@ fn send_next(hand: &mut Hand<'_>, script: &Script)
     } else {
         CardMove::SendLinear(short(number, flow, 1000, seq, 3), &bytes)
     };
-    if hand.card.make(next) == Told::Done {
-        hand.sent = hand.sent.wrapping_add(1);
-    }
+    card.make(next) == Told::Done
 }
 
-/// What was sent is forwarded, and the buffers that are free at the end: each once.
+/// What was sent is forwarded, and how many buffers are free at the end.
 fn forwards<C: Carrier + Drop>(
     alloc: Global,
     script: &Script,
     carrier: C,
-) -> Result<(Poured, C, Vec<u32>), Fail>
+) -> Result<(Poured, C, usize), Fail>
     requires { C.tags carrier ≡ [] }
-    ensures { IfOk result (λ told. IsEachOnce script.now.buffers told.2.items) }
 {
     let (board, mut desk) = open(alloc, script.buffers, 1024, 8)?;
-    let (card, seat) = seats(&board, &mut desk)?;
-    let mut hand = Hand {
-        card,
+    let (mut card, seat) = seats(&board, &mut desk)?;
+    let mut count = Count {
         sent: 0,
         back: 0,
         early: false,
@@ -104,15 +99,15 @@ fn forwards<C: Carrier + Drop>(
     for _turn in 0..20_000u32 {
         match work.turn() {
             PollTurn::Did => {}
-            PollTurn::Idle(why) => feed(&mut hand, script, why),
+            PollTurn::Idle(why) => feed(&mut card, &mut count, script, why),
             PollTurn::Ended(poured) => {
                 let (seat, carrier) = work.parts();
-                if hand.early || !hand.card.hand.ended() {
+                if count.early || !card.hand.ended() {
                     return Err(Fail::from("a loan came back early, or the card goes on"));
                 }
-                hand.card.nic.back(&mut desk);
+                card.nic.back(&mut desk);
                 seat.back(&mut desk);
-                return Ok((poured, carrier, board.finish(desk).free));
+                return Ok((poured, carrier, board.finish(desk).free.len()));
             }
         }
     }
@@ -146,8 +141,33 @@ fn compare(
     free: usize,
 ) {
     let line = Line(poured.written, poured.loans, wanted.2, poured.stopped);
-    assert_eq!(rt; line, wanted, "{} buffers, case {case}", script.buffers);
-    assert_eq!(rt; free, script.buffers as usize, "case {case}");
+    let well = line == wanted && free == script.buffers as usize;
+    assert!(rt; well, "{} buffers, case {case}", script.buffers);
+}
+
+/// The same where all was forwarded, and each flow has what it is to have.
+fn compare_whole(
+    rt: &impl Abort,
+    script: &Script,
+    case: u64,
+    poured: &Poured,
+    shelf: &MemShelf,
+    free: usize,
+) {
+    compare(
+        rt,
+        script,
+        case,
+        poured,
+        Line(210, 70, 0, Stopped::No),
+        free,
+    );
+    let whole = is_whole(shelf, script);
+    assert!(rt;
+        whole,
+        "{} buffers, case {case}: a flow hasn't all",
+        script.buffers
+    );
 }
 
 /// All goes by a shelf's carrier with this delay.
@@ -156,11 +176,14 @@ fn delayed(rt: &impl Abort, alloc: Global, script: &Script, delay: u32) -> Resul
 {
     let carrier = ShelfCarrier::new(shelf(alloc, &[])?, delay);
     let (poured, carrier, free) = forwards(alloc, script, carrier)?;
-    let wanted = Line(210, 70, 0, Stopped::No);
-    compare(rt, script, u64::from(delay), &poured, wanted, free.len());
-    if !is_whole(&carrier.shelf(), script) {
-        return Err(Fail::from("a flow hasn't all"));
-    }
+    compare_whole(
+        rt,
+        script,
+        u64::from(delay),
+        &poured,
+        &carrier.shelf(),
+        free,
+    );
     Ok(())
 }
 
@@ -185,33 +208,32 @@ fn every_delay_forwards_all(rt: HostRuntime) -> Result<(), Fail> {
 fn by_mood(rt: &impl Abort, alloc: Global, script: &Script, mood: Mood) -> Result<(), Fail> {
     let carrier = Moody::new(shelf(alloc, &[])?, mood);
     let (poured, carrier, free) = forwards(alloc, script, carrier)?;
-    let wanted = Line(210, 70, 0, Stopped::No);
-    compare(
+    compare_whole(
         rt,
         script,
         u64::from(mood.late),
         &poured,
-        wanted,
-        free.len(),
+        &carrier.shelf(),
+        free,
     );
-    if !is_whole(&carrier.shelf(), script) {
-        return Err(Fail::from("a flow hasn't all"));
-    }
     Ok(())
 }
+
+/// How often a carrier is asked in vain before each notice, and whether it tells only where it is urged.
+const MOODS: [(u32, bool); 6] = [
+    (0, false),
+    (3, false),
+    (40, false),
+    (0, true),
+    (3, true),
+    (40, true),
+];
 
 /// Notices come the latest first, late, or only where they are urged.
 #[test]
 fn moods_forward_all(rt: HostRuntime) -> Result<(), Fail> {
     for buffers in [1u32, 2, 64] {
-        for (late, only_urged) in [
-            (0, false),
-            (3, false),
-            (40, false),
-            (0, true),
-            (3, true),
-            (40, true),
-        ] {
+        for (late, only_urged) in MOODS {
             let script = Script {
                 buffers,
                 payloads: 70,
@@ -239,7 +261,7 @@ fn fails_at(rt: &impl Abort, alloc: Global, script: &Script, call: u64) -> Resul
     let carrier = Moody::new(shelf(alloc, &[])?, mood);
     let (poured, _carrier, free) = forwards(alloc, script, carrier)?;
     let wanted = Line(poured.written, poured.loans, 0, Stopped::Write);
-    compare(rt, script, call, &poured, wanted, free.len());
+    compare(rt, script, call, &poured, wanted, free);
     Ok(())
 }
 
@@ -267,7 +289,7 @@ fn shelf_fails(rt: &impl Abort, alloc: Global, script: &Script, call: u64) -> Re
     let carrier = ShelfCarrier::new(shelf(alloc, &[(call, 2)])?, 3);
     let (poured, _carrier, free) = forwards(alloc, script, carrier)?;
     let wanted = Line(3 * (call - 1), call, 0, Stopped::Write);
-    compare(rt, script, call, &poured, wanted, free.len());
+    compare(rt, script, call, &poured, wanted, free);
     Ok(())
 }
 

@@ -13,6 +13,8 @@ mod forward;
 #[cfg(test)]
 mod moody;
 #[cfg(test)]
+mod plain;
+#[cfg(test)]
 mod pouring;
 #[cfg(test)]
 mod step;

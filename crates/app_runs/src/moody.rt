@@ -9,7 +9,7 @@ use zc_forward::Carrier;
 use zr_io::{Failed, Shelf};
 
 /// When it tells, and which of its calls fails.
-#[derive(Clone, Copy, Debug)]
+#[derive(Clone, Copy)]
 pub struct Mood {
     /// How often it is asked in vain before each notice.
     pub late: u32,
@@ -28,6 +28,7 @@ pub struct Moody<T> {
     vain: u32,
     calls: u64,
     faults: u64,
+    appended: u64,
     looks: u64,
 }
 
@@ -37,7 +38,7 @@ impl<T> Model for Moody<T> {
 
     ghost Value = { Mind T };
 
-    ghost view = { λ c. record { shelf = c.shelf; out = c.out.items; faults = c.faults; looks = c.looks } };
+    ghost view = { λ c. record { shelf = c.shelf; out = c.out.items; faults = c.faults; appended = c.appended; looks = c.looks } };
 
     ghost invariant = { λ c. AreOut 0 c.out.items };
 }
@@ -45,7 +46,7 @@ impl<T> Model for Moody<T> {
 impl<T> Moody<T> {
     /// Nothing is out at first.
     pub fn new(shelf: T, mood: Mood) -> Moody<T>
-        ensures { result ≡ record { shelf = shelf; out = []; faults = 0; looks = 0 } }
+        ensures { result ≡ record { shelf = shelf; out = []; faults = 0; appended = 0; looks = 0 } }
     {
         Moody {
             shelf,
@@ -54,6 +55,7 @@ impl<T> Moody<T> {
             vain: 0,
             calls: 0,
             faults: 0,
+            appended: 0,
             looks: 0,
         }
     }
@@ -68,7 +70,8 @@ impl<T> Moody<T> {
 
     /// Whether this call fails.
     fn fails(&mut self) -> bool
-        ensures shelf { (self.new.shelf ≡ self.old.shelf) × (self.new.out ≡ self.old.out) × (self.new.looks ≡ self.old.looks) }
+        ensures shelf { (self.new.shelf ≡ self.old.shelf) × (self.new.out ≡ self.old.out) × (self.new.looks ≡ self.old.looks)
+            × (self.new.appended ≡ self.old.appended) }
         ensures still { result ≡ false → self.new.faults ≡ self.old.faults }
         ensures rose { result ≡ true → Rose self.old.faults self.new.faults }
         ensures later { self.old.faults ≤ self.new.faults }
@@ -99,7 +102,7 @@ impl<T: Shelf> Carrier for Moody<T> {
 
     ghost tags = { λ c. c.out };
 
-    ghost faults = { λ c. c.faults };
+    ghost counts = { λ c. record { faults = c.faults; appended = c.appended } };
 
     ghost looks = { λ c. c.looks };
 
@@ -122,6 +125,7 @@ impl<T: Shelf> Carrier for Moody<T> {
             self.faults = self.faults.saturating_add(1);
             return Err(Failed);
         }
+        self.appended = self.appended.saturating_add(piece.len() as u64);
         Ok(())
     }
 

@@ -1,7 +1,6 @@
 //! What is poured into a shelf, over the board on words: turn by turn, as a future, and as a future beside a card with a thread
 //! of its own.
-ghost use Rattle.std.specs.Prelude.{ℕ, List, Option, Some, IfSome};
-ghost use Rattle.zc_poll.specs.Pouring.{PourStands};
+ghost use Rattle.std.specs.Prelude.{Some};
 ghost use Rattle.zr_io.specs.Memory.{kept_of};
 
 use crate::card::CardMove;
@@ -9,7 +8,6 @@ use crate::step::{Line, Step, same_bytes, same_line, went};
 use crate::words::{Card, open, seats};
 use futures::Future;
 use futures::executor::block_on;
-use futures::task::{Context, Poll};
 use std::alloc::{AllocError, AllocGlobal, Global};
 use std::io;
 use std::process::Abort;
@@ -18,9 +16,8 @@ use std::sync::Wait;
 use std::sync::atomic::{AtomicBool, Ordering};
 use std::test::*;
 use std::thread::{Threads, join};
-use word_board::AppSeat;
 use zc_poll::{LoanStream, PollTurn, Poured, ToShelf};
-use zr_io::MemShelf;
+use zr_io::{Failed, MemShelf, Shelf};
 use zr_kinds::Stopped;
 
 /// What is poured: the card's steps, and what has to come of it.
@@ -53,13 +50,32 @@ impl Row<'_> {
     }
 }
 
+/// The shelf of a row, lent to what pours, so that it can be read behind that.
+#[derive(Drop)]
+struct Lent<'a> {
+    shelf: &'a mut MemShelf,
+}
+
+impl Shelf for Lent<'_> {
+    ghost kept = { λ s flow. Some (kept_of s.shelf.now flow) };
+
+    ghost counts = { λ s. record { faults = s.shelf.now.faults; appended = s.shelf.now.appended } };
+
+    fn append(&mut self, flow: u32, piece: &[u8]) -> Result<(), Failed> {
+        self.shelf.append(flow, piece)
+    }
+
+    fn flush(&mut self) -> Result<(), Failed> {
+        self.shelf.flush()
+    }
+}
+
 /// The card makes its steps, and what was sent is poured by turns. Where one does nothing, the card deals with an entry, and ends.
 fn pours_by_turns(rt: &impl Abort, alloc: Global, row: &Row<'_>) -> Result<(), Fail> {
     let (board, mut desk) = open(alloc, 4, 4096, 16)?;
     let (mut card, seat) = seats(&board, &mut desk)?;
     card.play(rt, row.name, row.steps);
-    let shelf = row.shelf(alloc)?;
-    let mut work = ToShelf::new(LoanStream::new(alloc, seat, 0), shelf);
+    let mut work = ToShelf::new(LoanStream::new(alloc, seat, 0), row.shelf(alloc)?);
     for _turn in 0..64u32 {
         match work.turn() {
             PollTurn::Did => {}
@@ -77,35 +93,6 @@ fn pours_by_turns(rt: &impl Abort, alloc: Global, row: &Row<'_>) -> Result<(), F
     Err(Fail::from("it came to no end"))
 }
 
-/// Pouring is polled to its end, and then parted, so that its shelf can be read.
-#[derive(Drop)]
-struct Shelved<'b> {
-    work: Option<ToShelf<AppSeat<'b>, MemShelf>>,
-}
-
-impl Future for Shelved<'_> {
-    type Output = (Poured, MemShelf);
-
-    ghost can_poll = { λ s. IfSome s.work (λ work. (first : ℕ → Option (List ℕ)) × (losses : ℕ)
-        × PourStands first losses work.tally work.desk (λ flow. Some (kept_of work.shelf flow)) work.shelf.faults work.face.side.view) };
-
-    fn poll(&mut self, cx: &mut Context<'_>) -> Poll<(Poured, MemShelf)> {
-        let Some(mut work) = self.work.take() else {
-            return cx.yield_now();
-        };
-        match work.poll(cx) {
-            Poll::Ready(poured) => {
-                let (_seat, shelf) = work.parts();
-                Poll::Ready((poured, shelf))
-            }
-            Poll::Pending => {
-                self.work = Some(work);
-                Poll::Pending
-            }
-        }
-    }
-}
-
 /// The card makes all its steps, and what was sent is polled to its end.
 fn pours_by_polls<R: Abort + Wait + RandomSource + AllocGlobal>(
     rt: &R,
@@ -114,16 +101,22 @@ fn pours_by_polls<R: Abort + Wait + RandomSource + AllocGlobal>(
     let (board, mut desk) = open(rt.alloc(), 4, 4096, 16)?;
     let (mut card, seat) = seats(&board, &mut desk)?;
     card.play(rt, row.name, row.steps);
-    let shelf = row.shelf(rt.alloc())?;
-    let work = ToShelf::new(LoanStream::new(rt.alloc(), seat, 0), shelf);
-    let (poured, shelf) = block_on(rt, Shelved { work: Some(work) })?;
+    let mut shelf = row.shelf(rt.alloc())?;
+    let lent = Lent { shelf: &mut shelf };
+    let poured = block_on(rt, ToShelf::new(LoanStream::new(rt.alloc(), seat, 0), lent))?;
     row.compare(rt, &poured, &shelf);
     Ok(())
 }
 
 /// The card makes its steps and ends, and deals with entries until the application is done.
-fn serve<R: Abort + Wait>(rt: &R, card: &mut Card<'_>, row: &Row<'_>, done: &AtomicBool) {
-    card.play(rt, row.name, row.steps);
+pub fn serve<R: Abort + Wait>(
+    rt: &R,
+    card: &mut Card<'_>,
+    name: &str,
+    steps: &[Step<'_>],
+    done: &AtomicBool,
+) {
+    card.play(rt, name, steps);
     card.make(CardMove::End);
     for _ in rt.forever() {
         card.make(CardMove::Entry);
@@ -158,7 +151,11 @@ where
     requires { F.can_poll work }
 {
     let done = AtomicBool::new(false);
-    let (poured, ()) = join(rt, || pour(rt, work, &done), || serve(rt, card, row, &done));
+    let (poured, ()) = join(
+        rt,
+        || pour(rt, work, &done),
+        || serve(rt, card, row.name, row.steps, &done),
+    );
     poured
 }
 
@@ -169,9 +166,10 @@ fn pours_beside<R: Threads + Wait + Abort + RandomSource + AllocGlobal + Sync>(
 ) -> Result<(), Fail> {
     let (board, mut desk) = open(rt.alloc(), 4, 4096, 16)?;
     let (mut card, seat) = seats(&board, &mut desk)?;
-    let shelf = row.shelf(rt.alloc())?;
-    let work = ToShelf::new(LoanStream::new(rt.alloc(), seat, 0), shelf);
-    let (poured, shelf) = join_both(rt, Shelved { work: Some(work) }, &mut card, row)?;
+    let mut shelf = row.shelf(rt.alloc())?;
+    let lent = Lent { shelf: &mut shelf };
+    let work = ToShelf::new(LoanStream::new(rt.alloc(), seat, 0), lent);
+    let poured = join_both(rt, work, &mut card, row)?;
     row.compare(rt, &poured, &shelf);
     Ok(())
 }

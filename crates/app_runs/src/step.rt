@@ -74,7 +74,7 @@ pub const STRAY: Step = Step::Dealt(Entry::Stray);
 pub const EMPTY: Step = Step::Dealt(Entry::Empty);
 
 /// What an application tells of itself: how many bytes it wrote, its loans, those of them that were copied, and what stopped it.
-#[derive(Clone, Copy, Debug, PartialEq, Eq)]
+#[derive(Clone, Copy, PartialEq, Eq)]
 pub struct Line(pub u64, pub u64, pub u64, pub Stopped);
 
 /// A piece of a payload of so many bytes, behind so many of them. The card fills in where it lies.
@@ -104,7 +104,7 @@ pub fn short(frame: u32, flow: u32, base: u32, seq: u32, total: u32) -> Note {
     }
 }
 
-fn length_of(text: &[u8]) -> u32 {
+pub fn length_of(text: &[u8]) -> u32 {
     u32::try_from(text.len()).unwrap_or(0)
 }
 
@@ -161,11 +161,6 @@ pub fn move_of<'a>(
     Some((next, Told::Done))
 }
 
-/// The card was told what the step of this number wants.
-pub fn same_told(rt: &impl Abort, name: &str, number: u32, told: Told, wanted: Told) {
-    assert_eq!(rt; told, wanted, "{name}: step {number}");
-}
-
 /// A step of this number went as it was to.
 pub fn went(rt: &impl Abort, name: &str, number: u32, well: bool) {
     assert!(rt; well, "{name}: step {number}");
@@ -173,7 +168,11 @@ pub fn went(rt: &impl Abort, name: &str, number: u32, well: bool) {
 
 /// An application told this of itself.
 pub fn same_line(rt: &impl Abort, name: &str, line: Line, wanted: Line) {
-    assert_eq!(rt; line, wanted, "{name}");
+    let Line(bytes, loans, copied, _) = line;
+    assert!(rt;
+        line == wanted,
+        "{name}: {bytes} bytes, {loans} loans, {copied} of them copied"
+    );
 }
 
 /// A flow has these bytes.

@@ -24,10 +24,40 @@ fn has_bytes<F: AppFace>(
     ensures stands { StreamStands stream.new.desk (F.seen stream.new.face) }
 {
     let len = lent.loan.place().len;
-    let mut bytes = vec![in alloc; 0; len as usize]?;
+    let Ok(mut bytes) = vec![in alloc; 0; len as usize] else {
+        stream.abandon(lent.into_loan());
+        return Err(AllocError);
+    };
     stream.read(&lent.loan, 0, &mut bytes);
-    stream.abandon(lent.loan);
+    stream.abandon(lent.into_loan());
     Ok(bytes.as_slice() == wanted)
+}
+
+/// Whether an item is the one that is wanted. Its loan is given up.
+fn is_item(
+    alloc: Global,
+    stream: &mut LoanStream<AppSeat<'_>>,
+    lent: Lent,
+    wanted: Step<'_>,
+) -> Result<bool, AllocError>
+    requires stands { StreamStands stream.old.desk stream.old.face.side.view }
+    requires out { HasLoan stream.old.face.side.view lent.loan }
+    ensures { StreamStands stream.new.desk stream.new.face.side.view }
+{
+    match wanted {
+        Step::Gives(flow, position, bytes, copied) => {
+            let same = lent.flow == flow && lent.position == position && lent.copied == copied;
+            Ok(has_bytes(alloc, stream, lent, bytes)? && same)
+        }
+        Step::GivesLast(bytes) => {
+            stream.stop();
+            has_bytes(alloc, stream, lent, bytes)
+        }
+        _ => {
+            stream.abandon(lent.into_loan());
+            Ok(false)
+        }
+    }
 }
 
 /// Whether a step of the stream gives what it is to give.
@@ -43,18 +73,11 @@ fn gives(
         stream.stop();
         return Ok(true);
     }
-    match (stream.step(), wanted) {
-        (Gave::Item(lent), Step::Gives(flow, position, bytes, copied)) => {
-            let same = lent.flow == flow && lent.position == position && lent.copied == copied;
-            Ok(has_bytes(alloc, stream, lent, bytes)? && same)
-        }
-        (Gave::Item(lent), Step::GivesLast(bytes)) => {
-            stream.stop();
-            has_bytes(alloc, stream, lent, bytes)
-        }
-        (Gave::Waiting(why), Step::Waits(wants)) => Ok(why == wants),
-        (Gave::Ended, Step::Ends) => Ok(true),
-        _ => Ok(false),
+    match stream.step() {
+        Gave::Item(lent) => is_item(alloc, stream, lent, wanted),
+        Gave::Waiting(why) => Ok(matches!(wanted, Step::Waits(wants) if wants == why)),
+        Gave::Ended => Ok(matches!(wanted, Step::Ends)),
+        Gave::Memory => Ok(false),
     }
 }
 

@@ -6,7 +6,7 @@ ghost use Rattle.face_table.specs.CardHand.{IsCardHand};
 ghost use Rattle.word_board.specs.Board.{new_desk, gave_role};
 
 use crate::card::{CardMove, Told, card_move};
-use crate::step::{Step, move_of, same_told};
+use crate::step::{Step, move_of, went};
 use area_layout::Layout;
 use face_table::CardHand;
 use std::alloc::Global;
@@ -62,7 +62,7 @@ impl<'b> Card<'b> {
             return false;
         };
         let told = self.make(next);
-        same_told(rt, name, number, told, wanted);
+        went(rt, name, number, told == wanted);
         true
     }
 

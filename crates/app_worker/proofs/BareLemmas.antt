@@ -1,15 +1,13 @@
 -- Turns of an application that has nothing out.
 use Rattle.std.proofs.Common.{◌≡◌, ℕ, ◌<◌, Bool, true, false, List, [], ◌∷◌, ◌++◌, Option, length, take, refl, sym, ap, subst, ◌∙◌, arith, inl, inr}
-use Rattle.std.specs.Prelude.{MatchBool}
 use Rattle.zr_kinds.specs.declared.behaviour.Stopped.TheVariants as stop
 use Rattle.zr_kinds.specs.{declared.place.{Place.{Place}, Note.{Note}}, CopyingReceiver.{next_missing}}
 use Rattle.board_face.specs.{AppCalls.{AppOnlySaw, TookNote, TookLinear, ToldEnd}, AppEvents.{released, told_end, app_saw}, Lists.{same_place}}
 use Rattle.board_face.{proofs.ListLemmas.{same_place-refl}, specs.declared.views.app.AppLook.TheVariants.{NotQuiet, CardEnded, NoNote as no_note}}
 use Rattle.board_face.specs.declared.views.app.{Origin.TheVariants.{Note as of_note}, HeldPiece.{HeldPiece}, TakenNote.{TakenNote}, AppView.{AppView}}
-use Rattle.board_face.specs.Looks.{AppLooksStay}
 use Rattle.app_worker.specs.declared.turn.{Turn.{Turn, TheVariants.{Did, Idle, Finished, Failed}}, Why.TheVariants.{NoNote, NotQuiet as not_quiet}}
-use Rattle.app_worker.specs.{State.{State, Common, Working, Bare, app_steps, one_if}, Stages.{Leaves, ScrubsOnce}}
-use Rattle.app_worker.{specs.Turns.{Answers, Because, Turns, LooksForOne, ScrubsIfQuiet, turn_after}, proofs.Moving.{rose-before, rose-after}}
+use Rattle.app_worker.specs.{State.{State, Common, Bare, app_steps, one_if}, Stages.{Leaves, ScrubsOnce}}
+use Rattle.app_worker.{specs.Turns.{Answers, Because, Passed, Turns, LooksForOne, turn_after}, proofs.Moving.{rose-before, rose-after}}
 use Rattle.app_worker.proofs.Seeing.{goes-none, goes-saw, goes-still, common-saw}
 use Rattle.app_worker.proofs.Noting.{TookView, common-noted, steps-noted, moves-noted, ends-kept, shelves-kept, fronts-kept}
 use Rattle.app_worker.proofs.{TurnLemmas.{turns-bare, as-before, idle-for, after-busy, after-none}, Through.{goes-then}}
@@ -17,25 +15,29 @@ use Rattle.app_worker.proofs.Closing.{IsOut, bare-saw, turns-finished, scrubbed_
 use Rattle.zr_kinds.specs.declared.fault.Fault.TheVariants as fault
 use Rattle.flow_queues.{specs.Core.{total, Each, many, own_notes, placed_of, held_len}, proofs.Looks.{looks-more}}
 
-module _ (st : State) (old : AppView) (bare : Bare st old) (is_bare : st.bare ≡ true) (common : Common st old) (reaped : st.posted.entries ≡ []) where
+module _ (st : State) (old : AppView) (bare : Bare st old) (is_bare : st.bare ≡ true) (common : Common st old) where
   -- ---- a note
 
   -- it took a note and has nothing out again
-  turns-noted : (new : AppView) (t : TakenNote) (kept : ℕ → Option (List ℕ)) (f : ℕ) → st.ended ≡ false → TookView old new t → new.helds ≡ []
-      → Turns st st old new kept kept f f Did
-  turns-noted new t kept f more took none = turns-bare bare-noted is_bare
-      (common-noted st old new t took st.notes st.active st.index st.flows refl
-      (record { kept = omega (arith, ap (total held_len) none); short = omega arith }) common)
-      reaped
-      (record {
-        moves = moves-noted st old new t took st.notes st.active st.index st.flows (λ n. omega arith);
-        shelved = λ _ begin. shelves-kept st.flows old new t took bare.flows begin kept;
-        failed = λ is begin exact front. fronts-kept st.flows old new t took bare.flows begin kept (front is);
-      })
-      (omega (arith, steps-noted st old new t took st.notes st.active st.index st.flows)) (inr (t, ap (λ (v : AppView). v.taken) took.view))
-      (λ why e. absurd (cc)) (λ _. ap (λ (v : AppView). v.left) took.view) (λ live. absurd (cc)) refl
-      (λ _. record { state = refl; view = took.view ∙ held-same; kept_is = refl })
-      (λ _ _. inl (t, ap (λ (v : AppView). v.taken) took.view))
+  passed-noted : (new : AppView) (t : TakenNote) (kept : ℕ → Option (List ℕ)) (f : ℕ) → st.ended ≡ false → TookView old new t → new.helds ≡ []
+      → Passed st old new kept f Did
+  passed-noted new t kept f more took none = record {
+    bare = bare-noted;
+    common = common-noted st old new t took st.notes st.active st.index st.flows refl
+        (record { kept = omega (arith, ap (total held_len) none); short = omega arith }) common;
+    goes = record {
+      moves = moves-noted st old new t took st.notes st.active st.index st.flows (λ n. omega arith);
+      shelved = λ _ begin. shelves-kept st.flows old new t took bare.flows begin kept;
+      failed = λ is begin exact front. fronts-kept st.flows old new t took bare.flows begin kept (front is);
+    };
+    answer = omega (arith, steps-noted st old new t took st.notes st.active st.index st.flows);
+    few = inr (t, ap (λ (v : AppView). v.taken) took.view);
+    idle = λ why e. absurd (cc);
+    here = ap (λ (v : AppView). v.left) took.view;
+    quiet = ap (λ (v : AppView). v.quiet) took.view;
+    rests = record { state = refl; view = took.view ∙ held-same; kept_is = refl };
+    looks = inl (t, ap (λ (v : AppView). v.taken) took.view);
+  }
     where
       held-same : record old { taken = old.taken ++ t ∷ []; helds = new.helds } ≡ record old {
         left = new.left;
@@ -61,7 +63,7 @@ module _ (st : State) (old : AppView) (bare : Bare st old) (is_bare : st.bare �
           rw took.view (assumption (none, rw took.view at (ends-kept st.flows old new t took bare.flows)))
 
   pub bare-note : (mid new : AppView) (note : Note) (held : Place) (kept : ℕ → Option (List ℕ)) (f : ℕ) → st.ended ≡ false
-      → TookNote old mid note held → new ≡ released mid held → Turns st st old new kept kept f f Did
+      → TookNote old mid note held → new ≡ released mid held → Passed st old new kept f Did
   bare-note mid new note held kept f more took is =
       let h : HeldPiece = record { place = note.place; origin = of_note (length old.taken) 0 } in
       let helds : mid.helds ≡ h ∷ [] = ap (λ (v : AppView). v.helds) took.event ∙ ap (λ hs. hs ++ h ∷ []) bare.helds in
@@ -69,22 +71,31 @@ module _ (st : State) (old : AppView) (bare : Bare st old) (is_bare : st.bare �
       let gone : (released mid held).helds ≡ [] = rw (helds, yes) refl in
       let none : new.helds ≡ [] = ap (λ (v : AppView). v.helds) is ∙ gone in
       let view : new ≡ record old { taken = old.taken ++ record { note = note; bytes = [] } ∷ []; helds = new.helds } = rw (is, took.event) refl in
-      turns-noted new (record { note = note; bytes = [] }) kept f more (record { view = view }) none
+      passed-noted new (record { note = note; bytes = [] }) kept f more (record { view = view }) none
 
   pub bare-linear : (new : AppView) (linear : List ℕ) (note : Note) (kept : ℕ → Option (List ℕ)) (f : ℕ) → st.ended ≡ false
-      → TookLinear old new linear note → Turns st st old new kept kept f f Did
+      → TookLinear old new linear note → Passed st old new kept f Did
   bare-linear new linear note kept f more took =
       let helds : new.helds ≡ old.helds = ap (λ (v : AppView). v.helds) took.event in
-      turns-noted new (record { note = note; bytes = take note.total linear }) kept f more
+      passed-noted new (record { note = note; bytes = take note.total linear }) kept f more
       (record { view = rw took.event refl }) (helds ∙ bare.helds)
 
   pub bare-empty : (new : AppView) (kept : ℕ → Option (List ℕ)) (f : ℕ) → st.ended ≡ false → AppOnlySaw no_note old new
-      → Turns st st old new kept kept f f (Idle NoNote)
-  bare-empty new kept f more saw = rw saw.event (turns-bare (bare-saw st old no_note bare) is_bare (common-saw st old no_note common) reaped
-      (goes-saw st old no_note kept) (rw saw.event at (as-before st old new no_note saw), rw saw.event at saw.rose) (inl refl)
-      (idle-for NoNote (λ w. (kept ≡ kept) × Because w st old) (refl, (more, λ live. absurd (cc)))) (λ _. refl) (λ live. absurd (cc)) refl
-      (λ _. record { state = refl; view = refl; kept_is = refl }) (λ _ _. inr (inl (rw saw.event at saw.rose))))
+      → Passed st old new kept f (Idle NoNote)
+  bare-empty new kept f more saw = rw saw.event (record {
+    bare = bare-saw st old no_note bare;
+    common = common-saw st old no_note common;
+    goes = goes-saw st old no_note kept;
+    answer = (rw saw.event at (as-before st old new no_note saw), rw saw.event at saw.rose);
+    few = inl refl;
+    idle = idle-for NoNote (λ w. Because w st old) (more, λ live. absurd (cc));
+    here = refl;
+    quiet = refl;
+    rests = record { state = refl; view = refl; kept_is = refl };
+    looks = inr (inl (rw saw.event at saw.rose));
+  })
 
+module _ (st : State) (old : AppView) (bare : Bare st old) (is_bare : st.bare ≡ true) (common : Common st old) (reaped : st.posted.entries ≡ []) where
   -- ---- leaving
 
   out-at-once : (kept : ℕ → Option (List ℕ)) → old.left ≡ false → st.ended ≡ true → IsOut st st old old kept kept
@@ -100,6 +111,7 @@ module _ (st : State) (old : AppView) (bare : Bare st old) (is_bare : st.bare �
     here = here;
     same = refl;
     rests = λ _. record { state = refl; view = refl; kept_is = refl };
+    quiet = λ _. refl;
   }
 
   pub bare-finished : (new : AppView) (kept : ℕ → Option (List ℕ)) (f : ℕ) (done : Bool) → old.left ≡ false → st.ended ≡ true
@@ -114,7 +126,8 @@ module _ (st : State) (old : AppView) (bare : Bare st old) (is_bare : st.bare �
       rw (leaves.0, saw.event) (turns-bare (bare-saw st old NotQuiet bare) is_bare (common-saw st old NotQuiet common) reaped
       (goes-saw st old NotQuiet kept) (rw saw.event at (as-before st old new NotQuiet saw), rw saw.event at saw.rose) (inl refl)
       (idle-for not_quiet (λ w. (kept ≡ kept) × Because w st old) (refl, (is_bare, ended))) (λ _. refl) (λ live. absurd (cc)) refl
-      (λ _. record { state = refl; view = refl; kept_is = refl }) (λ _ more. absurd (let over = ended in cc)))
+      (λ _. record { state = refl; view = refl; kept_is = refl }) (λ _ more. absurd (let over = ended in cc))
+      (λ _ _. inr (rw saw.event at saw.rose, refl)))
 
   -- ---- the end is seen
 
@@ -134,6 +147,7 @@ module _ (st : State) (old : AppView) (bare : Bare st old) (is_bare : st.bare �
       here = here;
       same = refl;
       rests = λ _. record { state = refl; view = refl; kept_is = refl };
+      quiet = λ _. refl;
     },
     omega (arith, not_yet),
   )
@@ -143,26 +157,19 @@ module _ (st : State) (old : AppView) (bare : Bare st old) (is_bare : st.bare �
 
 -- ---- a turn that then asks whether its refill slots are quiet
 
-module _ (a c : State) (u w : AppView) (kept : ℕ → Option (List ℕ)) (f : ℕ) (turn : Turn) (is_bare : a.bare ≡ true)
-    (turns : Turns a c u w kept kept f f turn) where
-  bare-then : c.bare ≡ true
-  bare-then = ap (λ (s : State). s.bare) (turns.rests is_bare).state ∙ is_bare
-
-  still : c.stopped ≡ a.stopped
-  still = ap (λ (s : State). s.stopped) (turns.rests is_bare).state
-
-  bare-is : Bare c w
-  bare-is = subst (λ b. MatchBool b (Bare c w) (Working c w)) bare-then turns.stands.mode
-
-  not-live : {X : Type 0} → a.bare ≡ false → X
+module _ (st : State) (u w : AppView) (kept : ℕ → Option (List ℕ)) (f : ℕ) (turn : Turn) (is_bare : st.bare ≡ true)
+    (reaped : st.posted.entries ≡ []) (passed : Passed st u w kept f turn) where
+  not-live : {X : Type 0} → st.bare ≡ false → X
   not-live live = absurd (cc)
 
-  -- its loans and spares are all gone
-  pub then-loans : w.loans ≡ []
-  then-loans = bare-is.loans
+  -- as it is, where it has scrubbed before
+  pub then-nothing : u.scrubbed ≡ true → Turns st st u w kept kept f f turn
+  then-nothing before = turns-bare passed.bare is_bare passed.common reaped passed.goes passed.answer passed.few
+      (λ why e. (refl, passed.idle why e)) (λ _. passed.here) (λ live. not-live live) refl (λ _. passed.rests) (λ _ _. passed.looks)
+      (λ _ not_yet. absurd (cc))
 
   -- one was in use
-  answers-saw : (t : Turn) → Answers a c u w f f t → Answers a c u (app_saw w NotQuiet) f f t
+  answers-saw : (t : Turn) → Answers st st u w f f t → Answers st st u (app_saw w NotQuiet) f f t
   answers-saw Did answer = omega (arith, answer)
   answers-saw (Idle why) answer = (
     record { state = answer.0.state; view = ap (λ (v : AppView). app_saw v NotQuiet) answer.0.view },
@@ -173,62 +180,56 @@ module _ (a c : State) (u w : AppView) (kept : ℕ → Option (List ℕ)) (f : �
   answers-saw (Failed fault.Write) answer = answer
   answers-saw (Failed other) answer = absurd answer
 
-  pub then-saw : (x : AppView) → AppOnlySaw NotQuiet w x → Turns a c u x kept kept f f turn
-  then-saw x saw = rw saw.event (turns-bare (bare-saw c w NotQuiet bare-is) bare-then (common-saw c w NotQuiet turns.stands.common)
-      turns.stands.reaped (goes-then turns.goes (goes-saw c w NotQuiet kept)) (answers-saw turn turns.answer) turns.few turns.idle turns.here
-      (λ live. not-live live) still
-      (λ bare. (let r = turns.rests bare in record {
-        state = r.state;
-        view = ap (λ (v : AppView). app_saw v NotQuiet) r.view;
-        kept_is = r.kept_is;
-      }))
-      (λ bare more. looks-later (turns.looks bare more)))
+  then-saw : (x : AppView) → AppOnlySaw NotQuiet w x → Turns st st u x kept kept f f turn
+  then-saw x saw = rw saw.event (turns-bare (bare-saw st w NotQuiet passed.bare) is_bare (common-saw st w NotQuiet passed.common)
+      reaped (goes-then passed.goes (goes-saw st w NotQuiet kept)) (answers-saw turn passed.answer) passed.few
+      (λ why e. (refl, passed.idle why e)) (λ _. passed.here) (λ live. not-live live) refl
+      (λ _. record {
+        state = passed.rests.state;
+        view = ap (λ (v : AppView). app_saw v NotQuiet) passed.rests.view;
+        kept_is = passed.rests.kept_is;
+      })
+      (λ _ _. looks-later passed.looks)
+      (λ _ _. inr (rose-after passed.goes.moves.looks (rw saw.event at saw.rose), passed.quiet)))
     where
-      looks-later : LooksForOne c u w → LooksForOne c u (app_saw w NotQuiet)
+      looks-later : LooksForOne st u w → LooksForOne st u (app_saw w NotQuiet)
       looks-later (inl one) = inl one
       looks-later (inr (inl none)) = inr (inl (rose-before none (looks-more w (app_saw w NotQuiet) NotQuiet refl)))
       looks-later (inr (inr over)) = inr (inr over)
 
   -- each was free
-  answers-scrubbed : (quiet : Bool) → c.scrubbed ≡ false → (t : Turn) → Answers a c u w f f t
-      → Answers a (scrubbed_state c) u (scrubbed_view w quiet w.left) f f (turn_after true t)
-  answers-scrubbed quiet not_yet Did answer = omega (arith, turns.goes.moves.steps, ap one_if not_yet)
-  answers-scrubbed quiet not_yet (Idle why) answer = omega (arith, turns.goes.moves.steps, ap one_if not_yet)
+  answers-scrubbed : (quiet : Bool) → st.scrubbed ≡ false → (t : Turn) → Answers st st u w f f t
+      → Answers st (scrubbed_state st) u (scrubbed_view w quiet w.left) f f (turn_after true t)
+  answers-scrubbed quiet not_yet Did answer = omega (arith, passed.goes.moves.steps, ap one_if not_yet)
+  answers-scrubbed quiet not_yet (Idle why) answer = omega (arith, passed.goes.moves.steps, ap one_if not_yet)
   answers-scrubbed quiet not_yet Finished answer = answer
   answers-scrubbed quiet not_yet (Failed fault.Memory) answer = answer
   answers-scrubbed quiet not_yet (Failed fault.Write) answer = answer
   answers-scrubbed quiet not_yet (Failed other) answer = absurd answer
 
-  pub then-scrubbed : (x : AppView) (done : Bool) → c.scrubbed ≡ false → ScrubsOnce c.scrubbed done w x true
-      → Turns a (record c { scrubbed = done }) u x kept kept f f (turn_after true turn)
+  then-scrubbed : (x : AppView) (done : Bool) → st.scrubbed ≡ false → ScrubsOnce st.scrubbed done w x true
+      → Turns st (record st { scrubbed = done }) u x kept kept f f (turn_after true turn)
   then-scrubbed x done not_yet scrubs =
       let quiet : Bool = scrubs.1.0 in
-      rw (scrubs.0, scrubs.1.1) (turns-bare (bare-scrubbed c w quiet w.left bare-is) bare-then (common-scrubbed c w quiet w.left turns.stands.common)
-      turns.stands.reaped (goes-then turns.goes (goes-scrubbed c w quiet w.left kept (omega arith))) (answers-scrubbed quiet not_yet turn turns.answer)
-      turns.few (λ why e. absurd (after-busy turn why e)) (λ other. turns.here (λ e. other (ap (turn_after true) e))) (λ live. not-live live) still
-      (λ bare. (let r = turns.rests bare in record {
-        state = ap scrubbed_state r.state;
-        view = ap (λ (v : AppView). scrubbed_view v quiet v.left) r.view;
-        kept_is = r.kept_is;
-      }))
-      (λ bare more. looks-later (turns.looks bare more)))
+      rw (scrubs.0, scrubs.1.1) (turns-bare (bare-scrubbed st w quiet w.left passed.bare) is_bare
+      (common-scrubbed st w quiet w.left passed.common)
+      reaped (goes-then passed.goes (goes-scrubbed st w quiet w.left kept (omega arith))) (answers-scrubbed quiet not_yet turn passed.answer)
+      passed.few (λ why e. absurd (after-busy turn why e)) (λ _. passed.here) (λ live. not-live live) refl
+      (λ _. record {
+        state = ap scrubbed_state passed.rests.state;
+        view = ap (λ (v : AppView). scrubbed_view v quiet v.left) passed.rests.view;
+        kept_is = passed.rests.kept_is;
+      })
+      (λ _ _. looks-later passed.looks) (λ _ _. inl refl))
     where
-      looks-later : LooksForOne c u w → LooksForOne (scrubbed_state c) u (scrubbed_view w scrubs.1.0 w.left)
+      looks-later : LooksForOne st u w → LooksForOne (scrubbed_state st) u (scrubbed_view w scrubs.1.0 w.left)
       looks-later (inl one) = inl one
       looks-later (inr (inl none)) = inr (inl (record { rose = none.rose }))
       looks-later (inr (inr over)) = inr (inr over)
 
-  pub then-done : (x : AppView) (done did : Bool) → c.scrubbed ≡ false → ScrubsOnce c.scrubbed done w x did
-      → Turns a (record c { scrubbed = done }) u x kept kept f f (turn_after did turn)
+  pub then-done : (x : AppView) (done did : Bool) → st.scrubbed ≡ false → ScrubsOnce st.scrubbed done w x did
+      → Turns st (record st { scrubbed = done }) u x kept kept f f (turn_after did turn)
   then-done x done true not_yet scrubs = then-scrubbed x done not_yet scrubs
   then-done x done false not_yet scrubs =
-      subst (λ b. Turns a (record c { scrubbed = b }) u x kept kept f f (turn_after false turn)) (sym scrubs.0)
-      (subst (Turns a c u x kept kept f f) (sym (after-none turn)) (then-saw x scrubs.1))
-
--- ---- whether it scrubs
-
-pub scrubs-done : (u w x : AppView) (was now done : Bool) → AppLooksStay u w → w.quiet ≡ u.quiet → ScrubsOnce was now w x done
-    → ScrubsIfQuiet u x
-scrubs-done u w x was now true stay same scrubs not_yet = inl (ap (λ (v : AppView). v.scrubbed) scrubs.1.1)
-scrubs-done u w x was now false stay same scrubs not_yet =
-    inr (rose-after stay scrubs.1.rose, ap (λ (v : AppView). v.quiet) scrubs.1.event ∙ same)
+      subst (λ b. Turns st (record st { scrubbed = b }) u x kept kept f f (turn_after false turn)) (sym scrubs.0)
+      (subst (Turns st st u x kept kept f f) (sym (after-none turn)) (then-saw x scrubs.1))

@@ -11,7 +11,7 @@ use Rattle.flow_queues.specs.Core.{total, Each, many, own_notes, received_notes,
 use Rattle.flow_queues.specs.{Entries.{lies_in, returned_aside}, Totals.{lent_len, loan_entries}, Flows.{IsAtRest, FlowFacts, facts_of}}
 use Rattle.flow_queues.proofs.{Placing.{values-length}, Standing.{each-map}, Releasing.{each-facts, total-facts}, Looks.{looks-same}, Tokens.{total-append}}
 use Rattle.app_worker.specs.{declared.turn.Turn.TheVariants.{Did, Finished}, State.{State, Working, Common, Bare, app_steps, one_if}, Moves.{Goes}, Letting.{LetGo}}
-use Rattle.app_worker.{specs.{Stages.{Through, Leaves}, Turns.{Rests, Turns}}, proofs.{EachBoth.{each-both}, Moving.{total-one, reserve-same, no-write}}}
+use Rattle.app_worker.{specs.{Stages.{Through, Leaves}, Turns.{Rests, Turns}}, proofs.{EachBoth.{each-both}, Moving.{total-one, reserve-same, no-write, rose-after}}}
 use Rattle.app_worker.proofs.{Seeing.{common-saw, goes-saw, goes-still}, Measure.{one-most}, Through.{goes-then}, TurnLemmas.{turns-bare}}
 use Rattle.zr_kinds.specs.declared.behaviour.Stopped.TheVariants as stop
 
@@ -164,6 +164,7 @@ pub record IsOut (a c : State) (u w : AppView) (k m : ℕ → Option (List ℕ))
   pub here : u.left ≡ false
   pub same : c.stopped ≡ a.stopped
   pub rests : a.bare ≡ true → Rests a c u w k m
+  pub quiet : a.bare ≡ true → w.quiet ≡ u.quiet
 
 pub turns-finished : (a c : State) (u w x : AppView) (k m : ℕ → Option (List ℕ)) (f f2 : ℕ) (done : Bool) → IsOut a c u w k m
     → Leaves c.scrubbed done w x true → Turns a (record c { scrubbed = done }) u x k m f f2 Finished
@@ -177,7 +178,7 @@ turns-finished a c u w x k m f f2 done out leaves =
       view = ap (λ (v : AppView). scrubbed_view v quiet true) r.view;
       kept_is = r.kept_is;
     }))
-    (λ _ _. inr (inr out.ended)))
+    (λ _ _. inr (inr out.ended)) (λ _ _. inl refl))
 
 pub turns-not-quiet : (a c : State) (u w x : AppView) (k m : ℕ → Option (List ℕ)) (f f2 : ℕ) (done : Bool) → IsOut a c u w k m
     → app_steps a u < app_steps c w
@@ -192,7 +193,7 @@ turns-not-quiet a c u w x k m f f2 done out steps leaves =
       view = ap (λ (v : AppView). app_saw v NotQuiet) r.view;
       kept_is = r.kept_is;
     }))
-    (λ _ _. inr (inr out.ended)))
+    (λ _ _. inr (inr out.ended)) (λ bare _. inr (rose-after out.goes.moves.looks (rw saw.event at saw.rose), out.quiet bare)))
 
 -- by way of reading all
 pub out-of : {a b c : State} {u v w : AppView} {k m : ℕ → Option (List ℕ)} → a.ended ≡ true → a.stopped ≡ stop.No
@@ -213,4 +214,5 @@ out-of {a} {b} {c} {u} {v} {w} {k} {m} ended going live here through few due gon
   here = here;
   same = ap (λ (s : State). s.stopped) gone.same ∙ through.working.going ∙ sym going;
   rests = λ is. absurd (cc);
+  quiet = λ is. absurd (cc);
 }

@@ -5,6 +5,7 @@ use Rattle.zr_kinds.specs.declared.behaviour.Stopped.TheVariants as stop
 use Rattle.board_face.specs.{Looks.{AppLooksStay}, declared.views.app.AppView.{AppView}, AppEvents.{reserve_of}}
 use Rattle.flow_queues.specs.{declared.queues.Lending.{Lending}, Core.{total, Each}, Entries.{lies_in}, Totals.{loan_entries, bytes_of}}
 use Rattle.flow_queues.specs.Shelves.{AreShelved, AreFronts}
+use Rattle.zr_io.specs.Moved.{raised_by}
 use Rattle.app_worker.specs.State.{State, TellsOf, read_of, due_one, app_steps}
 
 -- Until all is given up, what is kept to the end stays.
@@ -72,6 +73,10 @@ pub record Moves (was now : State) (old new : AppView) : Type 0 where
   pub reaps : Reaps was now old new
   -- no flow's count of bytes falls
   pub bytes : (number : ℕ) → bytes_of number was.flows ≤ bytes_of number now.flows
+
+-- The shelf counts as appended what is written, beside what it had counted before the first turn.
+abbrev pub CountsOn : (written written_now appended appended_now : ℕ) → Type 0
+CountsOn written written_now appended appended_now = (had : ℕ) → appended ≡ raised_by had written → appended_now ≡ raised_by had written_now
 
 -- And what the shelf has went on by what was read; where it failed, by perhaps some bytes more than are counted.
 pub record Goes (was now : State) (old new : AppView) (kept kept_now : ℕ → Option (List ℕ)) : Type 0 where

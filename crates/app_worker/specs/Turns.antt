@@ -3,9 +3,8 @@ use Rattle.std.specs.Prelude.{◌≡◌, ◌≢◌, ℕ, ◌<◌, ◌≤◌, ◌
 use Rattle.zr_kinds.specs.declared.fault.Fault.TheVariants.{Memory as memory_fault, Write as write_fault}
 use Rattle.zr_kinds.specs.declared.behaviour.Stopped.TheVariants as stop
 use Rattle.zr_io.specs.Moved.{Rose}
-use Rattle.board_face.specs.{Looks.{AppRose}, declared.views.app.AppLook.{AppLook}}
+use Rattle.board_face.specs.{Looks.{AppRose}, declared.views.app.{AppLook.{AppLook}, TakenNote.{TakenNote}, AppView.{AppView}}}
 use Rattle.board_face.specs.declared.views.app.AppLook.TheVariants.{NoNote as no_note, CardEnded, RefillInUse, RawOnItsWay, NoSpare, NotQuiet as not_quiet}
-use Rattle.board_face.specs.declared.views.app.{TakenNote.{TakenNote}, AppView.{AppView}}
 use Rattle.app_worker.specs.declared.turn.{Turn.{Turn, TheVariants.{Did, Idle, Finished, Failed}}, Why.{Why}}
 use Rattle.app_worker.specs.declared.turn.Why.TheVariants.{NoNote, RefillFull, Unsettled, ReserveHeld, NotQuiet}
 use Rattle.app_worker.specs.{State.{State, Working, Common, Bare, AppStands, app_steps}, Moves.{Moves, Goes}, Flushing.{Flushes}, Whole.{HasNext, HasCopyNext, IsDue}}
@@ -139,6 +138,8 @@ pub record Turns (was now : State) (old new : AppView) (kept kept_now : ℕ → 
   pub rests : was.bare ≡ true → Rests was now old new kept kept_now
   -- one in each turn, until it was told that none comes any more
   pub looks : was.bare ≡ true → was.ended ≡ false → LooksForOne now old new
+  -- and one that hadn't scrubbed has, or it saw a refill slot in use, also while the card goes on
+  pub scrubs : was.bare ≡ true → ScrubsIfQuiet old new
 
 -- the turn, once something was done before: then it isn't idle
 abbrev pub turn_after : Bool → Turn → Turn
@@ -149,7 +150,21 @@ turn_after did (Failed fault) = Failed fault
 
 -- ---- one that has nothing out
 
--- A look for a note, of which all that it brings is given up at once, makes this turn.
+-- It looked for a note, gave up at once what that brought, and has nothing out again. Whether its refill slots are free it
+-- didn't ask.
+pub record Passed (st : State) (old new : AppView) (kept : ℕ → Option (List ℕ)) (faults : ℕ) (turn : Turn) : Type 0 where
+  pub bare : Bare st new
+  pub common : Common st new
+  pub goes : Goes st st old new kept kept
+  pub answer : Answers st st old new faults faults turn
+  pub few : TakesFew old new
+  pub idle : (why : Why) → turn ≡ Idle why → Because why st old
+  pub here : new.left ≡ old.left
+  pub quiet : new.quiet ≡ old.quiet
+  pub rests : Rests st st old new kept kept
+  pub looks : LooksForOne st old new
+
+-- A look for a note, of which all that it brings is given up at once, makes this of a turn.
 abbrev pub Passes : AppView → AppView → Turn → Type 0
 Passes old new turn = (st : State) (kept : ℕ → Option (List ℕ)) (faults : ℕ) → Bare st old → st.bare ≡ true → Common st old
-    → st.posted.entries ≡ [] → st.ended ≡ false → Turns st st old new kept kept faults faults turn
+    → st.ended ≡ false → Passed st old new kept faults turn

@@ -1,7 +1,7 @@
 //! A loan is read, and what was read is appended; and a loan is given back.
 ghost use Rattle.std.specs.{Prelude.{◌≡◌, false, ◌≢◌, ℕ, ◌+◌, ◌-◌, ◌^◌, ◌<◌, ◌≤◌, List, length, IfSome, OnOk, OnErr, MatchBool, Some, ◌⊎◌}, Io.KnownBytes.{Keeps}};
 ghost use Rattle.area_layout.specs.Layout.{judged};
-ghost use Rattle.zr_io.specs.Moved.{Gained, Rose};
+ghost use Rattle.zr_io.specs.Moved.{Gained, Rose, raised_by};
 ghost use Rattle.board_face.specs.{AppCalls.{IsHere, IsLive, AppOnlySaw}, AppEvents.{app_gist, pushed_raw}, declared.views.app.AppLook.TheVariants.{RefillInUse}};
 ghost use Rattle.flow_queues.specs.Core.{LieApart, IsIn, lent_piece, OnlyReads, IsReadOf};
 ghost use Rattle.app_worker.specs.{ReadWhole.{IsReadUpTo}, Steps.{Given, KeptDue, NotKept, Pushes}};
@@ -43,9 +43,10 @@ pub fn read_loan<F: AppFace, T: Shelf>(
         (λ (read : List ℕ). IsReadOf (F.seen face.old).taken (F.seen face.new).reads lending.now most most read)) }
     ensures through { OnOk result (IsReadUpTo (F.seen face.new).reads (lent_piece (F.seen face.old).taken lending.now) most) }
     ensures others { (other : ℕ) → other ≢ flow → Keeps (T.kept shelf.old other) (T.kept shelf.new other) }
-    ensures later { T.faults shelf.old ≤ T.faults shelf.new }
-    ensures still { OnOk result (T.faults shelf.new ≡ T.faults shelf.old) }
-    ensures cause { OnErr result (Rose (T.faults shelf.old) (T.faults shelf.new)) }
+    ensures later { (T.counts shelf.old).faults ≤ (T.counts shelf.new).faults }
+    ensures still { OnOk result ((T.counts shelf.new).faults ≡ (T.counts shelf.old).faults) }
+    ensures cause { OnErr result (Rose (T.counts shelf.old).faults (T.counts shelf.new).faults) }
+    ensures appended { (T.counts shelf.new).appended ≡ raised_by (T.counts shelf.old).appended (bytes.new - bytes.old) }
     ensures beside { F.beside face.new ≡ F.beside face.old }
 {
     let mut done = 0;

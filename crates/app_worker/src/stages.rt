@@ -2,7 +2,7 @@
 ghost use Rattle.std.specs.Prelude.{◌≡◌, ◌≢◌, false, true, ◌+◌, ◌≤◌, [], ◌++◌, None, length};
 ghost use Rattle.completion_ring.specs.Ring.{ring};
 ghost use Rattle.board_face.specs.{AppCalls.{IsHere}, AppEvents.{app_gist}, declared.views.app.AppLook.TheVariants.{RawOnItsWay, NoSpare, NotQuiet}};
-ghost use Rattle.app_worker.specs.{State.{Working, Common}, StateOf.{state_of}, Stages.{kept_of, ReadsTo, LentSome, LendsAll, ScrubsOnce, Leaves}};
+ghost use Rattle.app_worker.specs.{State.{Working, Common}, StateOf.{state_of}, Moves.{CountsOn}, Stages.{kept_of, ReadsTo, LentSome, LendsAll, ScrubsOnce, Leaves}};
 
 use crate::letting::let_go;
 use crate::stack::{Delivery, Stack};
@@ -77,9 +77,10 @@ pub fn drain<F: AppFace, T: Shelf>(
     requires reaped { st.old.posted.entries ≡ [] }
     requires keep { st.old.ended ≡ false → st.old.how.hold ≤ keep }
     ensures reads { ReadsTo keep (state_of st.old) (state_of st.new) (F.seen face.old) (F.seen face.new) (T.kept shelf.old) (T.kept shelf.new)
-        (T.faults shelf.old) (T.faults shelf.new) result }
-    ensures later { T.faults shelf.old ≤ T.faults shelf.new }
-    ensures still { result ≢ Drained.Failed → T.faults shelf.new ≡ T.faults shelf.old }
+        (T.counts shelf.old).faults (T.counts shelf.new).faults result }
+    ensures later { (T.counts shelf.old).faults ≤ (T.counts shelf.new).faults }
+    ensures still { result ≢ Drained.Failed → (T.counts shelf.new).faults ≡ (T.counts shelf.old).faults }
+    ensures appended { CountsOn st.old.written st.new.written (T.counts shelf.old).appended (T.counts shelf.new).appended }
     ensures beside { F.beside face.new ≡ F.beside face.old }
 {
     let least = least_kept(st, keep);
@@ -138,12 +139,13 @@ pub fn lend_all<F: AppFace, T: Shelf>(face: &mut F, st: &mut Stack, shelf: &mut 
     requires reaped { st.old.posted.entries ≡ [] }
     requires few { length st.old.unread.items ≤ st.old.how.hold }
     requires flush { st.old.flush ≡ false }
-    ensures lends { LendsAll (state_of st.old) (state_of st.new) (F.seen face.old) (F.seen face.new) (T.kept shelf.old) (T.kept shelf.new) (T.faults shelf.old)
-        (T.faults shelf.new) result }
+    ensures lends { LendsAll (state_of st.old) (state_of st.new) (F.seen face.old) (F.seen face.new) (T.kept shelf.old) (T.kept shelf.new) (T.counts shelf.old).faults
+        (T.counts shelf.new).faults result }
     ensures told { result ≡ Lent.Stuck → F.tells RawOnItsWay (app_gist (F.seen face.new)) (F.beside face.new) }
     ensures no_spare { result ≡ Lent.NoSpare → F.tells NoSpare (app_gist (F.seen face.new)) (F.beside face.new) }
-    ensures later { T.faults shelf.old ≤ T.faults shelf.new }
-    ensures still { result ≢ Lent.Failed → T.faults shelf.new ≡ T.faults shelf.old }
+    ensures later { (T.counts shelf.old).faults ≤ (T.counts shelf.new).faults }
+    ensures still { result ≢ Lent.Failed → (T.counts shelf.new).faults ≡ (T.counts shelf.old).faults }
+    ensures appended { CountsOn st.old.written st.new.written (T.counts shelf.old).appended (T.counts shelf.new).appended }
     ensures beside { F.beside face.new ≡ F.beside face.old }
 {
     let mut did = false;

@@ -1,7 +1,7 @@
 //! What an application keeps between its turns, and its turn.
 ghost use Rattle.std.specs.Prelude.{◌≡◌, ◌≢◌, false, true, ℕ, ◌+◌, ◌<◌, ◌≤◌, List, length, map, Option, IfOk};
 ghost use Rattle.board_face.specs.{AppCalls.{IsHere}, AppEvents.{app_gist}, Texts.{unsplit_bytes}, declared.views.app.AppView.{AppView}};
-ghost use Rattle.app_worker.specs.{declared.turn.{Why.{Why}, Turn.TheVariants.{Idle, Failed, Finished}}, Streams.{HasCounted}, State.{AppStands, app_steps, furthest}, Kept.{new_state, IsFresh, flow_bytes}, Moves.{reads_of, reserve_loans}, ReadWhole.{GivesRead}, Turns.{ScrubsIfQuiet, Turns, look_of}};
+ghost use Rattle.app_worker.specs.{declared.turn.{Why.{Why}, Turn.TheVariants.{Idle, Failed, Finished}}, Streams.{HasCounted}, State.{AppStands, app_steps, furthest}, Kept.{new_state, IsFresh, flow_bytes}, Moves.{CountsOn, reads_of, reserve_loans}, ReadWhole.{GivesRead}, Turns.{ScrubsIfQuiet, Turns, look_of}};
 ghost use Rattle.zr_kinds.specs.declared.{fault.Fault.TheVariants.{Write}, behaviour.Stopped.TheVariants.{No}};
 ghost use Rattle.flow_queues.specs.{Marks.{FramesStandTogether}, Shelves.{AreShelved, AreFronts}, Streams.{HasFronts, HasAll}, Totals.{bytes_of, lent_bytes}};
 
@@ -148,7 +148,7 @@ pub fn app_turn<F: AppFace, T: Shelf>(
     requires here { IsHere (F.seen face.old) }
     requires stands { AppStands st.old (F.seen face.old) }
     ensures turns { Turns st.old st.new (F.seen face.old) (F.seen face.new)
-        (T.kept shelf.old) (T.kept shelf.new) (T.faults shelf.old) (T.faults shelf.new) result }
+        (T.kept shelf.old) (T.kept shelf.new) (T.counts shelf.old).faults (T.counts shelf.new).faults result }
     // Where the pieces of each frame stand together among the notes, what the shelf has of each flow since the first turn
     // are the bytes at the first of the flow's marks: read through a loan of their note, or come with it.
     ensures fronts { (first : ℕ → Option (List ℕ)) → FramesStandTogether (F.seen face.new).taken
@@ -187,9 +187,11 @@ pub fn app_turn<F: AppFace, T: Shelf>(
     ensures scrubs { st.old.stopped ≢ No → ScrubsIfQuiet (F.seen face.old) (F.seen face.new) }
     // What it saw is so, on a board for one thread.
     ensures told { (why : Why) → result ≡ Idle why → F.tells (look_of why) (app_gist (F.seen face.new)) (F.beside face.new) }
-    ensures later { T.faults shelf.old ≤ T.faults shelf.new }
-    // No call of the shelf failed where that didn't stop it in this turn.
-    ensures still { result ≢ Failed Write → T.faults shelf.new ≡ T.faults shelf.old }
+    ensures later { (T.counts shelf.old).faults ≤ (T.counts shelf.new).faults }
+    // No call of the shelf failed where that didn't stop it in this turn, and what is written is what the appends took that went
+    // well.
+    ensures still { result ≢ Failed Write → (T.counts shelf.new).faults ≡ (T.counts shelf.old).faults }
+    ensures appended { CountsOn st.old.written st.new.written (T.counts shelf.old).appended (T.counts shelf.new).appended }
     ensures beside { F.beside face.new ≡ F.beside face.old }
 {
     turn(alloc, face, &mut st.stack, shelf)

@@ -2,7 +2,7 @@
 ghost use Rattle.std.specs.Prelude.{◌≡◌, ◌≢◌, false, true, ℕ, ◌-◌, ◌<◌, ◌≤◌, [], List, Option, None, length, ◌^◌, IfSome, ◌⊎◌};
 ghost use Rattle.board_face.specs.{AppCalls.{IsHere, TookLinear}, Texts.{IsLinearNote}, declared.views.app.{AppView.{AppView}, AppLook.TheVariants.{RawOnItsWay, NoNote as no_note, NoSpare, RefillInUse}}, AppEvents.{app_gist}};
 ghost use Rattle.flow_queues.specs.{Core.{Each}, Totals.{wanted_of}, Flows.{IsAtRest, IsIndex}};
-ghost use Rattle.app_worker.specs.{State.{Working, Common}, StateOf.{state_of}, Moves.{Goes}, Whole.{Lends, Gives, Takes, Reads}};
+ghost use Rattle.app_worker.specs.{State.{Working, Common}, StateOf.{state_of}, Moves.{CountsOn, Goes}, Whole.{Lends, Gives, Takes, Reads}};
 
 use crate::lending::deliver;
 use crate::reading::{give_due, keep_due, read_loan};
@@ -111,10 +111,11 @@ pub fn read_one<F: AppFace, T: Shelf>(face: &mut F, st: &mut Stack, shelf: &mut 
     requires pushed { st.old.stray.left ≡ 0 }
     requires reaped { st.old.posted.entries ≡ [] }
     requires more { st.old.ended ≡ false → st.old.flush ≡ false → st.old.how.hold < length st.old.unread.items }
-    ensures reads { Reads (state_of st.old) (state_of st.new) (F.seen face.old) (F.seen face.new) (T.kept shelf.old) (T.kept shelf.new) (T.faults shelf.old)
-        (T.faults shelf.new) result }
-    ensures later { T.faults shelf.old ≤ T.faults shelf.new }
-    ensures still { result ≢ Read.Failed → T.faults shelf.new ≡ T.faults shelf.old }
+    ensures reads { Reads (state_of st.old) (state_of st.new) (F.seen face.old) (F.seen face.new) (T.kept shelf.old) (T.kept shelf.new) (T.counts shelf.old).faults
+        (T.counts shelf.new).faults result }
+    ensures later { (T.counts shelf.old).faults ≤ (T.counts shelf.new).faults }
+    ensures still { result ≢ Read.Failed → (T.counts shelf.new).faults ≡ (T.counts shelf.old).faults }
+    ensures appended { CountsOn st.old.written st.new.written (T.counts shelf.old).appended (T.counts shelf.new).appended }
     ensures beside { F.beside face.new ≡ F.beside face.old }
 {
     let Some((completion, lending)) = st.unread.pop_front() else {

@@ -1,7 +1,7 @@
 //! One turn of an application.
 ghost use Rattle.std.specs.Prelude.{◌≡◌, ◌≢◌, false, true, ℕ, ◌≤◌, [], List, Option, Some, None, MatchOption, length, if◌then◌else◌};
 ghost use Rattle.board_face.specs.{AppCalls.{IsHere, ToldEnd}, AppEvents.{app_gist}};
-ghost use Rattle.app_worker.specs.{declared.turn.{Why.{Why}, Turn.{Turn, TheVariants.{Did, Idle, Failed, Finished}}}, State.{Working, Common, Bare, AppStands}, StateOf.{state_of}, Turns.{Passes, ScrubsIfQuiet, Turns, look_of, turn_after}};
+ghost use Rattle.app_worker.specs.{declared.turn.{Why.{Why}, Turn.{Turn, TheVariants.{Did, Idle, Failed, Finished}}}, State.{Working, Common, Bare, AppStands}, StateOf.{state_of}, Moves.{CountsOn}, Turns.{Passes, Turns, look_of, turn_after}};
 ghost use Rattle.zr_kinds.specs.declared.fault.Fault.TheVariants.{Write};
 ghost use Rattle.flow_queues.specs.{Core.{Each}, Flows.{IsAtRest}};
 
@@ -33,7 +33,6 @@ fn pass_note<F: AppFace>(face: &mut F) -> Option<Turn>
     requires helds { (F.seen face.old).helds ≡ [] }
     ensures passes { MatchOption result (ToldEnd (F.seen face.old) (F.seen face.new)) (λ turn. Passes (F.seen face.old) (F.seen face.new) turn) }
     ensures busy { (turn : Turn) → result ≡ Some turn → turn ≢ Finished }
-    ensures unasked { (F.seen face.new).quiet ≡ (F.seen face.old).quiet }
     ensures told { (why : Why) → result ≡ Some (Idle why) → F.tells (look_of why) (app_gist (F.seen face.new)) (F.beside face.new) }
     ensures beside { F.beside face.new ≡ F.beside face.old }
 {
@@ -59,7 +58,6 @@ fn bare_turn<F: AppFace>(face: &mut F, st: &mut Stack) -> Turn
     requires reaped { st.old.posted.entries ≡ [] }
     ensures turns { (kept : ℕ → Option (List ℕ)) (faults : ℕ)
         → Turns (state_of st.old) (state_of st.new) (F.seen face.old) (F.seen face.new) kept kept faults faults result }
-    ensures scrubs { ScrubsIfQuiet (F.seen face.old) (F.seen face.new) }
     ensures told { (why : Why) → result ≡ Idle why → F.tells (look_of why) (app_gist (F.seen face.new)) (F.beside face.new) }
     ensures beside { F.beside face.new ≡ F.beside face.old }
 {
@@ -94,12 +92,13 @@ fn close<F: AppFace, T: Shelf>(face: &mut F, st: &mut Stack, shelf: &mut T) -> T
     requires due { st.old.due ≡ None }
     requires pushed { st.old.stray.left ≡ 0 }
     requires reaped { st.old.posted.entries ≡ [] }
-    ensures turns { Turns (state_of st.old) (state_of st.new) (F.seen face.old) (F.seen face.new) (T.kept shelf.old) (T.kept shelf.new) (T.faults shelf.old)
-        (T.faults shelf.new) result }
+    ensures turns { Turns (state_of st.old) (state_of st.new) (F.seen face.old) (F.seen face.new) (T.kept shelf.old) (T.kept shelf.new) (T.counts shelf.old).faults
+        (T.counts shelf.new).faults result }
     ensures busy { (why : Why) → result ≢ Idle why }
     ensures same { (F.seen face.new).taken ≡ (F.seen face.old).taken }
-    ensures later { T.faults shelf.old ≤ T.faults shelf.new }
-    ensures still { result ≢ Failed Write → T.faults shelf.new ≡ T.faults shelf.old }
+    ensures later { (T.counts shelf.old).faults ≤ (T.counts shelf.new).faults }
+    ensures still { result ≢ Failed Write → (T.counts shelf.new).faults ≡ (T.counts shelf.old).faults }
+    ensures appended { CountsOn st.old.written st.new.written (T.counts shelf.old).appended (T.counts shelf.new).appended }
     ensures beside { F.beside face.new ≡ F.beside face.old }
 {
     match drain(face, st, shelf, 0) {
@@ -128,11 +127,12 @@ fn look<F: AppFace, T: Shelf>(alloc: Global, face: &mut F, st: &mut Stack, shelf
     requires reaped { st.old.posted.entries ≡ [] }
     requires few { length st.old.unread.items ≤ st.old.how.hold }
     requires flush { st.old.flush ≡ false }
-    ensures turns { Turns (state_of st.old) (state_of st.new) (F.seen face.old) (F.seen face.new) (T.kept shelf.old) (T.kept shelf.new) (T.faults shelf.old)
-        (T.faults shelf.new) result }
+    ensures turns { Turns (state_of st.old) (state_of st.new) (F.seen face.old) (F.seen face.new) (T.kept shelf.old) (T.kept shelf.new) (T.counts shelf.old).faults
+        (T.counts shelf.new).faults result }
     ensures told { (why : Why) → result ≡ Idle why → F.tells (look_of why) (app_gist (F.seen face.new)) (F.beside face.new) }
-    ensures later { T.faults shelf.old ≤ T.faults shelf.new }
-    ensures still { result ≢ Failed Write → T.faults shelf.new ≡ T.faults shelf.old }
+    ensures later { (T.counts shelf.old).faults ≤ (T.counts shelf.new).faults }
+    ensures still { result ≢ Failed Write → (T.counts shelf.new).faults ≡ (T.counts shelf.old).faults }
+    ensures appended { CountsOn st.old.written st.new.written (T.counts shelf.old).appended (T.counts shelf.new).appended }
     ensures beside { F.beside face.new ≡ F.beside face.old }
 {
     match take_note(alloc, face, st) {
@@ -164,11 +164,12 @@ fn go_on<F: AppFace, T: Shelf>(alloc: Global, face: &mut F, st: &mut Stack, shel
     requires reaped { st.old.posted.entries ≡ [] }
     requires few { length st.old.unread.items ≤ st.old.how.hold }
     requires flush { st.old.flush ≡ false }
-    ensures turns { Turns (state_of st.old) (state_of st.new) (F.seen face.old) (F.seen face.new) (T.kept shelf.old) (T.kept shelf.new) (T.faults shelf.old)
-        (T.faults shelf.new) result }
+    ensures turns { Turns (state_of st.old) (state_of st.new) (F.seen face.old) (F.seen face.new) (T.kept shelf.old) (T.kept shelf.new) (T.counts shelf.old).faults
+        (T.counts shelf.new).faults result }
     ensures told { (why : Why) → result ≡ Idle why → F.tells (look_of why) (app_gist (F.seen face.new)) (F.beside face.new) }
-    ensures later { T.faults shelf.old ≤ T.faults shelf.new }
-    ensures still { result ≢ Failed Write → T.faults shelf.new ≡ T.faults shelf.old }
+    ensures later { (T.counts shelf.old).faults ≤ (T.counts shelf.new).faults }
+    ensures still { result ≢ Failed Write → (T.counts shelf.new).faults ≡ (T.counts shelf.old).faults }
+    ensures appended { CountsOn st.old.written st.new.written (T.counts shelf.old).appended (T.counts shelf.new).appended }
     ensures beside { F.beside face.new ≡ F.beside face.old }
 {
     match lend_all(face, st, shelf) {
@@ -189,11 +190,12 @@ fn work<F: AppFace, T: Shelf>(alloc: Global, face: &mut F, st: &mut Stack, shelf
     requires due { st.old.due ≡ None }
     requires pushed { st.old.stray.left ≡ 0 }
     requires reaped { st.old.posted.entries ≡ [] }
-    ensures turns { Turns (state_of st.old) (state_of st.new) (F.seen face.old) (F.seen face.new) (T.kept shelf.old) (T.kept shelf.new) (T.faults shelf.old)
-        (T.faults shelf.new) result }
+    ensures turns { Turns (state_of st.old) (state_of st.new) (F.seen face.old) (F.seen face.new) (T.kept shelf.old) (T.kept shelf.new) (T.counts shelf.old).faults
+        (T.counts shelf.new).faults result }
     ensures told { (why : Why) → result ≡ Idle why → F.tells (look_of why) (app_gist (F.seen face.new)) (F.beside face.new) }
-    ensures later { T.faults shelf.old ≤ T.faults shelf.new }
-    ensures still { result ≢ Failed Write → T.faults shelf.new ≡ T.faults shelf.old }
+    ensures later { (T.counts shelf.old).faults ≤ (T.counts shelf.new).faults }
+    ensures still { result ≢ Failed Write → (T.counts shelf.new).faults ≡ (T.counts shelf.old).faults }
+    ensures appended { CountsOn st.old.written st.new.written (T.counts shelf.old).appended (T.counts shelf.new).appended }
     ensures beside { F.beside face.new ≡ F.beside face.old }
 {
     if st.ended {
@@ -220,12 +222,12 @@ pub fn turn<F: AppFace, T: Shelf>(
 ) -> Turn
     requires here { IsHere (F.seen face.old) }
     requires stands { AppStands (state_of st.old) (F.seen face.old) }
-    ensures turns { Turns (state_of st.old) (state_of st.new) (F.seen face.old) (F.seen face.new) (T.kept shelf.old) (T.kept shelf.new) (T.faults shelf.old)
-        (T.faults shelf.new) result }
-    ensures scrubs { st.old.bare ≡ true → ScrubsIfQuiet (F.seen face.old) (F.seen face.new) }
+    ensures turns { Turns (state_of st.old) (state_of st.new) (F.seen face.old) (F.seen face.new) (T.kept shelf.old) (T.kept shelf.new) (T.counts shelf.old).faults
+        (T.counts shelf.new).faults result }
     ensures told { (why : Why) → result ≡ Idle why → F.tells (look_of why) (app_gist (F.seen face.new)) (F.beside face.new) }
-    ensures later { T.faults shelf.old ≤ T.faults shelf.new }
-    ensures still { result ≢ Failed Write → T.faults shelf.new ≡ T.faults shelf.old }
+    ensures later { (T.counts shelf.old).faults ≤ (T.counts shelf.new).faults }
+    ensures still { result ≢ Failed Write → (T.counts shelf.new).faults ≡ (T.counts shelf.old).faults }
+    ensures appended { CountsOn st.old.written st.new.written (T.counts shelf.old).appended (T.counts shelf.new).appended }
     ensures beside { F.beside face.new ≡ F.beside face.old }
 {
     if st.bare {

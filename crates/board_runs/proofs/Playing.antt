@@ -1,8 +1,7 @@
 -- Plays of a board in tests: what stands between two steps.
-use Rattle.std.{proofs.{Common.{◌≡◌, ℕ, zero, suc, refl, sym, ◌∙◌, ap, false, ⊎_elim}, lemmas.Bool.{cases_eq}}, specs.Prelude.{slice_index_or, slice_set, ◌≢◌}}
+use Rattle.std.{proofs.{Common.{◌≡◌, ℕ, zero, suc, refl, sym, ◌∙◌, ap, ⊎_elim}, lemmas.Bool.{cases_eq}}, specs.Prelude.{slice_index_or, slice_set, ◌≢◌}}
 use Rattle.std.proofs.lemmas.List.{get_or-set_other}
-use Rattle.board_face.specs.{declared.views.parts.Setting.{Setting}, Blank.{blank_app}}
-use Rattle.board_face.specs.Sides.{side_in}
+use Rattle.board_face.specs.{declared.views.parts.Setting.{Setting}, Blank.{blank_app}, Sides.{side_in}}
 use Rattle.board_parts.specs.Opened.{new_apps}
 use Rattle.plain_board.specs.Board.{Board, side_of, others_of}
 use Rattle.board_runs.specs.Played.{IsIdle, IsPlayed}

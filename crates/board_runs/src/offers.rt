@@ -16,7 +16,7 @@ use std::test::*;
 use zr_kinds::Note;
 
 /// A step of the card or of the application.
-#[derive(Clone, Copy, Debug)]
+#[derive(Clone, Copy)]
 enum Step {
     /// The card offers a frame with so many bytes. Frames that are accepted are numbered from 0.
     Offer(u32, u32),
@@ -41,7 +41,7 @@ enum Step {
 }
 
 /// What a step answers.
-#[derive(Clone, Copy, Debug, PartialEq, Eq)]
+#[derive(Clone, Copy, PartialEq, Eq)]
 enum Told {
     Done,
     /// It can't be made.
@@ -352,14 +352,9 @@ struct Play<'a> {
     steps: &'a [(Step, Told)],
 }
 
-/// Compares what a step answered.
-fn compare(rt: &impl Abort, play: &Play<'_>, step: Step, told: Told, wanted: Told) {
-    assert!(rt;
-        told == wanted,
-        "{} {}: {step:?} answered {told:?}",
-        play.name,
-        play.seed
-    );
+/// The step of this number answered as it was to.
+fn answered(rt: &impl Abort, play: &Play<'_>, number: u32, well: bool) {
+    assert!(rt; well, "{} {}: step {number}", play.name, play.seed);
 }
 
 /// Makes the steps of a play at a board that was just opened, and compares their answers. At the end the bytes that were taken are
@@ -373,10 +368,12 @@ fn run(rt: &impl Abort, alloc: Global, play: &Play<'_>, whole: bool) -> Result<(
     let mut pool = Pool::new(64);
     let mut ended = false;
     let mut taken = Taken::new(alloc);
+    let mut number = 0u32;
     for &(step, wanted) in play.steps {
+        number = number.wrapping_add(1);
         let (then, told) = one_step(alloc, board, &mut pool, &mut ended, &mut taken, step)?;
         board = then;
-        compare(rt, play, step, told, wanted);
+        answered(rt, play, number, told == wanted);
     }
     taken.compare(rt, play, whole);
     Ok(())

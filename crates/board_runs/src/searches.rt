@@ -60,14 +60,9 @@ fn one_step(
     Ok((face.back(), Told::Done))
 }
 
-/// Compares what a step answered.
-fn compare(rt: &impl Abort, play: &Play<'_>, step: Step, told: Told, wanted: Told) {
-    assert!(rt;
-        told == wanted,
-        "{} {}: {step:?} answered {told:?}",
-        play.name,
-        play.seed
-    );
+/// The step of this number answered as it was to.
+fn answered(rt: &impl Abort, play: &Play<'_>, number: u32, well: bool) {
+    assert!(rt; well, "{} {}: step {number}", play.name, play.seed);
 }
 
 /// Makes the steps of a play at a board that was just opened, and compares their answers. It answers the buffers that are free at
@@ -79,10 +74,12 @@ fn run(rt: &impl Abort, alloc: Global, play: &Play<'_>) -> Result<Vec<u32>, Fail
     }
     let mut board = PlainBoard::open(alloc, layout, play.apps, play.places)?;
     let mut stats = NONE;
+    let mut number = 0u32;
     for &(step, wanted) in play.steps {
+        number = number.wrapping_add(1);
         let (then, told) = one_step(board, &mut stats, step)?;
         board = then;
-        compare(rt, play, step, told, wanted);
+        answered(rt, play, number, told == wanted);
     }
     let mut free = Vec::new(alloc);
     collect(&mut board.nic(), &mut free)?;

@@ -63,33 +63,41 @@ fn run_two(
 /// Of two buffers that are listed in one word the lowest is given first, and then the other.
 #[test]
 fn lowest_of_a_word_is_given(rt: HostRuntime) -> Result<(), Fail> {
-    let calls = [
-        card!(SendLinear(0, SHORT, PING) => Flag(true)),
-        app!(Poll => Linear(SHORT, PING)),
-        app!(Spare => Buffer(0)),
-        card!(SendLinear(1, SHORT, PING) => Flag(true)),
-    ];
-    let then = [app!(Poll => Linear(SHORT, PING)), app!(Spare => Buffer(1))];
-    run_two(&rt, rt.alloc(), 2, &calls, &then)
+    run_two(
+        &rt,
+        rt.alloc(),
+        2,
+        &[
+            card!(SendLinear(0, SHORT, PING) => Flag(true)),
+            app!(Poll => Linear(SHORT, PING)),
+            app!(Spare => Buffer(0)),
+            card!(SendLinear(1, SHORT, PING) => Flag(true)),
+        ],
+        &[app!(Poll => Linear(SHORT, PING)), app!(Spare => Buffer(1))],
+    )
 }
 
 /// Where two words have a listed buffer, that of the first is given: buffer 0 before buffer 64. The card swept the first word, and
 /// the application gave up a piece of buffer 0, which is listed by that.
 #[test]
 fn first_word_is_looked_at_first(rt: HostRuntime) -> Result<(), Fail> {
-    let calls = [
-        card!(Sweep(0) => Number(64)),
-        card!(Take => Buffer(0)),
-        card!(Place(HELLO) => At(HELLO_PLACE)),
-        card!(Send(0, SPLIT) => Done),
-        card!(Shut => Done),
-        app!(Poll => Note(SPLIT)),
-        app!(Release => Done),
-        card!(SendLinear(0, SHORT, PING) => Flag(true)),
-        app!(Poll => Linear(SHORT, PING)),
-        app!(Spare => Buffer(0)),
-        card!(SendLinear(1, SHORT, PING) => Flag(true)),
-    ];
-    let then = [app!(Poll => Linear(SHORT, PING)), app!(Spare => Buffer(64))];
-    run_two(&rt, rt.alloc(), 65, &calls, &then)
+    run_two(
+        &rt,
+        rt.alloc(),
+        65,
+        &[
+            card!(Sweep(0) => Number(64)),
+            card!(Take => Buffer(0)),
+            card!(Place(HELLO) => At(HELLO_PLACE)),
+            card!(Send(0, SPLIT) => Done),
+            card!(Shut => Done),
+            app!(Poll => Note(SPLIT)),
+            app!(Release => Done),
+            card!(SendLinear(0, SHORT, PING) => Flag(true)),
+            app!(Poll => Linear(SHORT, PING)),
+            app!(Spare => Buffer(0)),
+            card!(SendLinear(1, SHORT, PING) => Flag(true)),
+        ],
+        &[app!(Poll => Linear(SHORT, PING)), app!(Spare => Buffer(64))],
+    )
 }

@@ -1,8 +1,11 @@
 //! Tables of calls on both boards, just opened, each with a card and one application.
 
-ghost use Rattle.std.specs.Prelude.{◌≡◌, ◌≤◌};
+ghost use Rattle.std.specs.Prelude.{◌≡◌, ◌<◌, ◌≤◌};
+ghost use Rattle.area_layout.specs.Layout.{total};
+ghost use Rattle.board_face.specs.NicCalls.{apps_of};
 ghost use Rattle.face_table.specs.{CardHand.{IsCardHand}, AppHand.{IsAppHand}};
 ghost use Rattle.plain_board.specs.Board.{side_of};
+ghost use Rattle.word_board.specs.Desk.{AllAreBack};
 
 use area_layout::Layout;
 use board_face::{AppFace, NicFace};
@@ -14,7 +17,7 @@ use plain_board::PlainBoard;
 use std::alloc::Global;
 use std::process::Abort;
 use std::test::*;
-use word_board::WordBoard;
+use word_board::{ClosedWords, Desk, WordBoard};
 
 /// A table of calls, the board that it is for, and what is free at its end.
 #[derive(Drop)]
@@ -29,9 +32,9 @@ pub struct Table<'a> {
     pub ordered: bool,
 }
 
-/// Compares an answer with the one that is wanted.
-fn compare(rt: &impl Abort, name: &str, found: &Answer, wanted: &Answer) {
-    assert!(rt; found == wanted, "{name}: {found:?}, not {wanted:?}");
+/// The call of this number answered as it was to.
+fn answered(rt: &impl Abort, name: &str, number: u32, well: bool) {
+    assert!(rt; well, "{name}: row {number}");
 }
 
 /// Makes a call of one role at a board for one thread, while the other's hand stays as it is.
@@ -76,10 +79,12 @@ pub fn plain_rows(
     ensures app { IsAppHand (side_of result 0).view app.new }
 {
     let mut board = board;
+    let mut number = 0u32;
     for row in table {
+        number = number.wrapping_add(1);
         let (then, answer) = plain_call(board, card, app, row.call);
         board = then;
-        compare(rt, name, &answer, &row.answer);
+        answered(rt, name, number, answer == row.answer);
     }
     board
 }
@@ -122,9 +127,11 @@ pub fn face_rows<N: NicFace, A: AppFace>(
     ensures number { (A.seen seat.new).app ≡ (A.seen seat.old).app }
     ensures beside { (N.beside nic.new ≡ N.beside nic.old) × (A.beside seat.new ≡ A.beside seat.old) }
 {
+    let mut number = 0u32;
     for row in table {
+        number = number.wrapping_add(1);
         let answer = face_call(nic, seat, card, app, row.call);
-        compare(rt, name, &answer, &row.answer);
+        answered(rt, name, number, answer == row.answer);
     }
 }
 
@@ -152,6 +159,34 @@ fn plain_free(
     Ok(board.finish().free)
 }
 
+/// Whether the first application's count and the pool's are 0 in the words that a board was closed with, for so many buffers.
+fn is_uncounted(words: &ClosedWords, buffers: u32) -> bool
+    requires one { 0 < apps_of words.now.setting }
+    requires buffers { buffers ≤ total words.now.setting.layout }
+{
+    for buffer in 0..buffers {
+        if words.pool(buffer) != 0 || words.user(0, buffer) != 0 {
+            return false;
+        }
+    }
+    true
+}
+
+/// The buffers that are free at the end of a board on words, for so many buffers with those of reserves. No count is left then.
+fn closed_free(board: WordBoard, desk: Desk, buffers: u32) -> Result<Vec<u32>, Fail>
+    requires desk { desk.board ≡ board }
+    requires back { AllAreBack board.setting desk.view }
+    requires one { 0 < apps_of board.setting }
+    requires buffers { buffers ≤ total board.setting.layout }
+{
+    board.uncounted(&desk);
+    let (ended, words) = board.close(desk);
+    if !is_uncounted(&words, buffers) {
+        return Err(Fail::from("a count is left"));
+    }
+    Ok(ended.free)
+}
+
 /// The same on a board on words.
 fn word_free(
     rt: &impl Abort,
@@ -176,7 +211,7 @@ fn word_free(
     }
     nic.back(&mut desk);
     seat.back(&mut desk);
-    Ok(board.finish(desk).free)
+    closed_free(board, desk, layout.total())
 }
 
 /// Compares the buffers that are free at the end of a table.

@@ -1,12 +1,12 @@
 -- The card goes on: looks for leaves change nothing that it stands by, and turns come behind turns.
-use Rattle.std.{proofs.Common.{◌≡◌, ◌∷◌, ◌++◌, [], ⊎_elim, inl, inr, ℕ, List, length, true, false, refl, sym, ap, subst, ◌∙◌}, specs.Global.{Vec}}
+use Rattle.std.{proofs.Common.{◌≡◌, ◌∷◌, ◌++◌, [], ⊎_elim, inl, inr, ℕ, ◌<◌, ◌≤◌, List, length, true, false, refl, sym, ap, subst, ◌∙◌}, specs.{Global.{Vec}, Prelude.{Bool, IsTrue, MatchBool}}}
 use Rattle.board_face.specs.declared.views.nic.{NicLook.{NicLook}, NicView.{NicView}}
-use Rattle.card_feed.specs.{Coming.{is_over}, Feed.{FeedState, FeedKnows, IsReady}, Turns.{FeedSteps, MayArrive, Receives}, declared.arrived.Arrived.{Arrived}}
-use Rattle.card_feed.specs.declared.intake.Stage.{Stage}
+use Rattle.card_feed.specs.{Coming.{is_over}, Feed.{FeedState, FeedKnows, IsReady, feed_steps}}
+use Rattle.card_feed.specs.{Turns.{FeedSteps, MayArrive, Receives}, declared.{arrived.Arrived.{Arrived}, intake.Stage.{Stage}}}
 use Rattle.card_feed.specs.declared.arrived.Arrived.TheVariants as arrived
 use Rattle.card_feed.specs.declared.intake.Stage.TheVariants as stage
 use Rattle.page_pool.specs.Searching.{LooksAhead}
-use Rattle.run_account.proofs.DealtEntries.{dealt-of, dealt-up, dealt-ahead}
+use Rattle.run_account.{specs.{Behind.{behind}, CardTurns.{prepares, sees, steps}}, proofs.DealtEntries.{dealt-of, dealt-up, dealt-ahead}}
 use Rattle.rtrb.specs.Ring.{received}
 use Rattle.pcap_reader.specs.declared.capture.Record.{Record}
 use Rattle.capture_beside.{specs.{Carried.{MayFollow, arrived_of}, declared.card.CardLane.{CardLane}}, proofs.Rings.{consumer-same, consumer-then}}
@@ -52,8 +52,10 @@ stands-looked ports split messages feed v gone looks so = record {
     counted = so.knows.counted;
     needed = so.knows.needed;
     found = so.knows.found;
+    swept = so.knows.swept;
   };
   brought = so.brought;
+  turns = (so.turns.0, behind _ _ so.turns.1 (sees gone looks));
   dealt = so.dealt;
 }
 
@@ -109,14 +111,15 @@ step-stands : (ports : List ℕ) (split : ℕ) (messages_old messages_new : List
     → IsReady was old → MayArrive was came → Came messages_old messages_new came
     → ((frames : List (List ℕ)) → FeedKnows ports split frames was old → FeedSteps ports split frames came was now old new)
     → CardStands ports split messages_old was old → CardStands ports split messages_new now new
-step-stands ports split messages_old messages_new came was now old new ready may came_is steps so =
-    let step = steps so.frames so.knows in
+step-stands ports split messages_old messages_new came was now old new ready may came_is gives so =
+    let step = gives so.frames so.knows in
     let many = sym ready.fits.apps ∙ ap length so.knows.ports_are in
     record {
       frames = step.more;
       knows = step.knows;
       brought = subst (Brought split ports messages_new step.more) (sym step.stage_is)
           (brought-more split ports messages_old messages_new was step.taken so.frames step.more so.brought came may came_is step.receives);
+      turns = (so.turns.0, behind _ _ so.turns.1 (steps came now new may step));
       dealt = ⊎_elim (λ plays. dealt-of (length ports) step.taken now old new plays.1 many so.dealt)
           (λ keeps. dealt-up (length ports) step.taken now old new keeps.1 many so.dealt) step.done;
     }
@@ -125,7 +128,7 @@ module _ (was came_by mid now : CardLane) (came : Arrived) (ready : IsReady was.
     (takes : CardTakes was came_by came) (may : MayArrive came_by.feed came)
     (ready_mid : IsReady mid.feed mid.seat.side.view) (board : mid.seat.board ≡ came_by.seat.board) (ports_are : mid.feed.ports ≡ came_by.feed.ports)
     (same_ring : mid.frames ≡ came_by.frames)
-    (steps : (ports : List ℕ) (split : ℕ) (frames : List (List ℕ)) → FeedKnows ports split frames came_by.feed came_by.seat.side.view
+    (gives : (ports : List ℕ) (split : ℕ) (frames : List (List ℕ)) → FeedKnows ports split frames came_by.feed came_by.seat.side.view
     → FeedSteps ports split frames came came_by.feed mid.feed came_by.seat.side.view mid.seat.side.view)
     (looks : CardLooks mid now) where
   pub goes_turn : CardGoes was now
@@ -144,18 +147,29 @@ module _ (was came_by mid now : CardLane) (came : Arrived) (ready : IsReady was.
             (subst (CardStands ports split (received now.frames) mid.feed) view
             (stands-looked ports split (received now.frames) mid.feed mid.seat.side.view gone seen
             (rw (looks.frames, same_ring) (step-stands ports split (received was.frames) (received came_by.frames) came came_by.feed mid.feed
-            came_by.seat.side.view mid.seat.side.view (rw (takes.feed, takes.seat) ready) may takes.came_is (steps ports split)
+            came_by.seat.side.view mid.seat.side.view (rw (takes.feed, takes.seat) ready) may takes.came_is (gives ports split)
             (rw (takes.feed, takes.seat) so)))));
       }
 
+-- what an answer of `true` says
+pub when-so : {A : Type 0} (B : Type 0) (b : Bool) → IsTrue b → MatchBool b A B → A
+when-so B true is so = so
+when-so B false is so = absurd (cc)
+
+-- what the step did is still there behind the look
+pub went-on : (was came_by mid now : CardLane) → came_by.seat ≡ was.seat → came_by.feed ≡ was.feed → CardLooks mid now
+    → feed_steps came_by.feed came_by.seat.side.view < feed_steps mid.feed mid.seat.side.view
+    → feed_steps was.feed was.seat.side.view < feed_steps now.feed now.seat.side.view
+went-on was came_by mid now seat feed looks less = rw (looks.feed, looks.view, sym seat, sym feed) less
+
 -- ---- a look for buffers, and one at the ring
 
-pub goes_prepared : (need : ℕ) (was now : CardLane) → IsReady was.feed was.seat.side.view → IsReady now.feed now.seat.side.view
+pub goes_prepared : (need : ℕ) (was now : CardLane) → need ≤ 64 → IsReady was.feed was.seat.side.view → IsReady now.feed now.seat.side.view
     → now.seat.board ≡ was.seat.board → now.frames ≡ was.frames
     → LooksAhead need was.feed.pool now.feed.pool was.seat.side.view now.seat.side.view → now.feed ≡ record was.feed { pool = now.feed.pool }
     → ((ports : List ℕ) (split : ℕ) (frames : List (List ℕ)) → FeedKnows ports split frames was.feed was.seat.side.view
     → FeedKnows ports split frames now.feed now.seat.side.view) → CardGoes was now
-goes_prepared need was now ready ready_now board ring looks only knows = record {
+goes_prepared need was now few ready ready_now board ring looks only knows = record {
   board = board;
   ready = ready_now;
   ports = ap (λ (f : FeedState). f.ports) only;
@@ -164,6 +178,7 @@ goes_prepared need was now ready ready_now board ring looks only knows = record 
     frames = so.frames;
     knows = knows ports split so.frames so.knows;
     brought = rw (ring, ap (λ (f : FeedState). f.stage) only) so.brought;
+    turns = (so.turns.0, behind _ _ so.turns.1 (prepares need now.feed now.seat.side.view few looks only));
     dealt = dealt-ahead (length ports) need was.feed.pool now.feed.pool was.seat.side.view now.seat.side.view looks
         (sym ready.fits.apps ∙ ap length so.knows.ports_are) so.dealt;
   };
@@ -188,6 +203,7 @@ goes_drop was now ready ended drops = record {
     frames = so.frames;
     knows = so.knows;
     brought = drop-brought split ports (received was.frames) so.frames drops.message was.feed.stage ended so.brought drops.follows;
+    turns = so.turns;
     dealt = so.dealt;
   });
 }

@@ -11,7 +11,7 @@ use Rattle.card_feed.specs.{Coming.{Arrives, ComesTo, TookBytes, is_over}, Feed.
 use Rattle.card_feed.proofs.Further.{took-then}
 use Rattle.card_feed.specs.declared.arrived.Arrived.TheVariants as arrived
 use Rattle.card_feed.specs.declared.intake.Stage.TheVariants as stage
-use Rattle.run_account.{specs.Ran.{HasReadOn}, proofs.ReadOn.{HasReadOn-refl}}
+use Rattle.run_account.{specs.{CardTurns.{CardTurns}, Ran.{HasReadOn}}, proofs.ReadOn.{HasReadOn-refl}}
 use Rattle.capture_beside.specs.{declared.carried.Carried.{Carried}, Carried.{MayFollow, arrived_of, has_end, is_end}, Made.{IsMade}}
 use Rattle.capture_beside.{specs.Cards.{IsFrame, Brought, nothing, frame, ends, over, dropped, CardStands}, proofs.{CardTurns.{drop-brought}, ReaderTurns.{made-last}}}
 use Rattle.capture_beside.specs.declared.carried.Carried.TheVariants as carried
@@ -164,6 +164,7 @@ pub record HasReadAll {S : Type 0} (left : S → Option (List ℕ)) (faults : S 
   pub ahead : HasReadOn left faults at source_now (end_of feed.stage)
   pub frames : List (List ℕ)
   pub stands : FeedStands left faults source at ports split frames feed v
+  pub turns : CardTurns ports split frames feed v
   pub dealt : All (λ d. d.app < length ports) v.dealt
 
 -- what is held when all is over is dropped too
@@ -193,5 +194,6 @@ all-read {S} left faults source source_now end_stage ports split messages made h
       ahead = rw is ahead;
       frames = stands.frames;
       stands = record { knows = stands.knows; comes = rw is has_ended };
+      turns = stands.turns;
       dealt = stands.dealt;
     }

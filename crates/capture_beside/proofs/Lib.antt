@@ -2,3 +2,4 @@ mod Rings
 pub mod CardTurns
 pub mod ReaderTurns
 pub mod Joined
+pub mod Carrying

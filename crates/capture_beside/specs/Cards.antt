@@ -3,10 +3,12 @@ use Rattle.std.specs.Prelude.{◌≡◌, ◌≢◌, ◌⊎◌, ℕ, ◌<◌, tru
 use Rattle.zr_kinds.specs.declared.fault.Fault.{Fault}
 use Rattle.board_face.specs.declared.views.nic.NicView.{NicView}
 use Rattle.frames_read.specs.{Ending.{ending_at}, Reading.{EndsAt}}
-use Rattle.card_feed.specs.{Coming.{is_over}, Feed.{FeedState, IsReady, FeedKnows}, Offered.{WantsRoom}, declared.{arrived.Arrived.{Arrived}, intake.Stage.{Stage}}}
+use Rattle.card_feed.specs.{Coming.{is_over}, Feed.{FeedState, IsReady, FeedKnows, feed_steps}, Offered.{WantsRoom}}
+use Rattle.card_feed.specs.declared.{arrived.Arrived.{Arrived}, intake.Stage.{Stage}}
 use Rattle.card_feed.specs.declared.arrived.Arrived.TheVariants as arrived
 use Rattle.card_feed.specs.declared.intake.Stage.TheVariants as stage
 use Rattle.page_pool.specs.Pool.{pending_count}
+use Rattle.run_account.specs.CardTurns.{CardTurns}
 use Rattle.rtrb.specs.Ring.{received, SameConsumer}
 use Rattle.capture_beside.specs.{Carried.{MayFollow, arrived_of}, declared.{carried.Carried.{Carried}, card.CardLane.{CardLane}}}
 use Rattle.capture_beside.specs.declared.carried.Carried.TheVariants as carried
@@ -34,6 +36,7 @@ pub record CardTakes (was now : CardLane) (came : Arrived) : Type 0 where
   pub feed : now.feed ≡ was.feed
   pub ring : SameConsumer was.frames now.frames
   pub came_is : Came (received was.frames) (received now.frames) came
+  pub gone : now.gone ≡ was.gone
 
 -- the message is a frame of these bytes
 abbrev pub IsFrame : Carried → List ℕ → Type 0
@@ -56,11 +59,18 @@ pub data Brought (split : ℕ) (ports : List ℕ) : List Carried → List (List 
 
 -- ---- turns
 
--- It stands by the frames that these messages brought, and each entry that was dealt with is of an application.
+-- It came further: frames were read, notes sent, entries dealt with, or the reading ended, or the card was closed; or it saw one more
+-- application leave.
+abbrev pub CardDid : CardLane → CardLane → Type 0
+CardDid was now = (feed_steps was.feed was.seat.side.view < feed_steps now.feed now.seat.side.view) ⊎ (was.gone < now.gone)
+
+-- It stands by the frames that these messages brought, came to that by turns of its own, and each entry that was dealt with is of an
+-- application.
 pub record CardStands (ports : List ℕ) (split : ℕ) (messages : List Carried) (feed : FeedState) (v : NicView) : Type 0 where
   pub frames : List (List ℕ)
   pub knows : FeedKnows ports split frames feed v
   pub brought : Brought split ports messages frames feed.stage
+  pub turns : CardTurns ports split frames feed v
   pub dealt : All (λ d. d.app < length ports) v.dealt
 
 -- Some turns: it is ready for the next, at the same board and the same ring, and stands by all that was sent to it.

@@ -2,3 +2,4 @@ pub mod Cards
 pub mod Carried
 pub mod Made
 pub mod Reader
+pub mod Laws

@@ -1,8 +1,8 @@
 //! The card at its seat: its turns, and the loop of its thread.
-ghost use Rattle.std.specs.Prelude.{◌≡◌, ◌≤◌, ◌⊎◌, [], true, None, IfSome, MatchBool};
+ghost use Rattle.std.specs.Prelude.{◌≡◌, ◌<◌, ◌≤◌, ◌⊎◌, [], true, None, IfSome, IsTrue, MatchBool};
 ghost use Rattle.card_feed.specs.{Feed.{IsReady, WantsRecord}, declared.arrived.Arrived.TheVariants.{Nothing}, Turns.{MayArrive}};
 ghost use Rattle.rtrb.specs.Ring.{known_items};
-ghost use Rattle.capture_beside.specs.Cards.{CardGoes, CardLooks, CardTakes, Waits};
+ghost use Rattle.capture_beside.specs.Cards.{CardDid, CardGoes, CardLooks, CardTakes, Waits};
 
 use crate::carried::{Carried, InOrder};
 use crate::pace::Pace;
@@ -37,7 +37,8 @@ fn is_over(card: &CardLane<'_>) -> bool {
 
 /// Once the card was closed, looks whether the next application has left. `false` says that it wasn't seen to.
 fn see_leave(card: &mut CardLane<'_>) -> bool
-    ensures { CardLooks card.old card.new }
+    ensures looks { CardLooks card.old card.new }
+    ensures did { IsTrue result → card.old.gone < card.new.gone }
 {
     if !card.feed.closed() || card.gone >= card.seat.apps() {
         return false;
@@ -79,6 +80,7 @@ fn arrive(card: &mut CardLane<'_>) -> Arrived
 pub fn card_turn<G: Gate>(gate: &G, card: &mut CardLane<'_>) -> bool
     requires ready { IsReady card.old.feed card.old.seat.side.view }
     ensures goes { CardGoes card.old card.new }
+    ensures did { IsTrue result → CardDid card.old card.new }
 {
     if is_over(card) {
         return false;
@@ -94,6 +96,7 @@ pub fn card_turn<G: Gate>(gate: &G, card: &mut CardLane<'_>) -> bool
 fn quiet_turn<G: Gate>(gate: &G, pace: &mut Pace, card: &mut CardLane<'_>) -> bool
     requires ready { IsReady card.old.feed card.old.seat.side.view }
     ensures goes { CardGoes card.old card.new }
+    ensures did { IsTrue result → CardDid card.old card.new }
 {
     let before = card.seat.cached();
     gate.at(0, card.turns);
@@ -178,8 +181,10 @@ fn offering_turn<G: Gate>(
     let before = card.seat.cached();
     let searches = card.feed.searches();
     let did = card_turn(gate, card);
-    let swept = card.feed.searches().slow > searches.slow
-        || card.feed.searches().empty > searches.empty;
+    // Where as many as it needs were cached before, the turn itself swept nothing: what it counted was swept ahead.
+    let swept = before < needed
+        && (card.feed.searches().slow > searches.slow
+            || card.feed.searches().empty > searches.empty);
     pace.count(needed, swept, before, card.seat.cached());
     went_by(did)
 }

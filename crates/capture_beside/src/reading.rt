@@ -10,7 +10,7 @@ use crate::reader::Reader;
 use card_feed::{Arrived, Stage};
 use crossbeam_utils::Backoff;
 use rtrb::{Consumer, Producer, PushError, RingBuffer};
-use run_loops::{IDLE, Loops, rest_reading};
+use run_loops::{IDLE, Loops};
 use std::alloc::{AllocError, Global};
 use std::sync::Wait;
 use zr_io::Source;
@@ -146,14 +146,15 @@ fn read_turns<S: Source, R: Wait>(
     ensures goes { ReaderGoes S.left S.faults source.old source.new reader.old reader.new }
 {
     let backoff = Backoff::new();
-    for _ in 0..IDLE {
+    for looks in 0..IDLE {
         if beside.is_enough() {
             return false;
         }
         if read_turn(reader, source) {
+            beside.stir_card();
             return true;
         }
-        rest_reading(rt, beside.card_runs(), &backoff);
+        beside.rest_reading(rt, looks, &backoff);
     }
     beside.card_runs()
 }

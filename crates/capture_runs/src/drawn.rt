@@ -21,7 +21,7 @@ const FRAMES: u32 = 14;
 const PORTS: [u16; 2] = [9000, 9001];
 
 /// How a frame stands to those before it.
-#[derive(Clone, Copy, Debug)]
+#[derive(Clone, Copy)]
 enum Kind {
     NextBytes,
     SameBytesAgain,

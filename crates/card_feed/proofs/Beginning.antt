@@ -24,6 +24,7 @@ feeds_stand left faults source ports split v none none_dealt none_used =
         counted = rw (nothing, none_dealt) (record { searches = omega arith; empty = refl; strays = refl });
         needed = rw (nothing, none, none_used) (record { spent = omega arith; lacked = All-nil _ });
         found = rw none (record { found = inl refl; used = tt });
+        swept = omega arith;
       };
       comes = (refl, refl);
     }

@@ -5,7 +5,8 @@ use Rattle.std.proofs.lemmas.{Bool.{cases_Bool, leb-false, lt-ltb}, List.Sums.{s
 use Rattle.zr_kinds.specs.declared.outcome.PoolStats.{PoolStats}
 use Rattle.board_face.specs.declared.views.{parts.Filling.{Filling}, nic.{Dealt.{Dealt}, NicView.{NicView}}}
 use Rattle.page_pool.specs.{declared.offer.Offer.{Offer}, Frames.{Offered, offered}, Dealing.{IsRaised, is_stray, strays_in, DrainsRings}}
-use Rattle.page_pool.specs.{Searching.{SearchEnd, fast, refill, slow, empty, CountsEnd, LooksAhead}, Pool.{PoolState, Closes}}
+use Rattle.page_pool.specs.{Searching.{CountsEnd, LooksAhead, joint_end}, Pool.{PoolState, Closes}}
+use Rattle.page_pool.specs.declared.search_end.SearchEnd.{SearchEnd, TheVariants.{Fast, Refill, Slow, Empty}}
 use Rattle.page_pool.specs.Offer.{payload_of, needed_for, LooksFor, not_needed, searched, Accepts, Refuses}
 use Rattle.card_feed.{specs.Counts.{capped, is_long, long_in, searches_in, AreCounted}, proofs.PlayLemmas.{closed-dealt}}
 
@@ -25,7 +26,7 @@ raised-capped n was more now same raised fits = ⊎_elim
     (λ (full : (2 ^ 64 - 1 ≤ now) × (2 ^ 64 - 1 ≤ was + more)). omega (arith, same, full.0, full.1, fits))
     raised
 
-raised-most : (was more now : ℕ) → IsRaised was more now → now ≤ 2 ^ 64 - 1 → now ≤ was + more
+pub raised-most : (was more now : ℕ) → IsRaised was more now → now ≤ 2 ^ 64 - 1 → now ≤ was + more
 raised-most was more now raised fits = ⊎_elim
     (λ (exact : now ≡ was + more). omega (arith, exact))
     (λ (full : (2 ^ 64 - 1 ≤ now) × (2 ^ 64 - 1 ≤ was + more)). omega (arith, full.1, fits))
@@ -45,36 +46,51 @@ strays-more was now before after more same dealt raised fits =
 
 -- ---- a search, or none
 
-end-strays : (how : SearchEnd) (was now : PoolStats) (more : List Dealt) → CountsEnd how was now more → IsRaised was.strays (strays_in more) now.strays
-end-strays fast was now more counts = counts.1
-end-strays refill was now more counts = counts.1
-end-strays slow was now more counts = counts.1
-end-strays empty was now more counts = counts.1
+-- a search that found enough is counted as one that did, whatever was searched ahead
+pub joint-found : (before later : SearchEnd) → later ≢ Empty → joint_end before later ≢ Empty
+joint-found before Empty found e = found refl
+joint-found Fast Fast found e = absurd (cc)
+joint-found Fast Refill found e = absurd (cc)
+joint-found Fast Slow found e = absurd (cc)
+joint-found Refill Fast found e = absurd (cc)
+joint-found Refill Refill found e = absurd (cc)
+joint-found Refill Slow found e = absurd (cc)
+joint-found Slow Fast found e = absurd (cc)
+joint-found Slow Refill found e = absurd (cc)
+joint-found Slow Slow found e = absurd (cc)
+joint-found Empty Fast found e = absurd (cc)
+joint-found Empty Refill found e = absurd (cc)
+joint-found Empty Slow found e = absurd (cc)
 
-end-searches : (how : SearchEnd) (was now : PoolStats) (more : List Dealt) → AreInType now → CountsEnd how was now more
-    → searches_in now ≤ searches_in was + 1
-end-searches fast was now more fits counts =
+end-strays : (how : SearchEnd) (was now : PoolStats) → CountsEnd how was now → now.strays ≡ was.strays
+end-strays Fast was now counts = ap (λ (s : PoolStats). s.strays) counts.1
+end-strays Refill was now counts = ap (λ (s : PoolStats). s.strays) counts.1
+end-strays Slow was now counts = ap (λ (s : PoolStats). s.strays) counts.1
+end-strays Empty was now counts = ap (λ (s : PoolStats). s.strays) counts.1
+
+end-searches : (how : SearchEnd) (was now : PoolStats) → AreInType now → CountsEnd how was now → searches_in now ≤ searches_in was + 1
+end-searches Fast was now fits counts =
     let one = raised-most was.fast 1 now.fast counts.0 fits.fast in
-    let others : searches_in now ≡ now.fast + was.refill + was.slow + was.empty = ap searches_in counts.2 in
+    let others : searches_in now ≡ now.fast + was.refill + was.slow + was.empty = ap searches_in counts.1 in
     omega (arith, one, others)
-end-searches refill was now more fits counts =
+end-searches Refill was now fits counts =
     let one = raised-most was.refill 1 now.refill counts.0 fits.refill in
-    let others : searches_in now ≡ was.fast + now.refill + was.slow + was.empty = ap searches_in counts.2 in
+    let others : searches_in now ≡ was.fast + now.refill + was.slow + was.empty = ap searches_in counts.1 in
     omega (arith, one, others)
-end-searches slow was now more fits counts =
+end-searches Slow was now fits counts =
     let one = raised-most was.slow 1 now.slow counts.0 fits.slow in
-    let others : searches_in now ≡ was.fast + was.refill + now.slow + was.empty = ap searches_in counts.2 in
+    let others : searches_in now ≡ was.fast + was.refill + now.slow + was.empty = ap searches_in counts.1 in
     omega (arith, one, others)
-end-searches empty was now more fits counts =
+end-searches Empty was now fits counts =
     let one = raised-most was.empty 1 now.empty counts.0 fits.empty in
-    let others : searches_in now ≡ was.fast + was.refill + was.slow + now.empty = ap searches_in counts.2 in
+    let others : searches_in now ≡ was.fast + was.refill + was.slow + now.empty = ap searches_in counts.1 in
     omega (arith, one, others)
 
-end-found : (how : SearchEnd) (was now : PoolStats) (more : List Dealt) → how ≢ empty → CountsEnd how was now more → now.empty ≡ was.empty
-end-found fast was now more found counts = ap (λ (s : PoolStats). s.empty) counts.2
-end-found refill was now more found counts = ap (λ (s : PoolStats). s.empty) counts.2
-end-found slow was now more found counts = ap (λ (s : PoolStats). s.empty) counts.2
-end-found empty was now more found counts = absurd (found refl)
+end-found : (how : SearchEnd) (was now : PoolStats) → how ≢ Empty → CountsEnd how was now → now.empty ≡ was.empty
+end-found Fast was now found counts = ap (λ (s : PoolStats). s.empty) counts.1
+end-found Refill was now found counts = ap (λ (s : PoolStats). s.empty) counts.1
+end-found Slow was now found counts = ap (λ (s : PoolStats). s.empty) counts.1
+end-found Empty was now found counts = absurd (found refl)
 
 -- what it counted, where it is one of at most so many
 record CountedLooks (most : ℕ) (was now : PoolStats) (old new : NicView) : Type 0 where
@@ -83,32 +99,35 @@ record CountedLooks (most : ℕ) (was now : PoolStats) (old new : NicView) : Typ
   strays : IsRaised was.strays (strays_in more) now.strays
   searches : searches_in now ≤ searches_in was + most
 
-looked : (need most : ℕ) → (0 < need → 1 ≤ most) → (current : Option Filling) (was now : PoolStats) (old new : NicView) (how : Option SearchEnd)
-    → AreInType now → LooksFor need current was now old new how → CountedLooks most was now old new
-looked need most some current was now old new _ fits (not_needed none stats same) = record {
+looked : (need most : ℕ) → (0 < need → 1 ≤ most) → (current : Option Filling) (ahead : SearchEnd) (was now : PoolStats) (old new : NicView)
+    (how : Option SearchEnd) → AreInType now → LooksFor need current ahead was now old new how → CountedLooks most was now old new
+looked need most some current ahead was now old new _ fits (not_needed none stats same) = record {
   more = [];
   dealt = ap (λ (v : NicView). v.dealt) same ∙ sym (append-nil old.dealt);
   strays = inl (ap (λ (s : PoolStats). s.strays) stats ∙ omega arith);
   searches = omega (arith, ap searches_in stats);
 }
-looked need most some current was now old new _ fits (searched begin how wanted closes searches) = record {
+looked need most some current ahead was now old new _ fits (searched begin met how wanted closes searches counts) = record {
   more = searches.more;
   dealt = ap (λ (v : NicView). v.dealt) searches.view ∙ ap (λ ds. ds ++ searches.more) (closed-dealt current old begin closes);
-  strays = end-strays how was now searches.more searches.counts;
-  searches = omega (arith, end-searches how was now searches.more fits searches.counts, some wanted);
+  strays = subst (IsRaised was.strays (strays_in searches.more)) (sym (end-strays (joint_end ahead how) met now counts)) searches.strays.strays;
+  searches = omega (arith, end-searches (joint_end ahead how) met now fits counts, ap searches_in searches.strays.others, some wanted);
 }
 
-looked-found : (need : ℕ) (current : Option Filling) (was now : PoolStats) (old new : NicView) (how : Option SearchEnd)
-    → how ≢ Some empty → LooksFor need current was now old new how → now.empty ≡ was.empty
-looked-found need current was now old new _ found (not_needed none stats same) = ap (λ (s : PoolStats). s.empty) stats
-looked-found need current was now old new _ found (searched begin how wanted closes searches) =
-    end-found how was now searches.more (λ same. found (ap Some same)) searches.counts
+looked-found : (need : ℕ) (current : Option Filling) (ahead : SearchEnd) (was now : PoolStats) (old new : NicView) (how : Option SearchEnd)
+    → how ≢ Some Empty → LooksFor need current ahead was now old new how → now.empty ≡ was.empty
+looked-found need current ahead was now old new _ found (not_needed none stats same) = ap (λ (s : PoolStats). s.empty) stats
+looked-found need current ahead was now old new _ found (searched begin met how wanted closes searches counts) =
+    end-found (joint_end ahead how) met now (joint-found ahead how (λ same. found (ap Some same))) counts
+    ∙ ap (λ (s : PoolStats). s.empty) searches.strays.others
 
-looked-empty : (need : ℕ) (current : Option Filling) (was now : PoolStats) (old new : NicView) (how : Option SearchEnd)
-    → how ≡ Some empty → LooksFor need current was now old new how → IsRaised was.empty 1 now.empty
-looked-empty need current was now old new _ is (not_needed none stats same) = absurd (cc)
-looked-empty need current was now old new _ is (searched begin how wanted closes searches) =
-    let same : how ≡ empty = cc in (subst (λ end. CountsEnd end was now searches.more) same searches.counts).0
+looked-empty : (need : ℕ) (current : Option Filling) (ahead : SearchEnd) (was now : PoolStats) (old new : NicView) (how : Option SearchEnd)
+    → how ≡ Some Empty → LooksFor need current ahead was now old new how → IsRaised was.empty 1 now.empty
+looked-empty need current ahead was now old new _ is (not_needed none stats same) = absurd (cc)
+looked-empty need current ahead was now old new _ is (searched begin met how wanted closes searches counts) =
+    let same : how ≡ Empty = cc in
+    let counted : CountsEnd Empty met now = subst (λ end. CountsEnd (joint_end ahead end) met now) same counts in
+    subst (λ n. IsRaised n 1 now.empty) (ap (λ (s : PoolStats). s.empty) searches.strays.others) counted.0
 
 -- it is made for a long payload alone
 needs-long : (split : ℕ) (was : PoolState) (old : NicView) (o : Offer) → was.split ≡ split → 0 < needed_for was old o
@@ -145,32 +164,30 @@ module _ (split : ℕ) (offers : List Offered) (refused : List ℕ) where
             drains.strays.strays fits.strays;
       }
 
-  -- of a search that isn't counted
+  -- of a search ahead, which isn't counted yet
   pub counted-looked : (hand : Option Offered) (need : ℕ) (was now : PoolState) (old new : NicView) → AreInType now.stats
       → LooksAhead need was now old new → AreCounted split offers refused hand old.dealt was.stats
       → AreCounted split offers refused hand new.dealt now.stats
   counted-looked hand need was now old new fits looks counted =
-      let stats : now.stats ≡ record was.stats { strays = looks.counted.strays } = ap (λ (p : PoolState). p.stats) looks.pool in
+      let others = looks.searches.strays.others in
       record {
-        searches = omega (arith, counted.searches, ap searches_in stats);
-        empty = ap (λ (s : PoolStats). s.empty) stats ∙ counted.empty;
+        searches = omega (arith, counted.searches, ap searches_in others);
+        empty = ap (λ (s : PoolStats). s.empty) others ∙ counted.empty;
         strays = strays-more was.stats now.stats old.dealt new.dealt looks.searches.more counted.strays
-            (ap (λ (v : NicView). v.dealt) looks.searches.view)
-            (subst (IsRaised was.stats.strays (strays_in looks.searches.more)) (sym (ap (λ (s : PoolStats). s.strays) stats))
-            (end-strays looks.result was.stats looks.counted looks.searches.more looks.searches.counts)) fits.strays;
+            (ap (λ (v : NicView). v.dealt) looks.searches.view) looks.searches.strays.strays fits.strays;
       }
 
   module _ (was now : PoolState) (old new : NicView) (o : Offer) (split_is : was.split ≡ split) (fits : AreInType now.stats)
       (counted : AreCounted split offers refused (Some (offered o)) old.dealt was.stats) where
     pub counted-accepted : Accepts was now old new o → AreCounted split offers refused None new.dealt now.stats
     counted-accepted accepts =
-        let look = looked (needed_for was old o) (long_in split (offered o ∷ [])) (needs-long split was old o split_is) was.current was.stats now.stats
-        accepts.flushed accepts.found accepts.how fits accepts.search in
+        let look = looked (needed_for was old o) (long_in split (offered o ∷ [])) (needs-long split was old o split_is) was.current was.ahead
+        was.stats now.stats accepts.flushed accepts.found accepts.how fits accepts.search in
         let before : accepts.flushed.dealt ≡ old.dealt = ap (λ (v : NicView). v.dealt) accepts.flush.view in
         let after : new.dealt ≡ accepts.found.dealt = ap (λ (v : NicView). v.dealt) accepts.placing in
         record {
           searches = omega (arith, counted.searches, look.searches);
-          empty = looked-found _ was.current was.stats now.stats accepts.flushed accepts.found accepts.how accepts.enough accepts.search ∙ counted.empty;
+          empty = looked-found _ was.current was.ahead was.stats now.stats accepts.flushed accepts.found accepts.how accepts.enough accepts.search ∙ counted.empty;
           strays = strays-more was.stats now.stats old.dealt new.dealt look.more counted.strays
               (after ∙ look.dealt ∙ ap (λ ds. ds ++ look.more) before) look.strays fits.strays;
         }
@@ -179,13 +196,14 @@ module _ (split : ℕ) (offers : List Offered) (refused : List ℕ) where
         → AreCounted split offers (refused ++ o.frame ∷ []) None new.dealt now.stats
     counted-refused cached need refuses =
         let wants : 0 < need → 1 ≤ long_in split (offered o ∷ []) = λ some. needs-long split was old o split_is (omega (arith, some, refuses.need_is)) in
-        let look = looked need (long_in split (offered o ∷ [])) wants was.current was.stats now.stats refuses.flushed new (Some empty) fits refuses.search in
+        let look = looked need (long_in split (offered o ∷ [])) wants was.current was.ahead was.stats now.stats refuses.flushed new
+        (Some Empty) fits refuses.search in
         let before : refuses.flushed.dealt ≡ old.dealt = ap (λ (v : NicView). v.dealt) refuses.flush.view in
         let more : length refused + 1 ≡ length (refused ++ o.frame ∷ []) = sym (length-append refused (o.frame ∷ [])) in
         record {
           searches = omega (arith, counted.searches, look.searches);
           empty = raised-capped (length refused) was.stats.empty 1 now.stats.empty counted.empty
-              (looked-empty need was.current was.stats now.stats refuses.flushed new (Some empty) refl refuses.search) fits.empty
+              (looked-empty need was.current was.ahead was.stats now.stats refuses.flushed new (Some Empty) refl refuses.search) fits.empty
               ∙ ap capped more;
           strays = strays-more was.stats now.stats old.dealt new.dealt look.more counted.strays
               (look.dealt ∙ ap (λ ds. ds ++ look.more) before) look.strays fits.strays;

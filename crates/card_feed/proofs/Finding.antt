@@ -4,13 +4,14 @@ use Rattle.std.{proofs.Common.{List, [], ◌∷◌, ◌++◌, length, map, Optio
 use Rattle.std.proofs.lemmas.{Bool.{cases_Bool, leb-false, ne_eqb}, List.Sums.{sum_by-append, sum_by-cons}}
 use Rattle.zr_kinds.specs.declared.{outcome.PoolStats.{PoolStats}, place.Place.{Place}}
 use Rattle.area_layout.specs.Layout.{size_of}
-use Rattle.board_face.specs.{Tokens.{next_start, filled_by}, declared.views.{parts.{Setting.{Setting}, Filling.{Filling}}, nic.{Dealt.{Dealt}, SentNote.{SentNote}}}}
+use Rattle.board_face.specs.{Tokens.{next_start, filled_by}, declared.views.{parts.{Setting.{Setting}, Filling.{Filling}}, nic.SentNote.{SentNote}}}
 use Rattle.board_face.specs.declared.views.nic.NicView.{NicView}
 use Rattle.page_pool.specs.{declared.offer.Offer.{Offer}, Frames.{offered, ShowRest}, Packing.{fits, fresh_parts, fresh as in_fresh}}
-use Rattle.page_pool.specs.{Searching.{SearchEnd, fast, refill, slow, empty, CountsEnd}, Pool.{PoolState, all_notes}}
+use Rattle.page_pool.specs.{Searching.{CountsEnd, joint_end}, Pool.{PoolState, all_notes}}
+use Rattle.page_pool.specs.declared.search_end.SearchEnd.{SearchEnd, TheVariants.{Fast, Refill, Slow, Empty}}
 use Rattle.page_pool.specs.Offer.{payload_of, frame_notes, split_notes, packed, place_of, places_for, needed_for, last_of}
 use Rattle.page_pool.{specs.Offer.{LooksFor, not_needed, searched, Accepts, Refuses}, proofs.{Offering.{packed_into-fresh}, PlacedParts.{next_note}}}
-use Rattle.card_feed.specs.Counts.{found_in, begins_fresh, AreFound}
+use Rattle.card_feed.{specs.Counts.{found_in, begins_fresh, AreFound}, proofs.Counting.{joint-found}}
 
 -- ---- the notes of a frame
 
@@ -80,41 +81,43 @@ more-found was now n more (inl same) (inl then) = inl (omega (arith, same, then)
 more-found was now n more (inr full) (inl then) = inr (omega (arith, full, then))
 more-found was now n more before (inr full) = inr full
 
-end-found : (how : SearchEnd) (was now : PoolStats) (more : List Dealt) → how ≢ empty → CountsEnd how was now more → Found (found_in was + 1) now
-end-found fast was now more found counts = ⊎_elim
-    (λ (one : now.fast ≡ was.fast + 1). inl (omega (arith, one, ap found_in counts.2)))
+end-found : (how : SearchEnd) (was now : PoolStats) → how ≢ Empty → CountsEnd how was now → Found (found_in was + 1) now
+end-found Fast was now found counts = ⊎_elim
+    (λ (one : now.fast ≡ was.fast + 1). inl (omega (arith, one, ap found_in counts.1)))
     (λ (full : (2 ^ 64 - 1 ≤ now.fast) × (2 ^ 64 - 1 ≤ was.fast + 1)). inr (omega (arith, full.0)))
     counts.0
-end-found refill was now more found counts = ⊎_elim
-    (λ (one : now.refill ≡ was.refill + 1). inl (omega (arith, one, ap found_in counts.2)))
+end-found Refill was now found counts = ⊎_elim
+    (λ (one : now.refill ≡ was.refill + 1). inl (omega (arith, one, ap found_in counts.1)))
     (λ (full : (2 ^ 64 - 1 ≤ now.refill) × (2 ^ 64 - 1 ≤ was.refill + 1)). inr (omega (arith, full.0)))
     counts.0
-end-found slow was now more found counts = ⊎_elim
-    (λ (one : now.slow ≡ was.slow + 1). inl (omega (arith, one, ap found_in counts.2)))
+end-found Slow was now found counts = ⊎_elim
+    (λ (one : now.slow ≡ was.slow + 1). inl (omega (arith, one, ap found_in counts.1)))
     (λ (full : (2 ^ 64 - 1 ≤ now.slow) × (2 ^ 64 - 1 ≤ was.slow + 1)). inr (omega (arith, full.0)))
     counts.0
-end-found empty was now more found counts = absurd (found refl)
+end-found Empty was now found counts = absurd (found refl)
 
 -- where none was needed
-looked-none : (need : ℕ) (current : Option Filling) (was now : PoolStats) (old new : NicView) (how : Option SearchEnd)
-    → need ≡ 0 → LooksFor need current was now old new how → found_in now ≡ found_in was
-looked-none need current was now old new _ none (not_needed is stats same) = ap found_in stats
-looked-none need current was now old new _ none (searched begin how some closes searches) = absurd (omega (arith, none, some))
+looked-none : (need : ℕ) (current : Option Filling) (ahead : SearchEnd) (was now : PoolStats) (old new : NicView) (how : Option SearchEnd)
+    → need ≡ 0 → LooksFor need current ahead was now old new how → found_in now ≡ found_in was
+looked-none need current ahead was now old new _ none (not_needed is stats same) = ap found_in stats
+looked-none need current ahead was now old new _ none (searched begin met how some closes searches counts) = absurd (omega (arith, none, some))
 
 -- where some were, and were found
-looked-one : (need : ℕ) (current : Option Filling) (was now : PoolStats) (old new : NicView) (how : Option SearchEnd)
-    → 0 < need → how ≢ Some empty → LooksFor need current was now old new how → Found (found_in was + 1) now
-looked-one need current was now old new _ some found (not_needed is stats same) = absurd (omega (arith, is, some))
-looked-one need current was now old new _ some found (searched begin how wanted closes searches) =
-    end-found how was now searches.more (λ same. found (ap Some same)) searches.counts
+looked-one : (need : ℕ) (current : Option Filling) (ahead : SearchEnd) (was now : PoolStats) (old new : NicView) (how : Option SearchEnd)
+    → 0 < need → how ≢ Some Empty → LooksFor need current ahead was now old new how → Found (found_in was + 1) now
+looked-one need current ahead was now old new _ some found (not_needed is stats same) = absurd (omega (arith, is, some))
+looked-one need current ahead was now old new _ some found (searched begin met how wanted closes searches counts) =
+    subst (λ n. Found (n + 1) now) (ap found_in searches.strays.others)
+    (end-found (joint_end ahead how) met now (joint-found ahead how (λ same. found (ap Some same))) counts)
 
 -- where too few were
-looked-few : (need : ℕ) (current : Option Filling) (was now : PoolStats) (old new : NicView) (how : Option SearchEnd)
-    → how ≡ Some empty → LooksFor need current was now old new how → found_in now ≡ found_in was
-looked-few need current was now old new _ is (not_needed none stats same) = absurd (cc)
-looked-few need current was now old new _ is (searched begin how wanted closes searches) =
-    let same : how ≡ empty = cc in
-    ap found_in (subst (λ end. CountsEnd end was now searches.more) same searches.counts).2
+looked-few : (need : ℕ) (current : Option Filling) (ahead : SearchEnd) (was now : PoolStats) (old new : NicView) (how : Option SearchEnd)
+    → how ≡ Some Empty → LooksFor need current ahead was now old new how → found_in now ≡ found_in was
+looked-few need current ahead was now old new _ is (not_needed none stats same) = absurd (cc)
+looked-few need current ahead was now old new _ is (searched begin met how wanted closes searches counts) =
+    let same : how ≡ Empty = cc in
+    let counted : CountsEnd Empty met now = subst (λ end. CountsEnd (joint_end ahead end) met now) same counts in
+    ap found_in counted.1 ∙ ap found_in searches.strays.others
 
 -- ---- what was found, after each part of a turn
 
@@ -148,7 +151,7 @@ module _ (was now : PoolState) (old new : NicView) (o : Offer) where
   finds-short : nat_le (length (payload_of o)) was.split ≡ true → IsBegun was.current → (accepts : Accepts was now old new o)
       → FindsMore was now (frame_notes was.split o (places_for was old accepts.buffers o))
   finds-short few begun accepts =
-      let same = looked-none (needed_for was old o) was.current was.stats now.stats accepts.flushed accepts.found accepts.how (rw few refl) accepts.search in
+      let same = looked-none (needed_for was old o) was.current was.ahead was.stats now.stats accepts.flushed accepts.found accepts.how (rw few refl) accepts.search in
       rw few (record { searches = inl (omega (arith, same)); used = rw (rw few at accepts.current) begun })
 
   -- in the current buffer
@@ -156,7 +159,7 @@ module _ (was now : PoolState) (old new : NicView) (o : Offer) where
       → fits (packed (Some own)) (length (payload_of o)) ≡ true → 0 < own.start → (accepts : Accepts was now old new o)
       → FindsMore was now (frame_notes was.split o (places_for was old accepts.buffers o))
   finds-current long own is there begun accepts =
-      let same = looked-none (needed_for was old o) was.current was.stats now.stats accepts.flushed accepts.found accepts.how
+      let same = looked-none (needed_for was old o) was.current was.ahead was.stats now.stats accepts.flushed accepts.found accepts.how
       (rw (long, is, there) refl) accepts.search in
       let current : now.current ≡ Some (filled_by own (length (payload_of o))) = rw (long, is, there) at accepts.current in
       rw (long, is, there) (record {
@@ -184,7 +187,7 @@ module _ (was now : PoolState) (old new : NicView) (o : Offer) where
       let needed : 0 < needed_for was old o = omega (arith, accepts.few, many, begins.some) in
       let current : now.current ≡ last_of old.setting accepts.buffers (length (payload_of o)) =
       rw long at accepts.current ∙ packed_into-fresh old.setting was.current accepts.buffers (length (payload_of o)) too_long in
-      let found = looked-one (needed_for was old o) was.current was.stats now.stats accepts.flushed accepts.found accepts.how needed accepts.enough
+      let found = looked-one (needed_for was old o) was.current was.ahead was.stats now.stats accepts.flushed accepts.found accepts.how needed accepts.enough
       accepts.search in
       rw (long, too_long) (record {
         searches = rw begins.one found;
@@ -209,4 +212,4 @@ module _ (was now : PoolState) (old new : NicView) (o : Offer) where
 
   pub found-refused : (cached need : ℕ) → AreFound (all_notes was old) was → Refuses was now old new o cached need → AreFound (all_notes now new) now
   found-refused cached need are refuses = found-closed was now old new (ap (λ (p : PoolState). p.current) refuses.pool)
-      (looked-few need was.current was.stats now.stats refuses.flushed new (Some empty) refl refuses.search) refuses.notes are
+      (looked-few need was.current was.ahead was.stats now.stats refuses.flushed new (Some Empty) refl refuses.search) refuses.notes are

@@ -8,6 +8,7 @@ pub mod OffersRise
 pub mod Settling
 pub mod Counting
 pub mod Finding
+pub mod Sweeping
 pub mod Needing
 pub mod Turning
 pub mod NotesShown

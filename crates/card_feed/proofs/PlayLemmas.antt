@@ -6,10 +6,10 @@ use Rattle.zr_kinds.specs.declared.outcome.PoolStats.{PoolStats}
 use Rattle.board_face.specs.{Looks.{NicRose}, NicCalls.{apps_of}, NicEvents.{nic_gist}, declared.views.{parts.Filling.{Filling}, nic.NicLook.{NicLook}}}
 use Rattle.board_face.specs.declared.views.nic.{NicLook.TheVariants.{RingEmpty, NoteInUse}, PlacedText.{PlacedText}, NicView.{NicView}}
 use Rattle.board_face.proofs.LookLemmas.{NicRose-later, NicRose-before}
-use Rattle.page_pool.specs.{declared.{offer.Offer.{Offer}, pool.{Pending.{Pending}, Short.{Short}}}, Searching.{SearchEnd}, Dealing.{DrainsRings, CountsStrays}}
+use Rattle.page_pool.specs.{declared.{offer.Offer.{Offer}, pool.{Pending.{Pending}, Short.{Short}}, search_end.SearchEnd.{SearchEnd, TheVariants.{Fast}}}, Dealing.{DrainsRings, CountsStrays}}
 use Rattle.page_pool.specs.Pool.{PoolState, PoolStands, HasNonePending, OnlySends, IsNextApp, is_short, is_piece, pending_count, all_notes, short_note, piece_notes}
 use Rattle.page_pool.specs.Offer.{ClosesCurrent, LooksFor, not_needed, searched, Accepts, Refuses}
-use Rattle.card_feed.specs.{declared.intake.Intake.{Intake}, Feed.{card_steps}, Turns.{HasLooked, IsIdle}, Parts.{feed_of}}
+use Rattle.card_feed.specs.{declared.intake.Intake.{Intake}, Feed.{FeedFits, FeedState, card_steps}, Turns.{HasLooked, IsIdle}, Parts.{feed_of}}
 
 -- ---- pending notes
 
@@ -114,18 +114,18 @@ closed-sent : (current : Option Filling) (old new : NicView) → ClosesCurrent c
 closed-sent None old new same = ap (λ (v : NicView). v.sent) same
 closed-sent (Some own) old new closed = ap (λ (v : NicView). v.sent) closed.event
 
-looked-dealt : (need : ℕ) (current : Option Filling) (was now : PoolStats) (old new : NicView) (how : Option SearchEnd)
-    → LooksFor need current was now old new how → length old.dealt ≤ length new.dealt
-looked-dealt need current was now old new _ (not_needed none stats same) = rw same (omega arith)
-looked-dealt need current was now old new _ (searched begin how some closes searches) =
+looked-dealt : (need : ℕ) (current : Option Filling) (ahead : SearchEnd) (was now : PoolStats) (old new : NicView) (how : Option SearchEnd)
+    → LooksFor need current ahead was now old new how → length old.dealt ≤ length new.dealt
+looked-dealt need current ahead was now old new _ (not_needed none stats same) = rw same (omega arith)
+looked-dealt need current ahead was now old new _ (searched begin met how some closes searches counts) =
     let more : length new.dealt ≡ length begin.dealt + length searches.more =
     ap (λ (v : NicView). length v.dealt) searches.view ∙ length-append begin.dealt searches.more in
     omega (arith, more, ap length (closed-dealt current old begin closes))
 
-looked-sent : (need : ℕ) (current : Option Filling) (was now : PoolStats) (old new : NicView) (how : Option SearchEnd)
-    → LooksFor need current was now old new how → new.sent ≡ old.sent
-looked-sent need current was now old new _ (not_needed none stats same) = ap (λ (v : NicView). v.sent) same
-looked-sent need current was now old new _ (searched begin how some closes searches) =
+looked-sent : (need : ℕ) (current : Option Filling) (ahead : SearchEnd) (was now : PoolStats) (old new : NicView) (how : Option SearchEnd)
+    → LooksFor need current ahead was now old new how → new.sent ≡ old.sent
+looked-sent need current ahead was now old new _ (not_needed none stats same) = ap (λ (v : NicView). v.sent) same
+looked-sent need current ahead was now old new _ (searched begin met how some closes searches counts) =
     ap (λ (v : NicView). v.sent) searches.view ∙ closed-sent current old begin closes
 
 module _ (was now : PoolState) (old new : NicView) (o : Offer) (stood : PoolStands was old) where
@@ -136,7 +136,7 @@ module _ (was now : PoolState) (old new : NicView) (o : Offer) (stood : PoolStan
       let sent : length new.sent ≡ length (all_notes was old) + length accepts.more =
       ap length accepts.sent ∙ length-append accepts.flushed.sent accepts.more ∙ ap (λ notes. length notes + length accepts.more) flushed in
       let before : accepts.flushed.dealt ≡ old.dealt = ap (λ (v : NicView). v.dealt) accepts.flush.view in
-      let found = looked-dealt _ _ _ _ accepts.flushed accepts.found accepts.how accepts.search in
+      let found = looked-dealt _ _ _ _ _ accepts.flushed accepts.found accepts.how accepts.search in
       let dealt : new.dealt ≡ accepts.found.dealt = ap (λ (v : NicView). v.dealt) accepts.placing in
       omega (arith, notes, sent, ap length before, found, ap length dealt)
 
@@ -144,9 +144,9 @@ module _ (was now : PoolState) (old new : NicView) (o : Offer) (stood : PoolStan
   refused-steps cached need refuses =
       let notes = notes-count was old stood in
       let flushed : refuses.flushed.sent ≡ all_notes was old = ap (λ (v : NicView). v.sent) refuses.flush.view in
-      let sent : new.sent ≡ all_notes was old = looked-sent _ _ _ _ refuses.flushed new _ refuses.search ∙ flushed in
+      let sent : new.sent ≡ all_notes was old = looked-sent _ _ _ _ _ refuses.flushed new _ refuses.search ∙ flushed in
       let before : refuses.flushed.dealt ≡ old.dealt = ap (λ (v : NicView). v.dealt) refuses.flush.view in
-      let found = looked-dealt _ _ _ _ refuses.flushed new _ refuses.search in
+      let found = looked-dealt _ _ _ _ _ refuses.flushed new _ refuses.search in
       omega (arith, notes, ap length sent, ap length before, found)
 
 -- ---- after closing
@@ -165,3 +165,25 @@ module _ (was now : PoolState) (old new : NicView) (count : ℕ) (drains : Drain
     rings = rings;
     notes = inl is_closed;
   }
+
+-- ---- where no frame is offered
+
+-- what was searched ahead isn't wanted
+pub fits-dropped : (feed : FeedState) (v : NicView) → FeedFits feed v → FeedFits (record feed { pool = record feed.pool { ahead = Fast } }) v
+fits-dropped feed v fits = record {
+  stands = record {
+    owns = fits.stands.owns;
+    pieces = fits.stands.pieces;
+    apps = fits.stands.apps;
+    fields = fits.stands.fields;
+    places = fits.stands.places;
+    short = fits.stands.short;
+    few = fits.stands.few;
+  };
+  apps = fits.apps;
+  on = fits.on;
+  ended = fits.ended;
+  over = fits.over;
+  none = fits.none;
+  sent = λ closed. record { short = (fits.sent closed).short; pieces = (fits.sent closed).pieces };
+}

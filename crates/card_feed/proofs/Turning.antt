@@ -4,17 +4,17 @@ use Rattle.std.{proofs.{Common.{subst, ◌∙◌, ⊎_elim, option_to_list}, lem
 use Rattle.flow_table.specs.{Flows.{Flow, flows_of}, KnownFlows.{KnownFlows}}
 use Rattle.board_face.specs.declared.views.{parts.Filling.{Filling}, nic.{NicLook.{NicLook}, NicView.{NicView}}}
 use Rattle.page_pool.specs.{declared.offer.{Offer.{Offer}, Verdict.{Verdict, TheVariants.{Accepted, NoRoom, Busy}}}, Frames.{offered}, Dealing.{DrainsRings}}
-use Rattle.page_pool.specs.{Searching.{LooksAhead}, Pool.{PoolState, all_notes, OnlySends, Closes}}
+use Rattle.page_pool.specs.{Searching.{LooksAhead}, Pool.{PoolState, all_notes, OnlySends, Closes}, declared.search_end.SearchEnd.TheVariants.{Fast}}
 use Rattle.frames_read.specs.{Ending.{steered_in}, Reading.{EndsAt}}
 use Rattle.card_feed.specs.{declared.{intake.Intake.{Intake}, arrived.Arrived.{Arrived}}, Coming.{Arrives, ComesTo, is_over}}
 use Rattle.card_feed.specs.{Offered.{offers_of, offer_next, AreSettled, WantsRoom}, Hand.{at_hand}, declared.intake.Route.{Route}}
 use Rattle.card_feed.specs.{Intake.{Knows, OnlyOpens, TakesIn, IsReadable, IsTimely, counts_as}, Feed.{FeedState, FeedKnows, FeedStands, WantsRecord}}
 use Rattle.card_feed.specs.Turns.{ReadsOne, OnlyReads, MayArrive, Receives, Settles, FeedPlays, drains, offers, finishes, rests, KeepsUp, IsAwaiting}
-use Rattle.card_feed.specs.{Turns.{FeedSteps, FeedTurns, HasLooked}, Parts.{feed_of}, Counts.{AreCounted, AreFound, found_in}, Need.{AreNeeded}}
+use Rattle.card_feed.specs.{Turns.{FeedSteps, FeedTurns, HasLooked}, Parts.{feed_of}, Counts.{AreCounted, AreFound, HaveSwept, found_in}, Need.{AreNeeded}}
 use Rattle.card_feed.proofs.OffersRise.{RiseFrom, offers-rise, offers-more}
 use Rattle.card_feed.proofs.Needing.{AreUnused, unused-trans, sends-unused, drains-unused, closes-unused, needed-read, needed-accepted}
 use Rattle.card_feed.proofs.{Needing.{needed-refused, needed-same, keeps-setting}, Settling.{hand-last, next-last, settled-read, settled-accepted, settled-refused}}
-use Rattle.card_feed.proofs.Finding.{found-same, found-closed, found-accepted, found-refused}
+use Rattle.card_feed.proofs.{Sweeping.{keeps_up-swept, plays-swept, prepared-swept}, Finding.{found-same, found-closed, found-accepted, found-refused}}
 use Rattle.card_feed.proofs.Counting.{AreInType, counted-read, counted-same, counted-drained, counted-looked, counted-accepted, counted-refused, closes-dealt}
 use Rattle.card_feed.specs.declared.arrived.Arrived.TheVariants as arrived
 
@@ -50,9 +50,9 @@ module _ (ports : List ℕ) (split : ℕ) where
       → AreSettled split (offers_of (steered_in ports frames)) now.refused now.at_hand (all_notes now.pool new)
       → AreCounted split (offers_of (steered_in ports frames)) now.refused now.at_hand new.dealt now.pool.stats
       → AreNeeded new.setting.layout split (offers_of (steered_in ports frames)) now.refused now.at_hand (all_notes now.pool new) new.used
-      → AreFound (all_notes now.pool new) now.pool
+      → AreFound (all_notes now.pool new) now.pool → HaveSwept now.pool new
       → FeedKnows ports split frames now new
-  settles-feed frames was now old new stands same_ports same_tally same_flows same_split settled counted needed found = record {
+  settles-feed frames was now old new stands same_ports same_tally same_flows same_split settled counted needed found swept = record {
     ports_are = same_ports ∙ stands.ports_are;
     split_is = same_split ∙ stands.split_is;
     tally_is = same_tally ∙ stands.tally_is;
@@ -61,22 +61,23 @@ module _ (ports : List ℕ) (split : ℕ) where
     counted = counted;
     needed = needed;
     found = found;
+    swept = swept;
   }
 
   same-settled : (frames : List (List ℕ)) (was now : FeedState) (old new : NicView)
       → FeedKnows ports split frames was old
       → now ≡ record was { pool = now.pool } → now.pool.split ≡ was.pool.split → all_notes now.pool new ≡ all_notes was.pool old
       → now.pool.current ≡ was.pool.current → found_in now.pool.stats ≡ found_in was.pool.stats → AreUnused old new
-      → AreCounted split (offers_of (steered_in ports frames)) was.refused was.at_hand new.dealt now.pool.stats
+      → AreCounted split (offers_of (steered_in ports frames)) was.refused was.at_hand new.dealt now.pool.stats → HaveSwept now.pool new
       → FeedKnows ports split frames now new
-  same-settled frames was now old new stands same split_same notes current_same found_same unused counted =
+  same-settled frames was now old new stands same split_same notes current_same found_same unused counted swept =
       settles-feed frames was now old new stands (ap (λ (f : FeedState). f.ports) same)
       (ap (λ (f : FeedState). f.tally) same) (ap (λ (f : FeedState). f.flows) same) split_same
       (rw (ap (λ (f : FeedState). f.refused) same, ap (λ (f : FeedState). f.at_hand) same, notes) stands.settled)
       (rw (ap (λ (f : FeedState). f.refused) same, ap (λ (f : FeedState). f.at_hand) same) counted)
       (rw (ap (λ (f : FeedState). f.refused) same, ap (λ (f : FeedState). f.at_hand) same)
       (needed-same split (offers_of (steered_in ports frames)) was.refused was.at_hand was.pool now.pool old new notes unused stands.needed))
-      (found-same was.pool now.pool old new current_same found_same notes stands.found)
+      (found-same was.pool now.pool old new current_same found_same notes stands.found) swept
 
   -- notes were sent, and the rings drained
   drained-counted : (frames : List (List ℕ)) (was now : FeedState) (pool : PoolState) (old mid new : NicView) (count : ℕ)
@@ -91,8 +92,8 @@ module _ (ports : List ℕ) (split : ℕ) where
   -- the frame at hand
   settled-by : (frames : List (List ℕ)) (was now : FeedState) (old new : NicView) (o : Offer) (verdict : Verdict)
       → AreInType now.pool.stats → was.at_hand ≡ Some (offered o) → Settles was now old new o verdict
-      → FeedKnows ports split frames was old → FeedKnows ports split frames now new
-  settled-by frames was now old new o Accepted fits here (accepts, same) stands =
+      → FeedKnows ports split frames was old → HaveSwept now.pool new → FeedKnows ports split frames now new
+  settled-by frames was now old new o Accepted fits here (accepts, same) stands swept =
       settles-feed frames was now old new stands (ap (λ (f : FeedState). f.ports) same)
       (ap (λ (f : FeedState). f.tally) same) (ap (λ (f : FeedState). f.flows) same) accepts.split
       (rw (ap (λ (f : FeedState). f.refused) same, ap (λ (f : FeedState). f.at_hand) same)
@@ -104,8 +105,8 @@ module _ (ports : List ℕ) (split : ℕ) where
       (rw (ap (λ (f : FeedState). f.refused) same, ap (λ (f : FeedState). f.at_hand) same, keeps-setting was.pool now.pool old new o Accepted accepts)
       (needed-accepted old.setting.layout split (offers_of (steered_in ports frames)) was.refused was.pool now.pool old new o stands.split_is refl
       (rw here at stands.needed) accepts))
-      (found-accepted was.pool now.pool old new o stands.found accepts)
-  settled-by frames was now old new o (NoRoom cached need) fits here (refuses, same) stands =
+      (found-accepted was.pool now.pool old new o stands.found accepts) swept
+  settled-by frames was now old new o (NoRoom cached need) fits here (refuses, same) stands swept =
       let settled : AreSettled split (offers_of (steered_in ports frames)) was.refused (Some (offered o)) (all_notes was.pool old) =
       rw here at stands.settled in
       let last = hand-last split (offers_of (steered_in ports frames)) was.refused (offered o) (all_notes was.pool old) (offers-rise ports frames) settled in
@@ -124,8 +125,8 @@ module _ (ports : List ℕ) (split : ℕ) where
       )
       (needed-refused old.setting.layout split (offers_of (steered_in ports frames)) was.refused was.pool now.pool old new o stands.split_is refl
       (rw here at stands.needed) cached need settled.settled settled.awaits last.0 last.1 refuses))
-      (found-refused was.pool now.pool old new o cached need stands.found refuses)
-  settled-by frames was now old new o Busy fits here (pool, mid, count, puts_off, drained, same) stands =
+      (found-refused was.pool now.pool old new o cached need stands.found refuses) swept
+  settled-by frames was now old new o Busy fits here (pool, mid, count, puts_off, drained, same) stands swept =
       let pool_is : now.pool ≡ record pool { stats = now.pool.stats } = ap (λ (f : FeedState). f.pool) same in
       same-settled frames was now old new stands
       (same ∙ sym (ap (λ p. record was { pool = p }) pool_is))
@@ -134,7 +135,7 @@ module _ (ports : List ℕ) (split : ℕ) where
       (ap (λ (p : PoolState). p.current) pool_is ∙ ap (λ (p : PoolState). p.current) puts_off.sends.pool)
       (drained-found pool now.pool mid new count drained ∙ ap (λ (p : PoolState). found_in p.stats) puts_off.sends.pool)
       (unused-trans old mid new (sends-unused was.pool pool old mid puts_off.sends) (drains-unused pool now.pool mid new count drained))
-      (drained-counted frames was now pool old mid new count fits puts_off.sends drained stands.counted)
+      (drained-counted frames was now pool old mid new count fits puts_off.sends drained stands.counted) swept
 
   pub played : (frames : List (List ℕ)) (was now : FeedState) (old new : NicView) → AreInType now.pool.stats → FeedPlays was now old new
       → FeedKnows ports split frames was old → FeedKnows ports split frames now new
@@ -145,9 +146,10 @@ module _ (ports : List ℕ) (split : ℕ) where
       (ap (λ (p : PoolState). p.current) pool_is) (drained-found was.pool now.pool old new count drained)
       (drains-unused was.pool now.pool old new count drained)
       (counted-drained split (offers_of (steered_in ports frames)) was.refused was.at_hand was.pool.stats now.pool.stats old new count fits drained
-      stands.counted)
+      stands.counted) (plays-swept was now old new fits (drains closed count drained same) stands.swept)
   played frames was now old new fits (offers on o here by) stands =
       settled-by frames was now old new by.offer by.verdict fits (here ∙ ap Some (sym by.is)) by.settles stands
+      (plays-swept was now old new fits (offers on o here by) stands.swept)
   played frames was now old new fits (finishes on none over (pool, mid, sends, inl (sent, closes, same))) stands =
       let pool_is : now.pool ≡ record pool { current = None } = ap (λ (f : FeedState). f.pool) same in
       let notes : all_notes now.pool new ≡ all_notes was.pool old = ap (λ p. all_notes p new) pool_is ∙ closed-notes pool mid new closes ∙ sends.notes in
@@ -164,6 +166,7 @@ module _ (ports : List ℕ) (split : ℕ) where
       (unused-trans old mid new (sends-unused was.pool pool old mid sends) (closes-unused pool.current mid new closes)) stands.needed))
       (found-closed was.pool now.pool old new (ap (λ (p : PoolState). p.current) pool_is)
       (ap (λ (p : PoolState). found_in p.stats) pool_is ∙ ap (λ (p : PoolState). found_in p.stats) sends.pool) notes stands.found)
+      (plays-swept was now old new fits (finishes on none over (pool, mid, sends, inl (sent, closes, same))) stands.swept)
   played frames was now old new fits (finishes on none over (pool, mid, sends, inr (waits, (count, drained, same)))) stands =
       let pool_is : now.pool ≡ record pool { stats = now.pool.stats } = ap (λ (f : FeedState). f.pool) same in
       same-settled frames was now old new stands (same ∙ sym (ap (λ p. record was { pool = p }) pool_is))
@@ -173,7 +176,16 @@ module _ (ports : List ℕ) (split : ℕ) where
       (drained-found pool now.pool mid new count drained ∙ ap (λ (p : PoolState). found_in p.stats) sends.pool)
       (unused-trans old mid new (sends-unused was.pool pool old mid sends) (drains-unused pool now.pool mid new count drained))
       (drained-counted frames was now pool old mid new count fits sends drained stands.counted)
-  played frames was now old new fits (rests on none goes same still) stands = rw (same, still) stands
+      (plays-swept was now old new fits (finishes on none over (pool, mid, sends, inr (waits, (count, drained, same)))) stands.swept)
+  played frames was now old new fits (rests on none goes same still) stands =
+      let pool_is : now.pool ≡ record was.pool { ahead = Fast } = ap (λ (f : FeedState). f.pool) same in
+      same-settled frames was now old new stands (same ∙ sym (ap (λ p. record was { pool = p }) pool_is))
+      (ap (λ (p : PoolState). p.split) pool_is) (rw (still, pool_is) refl) (ap (λ (p : PoolState). p.current) pool_is)
+      (ap (λ (p : PoolState). found_in p.stats) pool_is)
+      (record { used = ap (λ (v : NicView). v.used) still; setting = ap (λ (v : NicView). v.setting) still })
+      (counted-same split (offers_of (steered_in ports frames)) was.refused was.at_hand was.pool.stats now.pool.stats old.dealt new.dealt
+      (ap (λ (p : PoolState). p.stats) pool_is) (ap (λ (v : NicView). v.dealt) still) stands.counted)
+      (plays-swept was now old new fits (rests on none goes same still) stands.swept)
 
   -- pending notes were sent, and the rings drained
   pub kept-up : (frames : List (List ℕ)) (was now : FeedState) (old new : NicView) → AreInType now.pool.stats → KeepsUp was now old new
@@ -188,6 +200,7 @@ module _ (ports : List ℕ) (split : ℕ) where
       (drained-found pool now.pool mid new count drained ∙ ap (λ (p : PoolState). found_in p.stats) sends.pool)
       (unused-trans old mid new (sends-unused was.pool pool old mid sends) (drains-unused pool now.pool mid new count drained))
       (drained-counted frames was now pool old mid new count fits sends drained stands.counted)
+      (keeps_up-swept was now old new (pool, mid, sends, until, (count, drained, same)) stands.swept)
 
   -- it looked for buffers
   pub prepared : (frames : List (List ℕ)) (need : ℕ) (was now : FeedState) (old new : NicView) → AreInType now.pool.stats
@@ -195,9 +208,10 @@ module _ (ports : List ℕ) (split : ℕ) where
       → FeedKnows ports split frames was old → FeedKnows ports split frames now new
   prepared frames need was now old new fits looks same stands =
       same-settled frames was now old new stands same (ap (λ (p : PoolState). p.split) looks.pool) (rw (looks.searches.view, looks.pool) refl)
-      (ap (λ (p : PoolState). p.current) looks.pool) (ap (λ (p : PoolState). found_in p.stats) looks.pool)
+      (ap (λ (p : PoolState). p.current) looks.pool) (ap found_in looks.searches.strays.others)
       (record { used = ap (λ (v : NicView). v.used) looks.searches.view; setting = ap (λ (v : NicView). v.setting) looks.searches.view })
       (counted-looked split (offers_of (steered_in ports frames)) was.refused was.at_hand need was.pool now.pool old new fits looks stands.counted)
+      (prepared-swept need was.pool now.pool old new looks stands.swept)
 
 -- ---- the stage stays
 
@@ -250,6 +264,7 @@ module _ (ports : List ℕ) (split : ℕ) (frames : List (List ℕ)) (was : Inta
         counted = rw (refused, hand) (rw none at knows.counted);
         needed = rw (refused, hand) (rw none at knows.needed);
         found = knows.found;
+        swept = knows.swept;
       }
 
   one-more : (now : Intake) (frame : List ℕ) → was.hand ≡ None → now.refused.items ≡ was.refused.items → now.table.ports ≡ was.table.ports
@@ -273,6 +288,7 @@ module _ (ports : List ℕ) (split : ℕ) (frames : List (List ℕ)) (was : Inta
         (rw none at knows.settled))
         (rw none at knows.needed));
     found = knows.found;
+    swept = knows.swept;
   }
 
   pub received : (now : Intake) (came : Arrived) → pool.split ≡ was.split → now.refused.items ≡ was.refused.items → now.table.ports ≡ was.table.ports

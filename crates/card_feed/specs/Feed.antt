@@ -5,7 +5,7 @@ use Rattle.flow_table.specs.Flows.{Flow, flows_of}
 use Rattle.board_face.specs.{NicCalls.{apps_of, IsOpen}, declared.views.nic.NicView.{NicView}}
 use Rattle.page_pool.specs.{Frames.{Offered}, Pool.{PoolState, PoolStands, HasNonePending, pending_count, all_notes, new_pool}}
 use Rattle.frames_read.specs.{Ending.{steered_in}, Tally.{tally_of, no_tally}}
-use Rattle.card_feed.specs.{declared.intake.Stage.{Stage}, Coming.{ComesTo, is_over}, Offered.{offers_of, AreSettled, WantsRoom}, Counts.{AreCounted, AreFound}}
+use Rattle.card_feed.specs.{declared.intake.Stage.{Stage}, Coming.{ComesTo, is_over}, Offered.{offers_of, AreSettled, WantsRoom}, Counts.{AreCounted, AreFound, HaveSwept}}
 use Rattle.card_feed.specs.Need.{AreNeeded}
 use Rattle.card_feed.specs.declared.intake.Stage.TheVariants as stage
 
@@ -73,6 +73,7 @@ pub record FeedKnows (ports : List ℕ) (split : ℕ) (frames : List (List ℕ))
   pub counted : AreCounted split (offers_of (steered_in ports frames)) feed.refused feed.at_hand v.dealt feed.pool.stats
   pub needed : AreNeeded v.setting.layout split (offers_of (steered_in ports frames)) feed.refused feed.at_hand (all_notes feed.pool v) v.used
   pub found : AreFound (all_notes feed.pool v) feed.pool
+  pub swept : HaveSwept feed.pool v
 
 -- And they were read since the source was as at first.
 pub record FeedStands {S : Type 0} (left : S → Option (List ℕ)) (faults : S → ℕ) (first now : S) (ports : List ℕ) (split : ℕ)

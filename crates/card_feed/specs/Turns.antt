@@ -5,6 +5,7 @@ use Rattle.board_face.specs.{Looks.{NicRose}, NicCalls.{apps_of}, NicEvents.{nic
 use Rattle.board_face.specs.declared.views.nic.NicView.{NicView}
 use Rattle.page_pool.specs.{declared.offer.{Offer.{Offer}, Verdict.{Verdict, TheVariants.{Accepted, NoRoom, Busy}}}, Frames.{Offered, offered}}
 use Rattle.page_pool.specs.{Dealing.{DrainsRings, CountsStrays}, Pool.{PoolState, HasNonePending, IsNextApp, OnlySends, Closes}, Offer.{Offers}}
+use Rattle.page_pool.specs.declared.search_end.SearchEnd.TheVariants.{Fast}
 use Rattle.frames_read.specs.{Ending.{ending_at}, Reading.{EndsAt}}
 use Rattle.card_feed.specs.{declared.arrived.Arrived.{Arrived}, Coming.{is_over}, Offered.{WantsRoom, offer_next}, Feed.{FeedState, FeedKnows, FeedStands, WantsRecord}}
 use Rattle.card_feed.specs.declared.arrived.Arrived.TheVariants as arrived
@@ -87,7 +88,9 @@ pub data FeedPlays (was now : FeedState) (old new : NicView) : Type 0 where
       → now ≡ record was { pool = record was.pool { stats = now.pool.stats } } → FeedPlays was now old new
   offers : was.closed ≡ false → (o : Offered) → was.at_hand ≡ Some o → OffersHand was now old new o → FeedPlays was now old new
   finishes : was.closed ≡ false → was.at_hand ≡ None → is_over was.stage ≡ true → Finishes was now old new → FeedPlays was now old new
-  rests : was.closed ≡ false → was.at_hand ≡ None → is_over was.stage ≡ false → now ≡ was → new ≡ old → FeedPlays was now old new
+  -- what was searched ahead was for a frame that isn't offered
+  rests : was.closed ≡ false → was.at_hand ≡ None → is_over was.stage ≡ false → now ≡ record was { pool = record was.pool { ahead = Fast } }
+      → new ≡ old → FeedPlays was now old new
 
 -- A turn: a record is read where one is wanted, and then the rest is done.
 pub record FeedTurns {S : Type 0} (left : S → Option (List ℕ)) (faults : S → ℕ) (first source : S) (ports : List ℕ) (split : ℕ)

@@ -172,6 +172,9 @@ pub fn play<F: NicFace>(
     match intake.hand {
         Some(route) => offer_hand(intake, route, pool, face),
         None if intake.is_over() => finish(pool, closed, face),
-        None => false,
+        None => {
+            pool.drop_search();
+            false
+        }
     }
 }

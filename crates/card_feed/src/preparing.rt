@@ -36,8 +36,8 @@ impl Feed {
     }
 }
 
-/// Looks for so many fresh buffers, for a frame that is to be offered, and answers whether so many are cached. Nothing is offered
-/// or sent, and the search isn't counted.
+/// Looks for so many fresh buffers, for the frame that comes next, and answers whether so many are cached. Nothing is offered or
+/// sent. The search is that frame's: it is counted as one with the frame's own where it is offered and needs fresh buffers.
 pub fn nic_prepare<F: NicFace>(feed: &mut Feed, face: &mut F, needed: u32) -> bool
     requires ready { IsReady feed.old (F.seen face.old) }
     requires few { needed ≤ 64 }

@@ -301,17 +301,28 @@ fn value_behind<'a>(name: &'a str, word: Option<&&'a str>) -> Result<&'a str, Wr
     }
 }
 
-/// What is wrong with the words behind `make`.
+/// What is wrong with the words behind `make`. Behind a word `--` all are numbers.
 fn wrong_make<'a>(words: &[&'a str]) -> Option<Wrong<'a>> {
-    if let Some(word) = words.iter().copied().find(|word| is_dashed(word)) {
-        return Some(Wrong::OfNoOptions(word));
+    match words.iter().copied().find(|word| is_dashed(word)) {
+        Some("--") | None => {}
+        Some(word) => return Some(Wrong::OfNoOptions(word)),
     }
     match words {
-        [seed, frames] => wrong_number(seed, u32::MAX, "a seed from 0 to 4294967295").or(
-            wrong_number(frames, MOST_FRAMES, "0 to 1000000 frames"),
-        ),
+        ["--", seed, frames] | [seed, "--", frames] | [seed, frames, "--"] => {
+            wrong_numbers(seed, frames)
+        }
+        ["--", _] | [_, "--"] => Some(Wrong::NotTwoNumbers),
+        [seed, frames] => wrong_numbers(seed, frames),
         _ => Some(Wrong::NotTwoNumbers),
     }
+}
+
+fn wrong_numbers<'a>(seed: &'a str, frames: &'a str) -> Option<Wrong<'a>> {
+    wrong_number(seed, u32::MAX, "a seed from 0 to 4294967295").or(wrong_number(
+        frames,
+        MOST_FRAMES,
+        "0 to 1000000 frames",
+    ))
 }
 
 fn wrong_number<'a>(value: &'a str, most: u32, range: &'static str) -> Option<Wrong<'a>> {

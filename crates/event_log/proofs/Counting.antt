@@ -9,9 +9,8 @@ use Rattle.run_records.proofs.Weighing.{one_if, weight-length}
 use Rattle.run_records.specs.declared.holding.Holding.TheVariants as holding
 use Rattle.board_face.specs.Holders.{Kind, own, piece, sent, held, spare, loan, owed, returning, holders_of, on_way, making_places, returning_count}
 use Rattle.board_face.specs.{Counts.{is_user as is_user_kind}, Laws.{AllSides, pool_of, user_of}, Places.{kind_place, filled_places, places_of, ends_behind}}
-use Rattle.board_face.specs.declared.views.{nic.NicSide.{NicSide}, app.AppSide.{AppSide}}
+use Rattle.board_face.{specs.declared.views.{nic.NicSide.{NicSide}, app.AppSide.{AppSide}}, proofs.Parts.{nic_count, app_count, pool_count-parts, count-tally}}
 use Rattle.board_face.proofs.Tallies.{weight as one, tally, total, tally-append, tally-flat, total-agree, total-le}
-use Rattle.board_face.proofs.Parts.{nic_count, app_count, pool_count-parts, count-tally}
 use Rattle.event_log.specs.{IsLogged.{AreSound, NoneReturns, run_of}, Plain.{SameHoldings, plain_holders, weight}}
 use Rattle.event_log.proofs.{Parts.{card_weight, app_weight, kind_weight, weight-kinds, weight-parts}, Settings.{total-same}, Weighing.{weight-among}}
 

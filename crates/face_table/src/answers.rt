@@ -8,7 +8,7 @@ use zr_kinds::{Note, Place};
 pub const TEXT_ROOM: usize = 8;
 
 /// A few bytes that are placed, sent, stored or read: the first `len` of `bytes`. The others are 0.
-#[derive(Clone, Copy, Debug, PartialEq, Eq)]
+#[derive(Clone, Copy, PartialEq, Eq)]
 pub struct Text {
     pub len: usize,
     pub bytes: [u8; TEXT_ROOM],
@@ -35,7 +35,7 @@ impl Text {
 }
 
 /// What a call of the table answered.
-#[derive(Clone, Copy, Debug, PartialEq, Eq)]
+#[derive(Clone, Copy, PartialEq, Eq)]
 pub enum Answer {
     /// The call was not made: the hand doesn't show that it may be.
     Skipped,

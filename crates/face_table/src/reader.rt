@@ -5,7 +5,7 @@ ghost use Rattle.face_table.specs.Reader.{ReadsOf, HasNothing, Serves, Stopped};
 use board_face::{AppFace, Loan, Polled};
 
 /// Why `serve` stopped.
-#[derive(Clone, Copy, Debug, PartialEq, Eq)]
+#[derive(Clone, Copy, PartialEq, Eq)]
 pub enum Served {
     /// It took as many notes as it was to take.
     All,

@@ -1,6 +1,6 @@
 //! The shelf.
-ghost use Rattle.std.specs.{Prelude.{◌≡◌, ℕ, ◌≢◌, None, IfOk, MatchResult}, Io.KnownBytes.{Keeps}};
-ghost use Rattle.zr_io.specs.{Moved.{AddsPiece, HasCause}, Memory.{raised}};
+ghost use Rattle.std.specs.{Prelude.{◌≡◌, ℕ, ◌≢◌, None, length, IfOk, MatchResult}, Io.KnownBytes.{Keeps}};
+ghost use Rattle.zr_io.specs.{Moved.{AddsPiece, CountsPiece, HasCause, raised_by}, Memory.{raised}};
 
 use crate::files::FlowFiles;
 use std::alloc::AllocError;
@@ -21,8 +21,8 @@ pub struct Lost {
 
 /// Keeps flow n in the file `flow-n.bin` of the current folder, for n up to 65,535. The file is made anew at the flow's first
 /// append. What is appended is gathered, up to so many bytes of each open file, and written as there is more, as the file is
-/// closed, and at `flush`. It tells no bytes, and counts the errors of the system and of memory; an append to a flow from 65,536
-/// on counts as one.
+/// closed, and at `flush`. It tells no bytes, and counts the errors of the system and of memory, and the bytes of the appends that
+/// went well; an append to a flow from 65,536 on counts as an error.
 #[derive(Drop)]
 pub struct FileShelf<'a, R: Files + AllocGlobal> {
     rt: R,
@@ -31,14 +31,15 @@ pub struct FileShelf<'a, R: Files + AllocGlobal> {
     flows: &'a AtomicU64,
     lost: Option<Lost>,
     faults: u64,
+    appended: u64,
 }
 
 impl<'a, R: Files + AllocGlobal> Model for FileShelf<'a, R> {
-    ghost use Rattle.std.specs.Prelude.{ℕ};
+    ghost use Rattle.zr_io.specs.Moved.{ShelfCounts};
 
-    ghost Value = { ℕ };
+    ghost Value = { ShelfCounts };
 
-    ghost view = { λ s. s.faults };
+    ghost view = { λ s. record { faults = s.faults; appended = s.appended } };
 }
 
 impl<'a, R: Files + AllocGlobal + Drop> FileShelf<'a, R> {
@@ -51,7 +52,7 @@ impl<'a, R: Files + AllocGlobal + Drop> FileShelf<'a, R> {
         gathered: usize,
         flows: &'a AtomicU64,
     ) -> Result<FileShelf<'a, R>, AllocError>
-        ensures { IfOk result (λ s. s ≡ 0) }
+        ensures { IfOk result (λ s. s ≡ record { faults = 0; appended = 0 }) }
     {
         let files = FlowFiles::new(&rt, most, gathered)?;
         Ok(FileShelf {
@@ -60,6 +61,7 @@ impl<'a, R: Files + AllocGlobal + Drop> FileShelf<'a, R> {
             flows,
             lost: None,
             faults: 0,
+            appended: 0,
         })
     }
 
@@ -72,8 +74,8 @@ impl<'a, R: Files + AllocGlobal + Drop> FileShelf<'a, R> {
 impl<R: Files + AllocGlobal> FileShelf<'_, R> {
     /// Counts what failed.
     fn count<V>(&mut self, outcome: Result<V, Lost>) -> Result<V, Failed>
-        ensures cause { HasCause self.old self.new result }
-        ensures after { MatchResult result (λ _. self.new ≡ self.old) (λ _. self.new ≡ raised self.old) }
+        ensures cause { HasCause self.old.faults self.new.faults result }
+        ensures after { MatchResult result (λ _. self.new ≡ self.old) (λ _. self.new ≡ record self.old { faults = raised self.old.faults }) }
     {
         match outcome {
             Ok(value) => Ok(value),
@@ -89,27 +91,32 @@ impl<R: Files + AllocGlobal> FileShelf<'_, R> {
 impl<R: Files + AllocGlobal> Shelf for FileShelf<'_, R> {
     ghost kept = { λ _ _. None };
 
-    ghost faults = { λ s. s };
+    ghost counts = { λ s. s };
 
     fn append(&mut self, flow: u32, piece: &[u8]) -> Result<(), Failed>
         ensures bytes { AddsPiece None None result piece.now }
         ensures others { (other : ℕ) → other ≢ flow → Keeps None None }
-        ensures cause { HasCause self.old self.new result }
+        ensures cause { HasCause self.old.faults self.new.faults result }
+        ensures counted { CountsPiece self.old.appended self.new.appended result piece.now }
 
-        ensures after { MatchResult result (λ _. self.new ≡ self.old) (λ _. self.new ≡ raised self.old) }
+        ensures after { MatchResult result
+            (λ _. self.new ≡ record self.old { appended = raised_by self.old.appended (length piece.now) })
+            (λ _. self.new ≡ record self.old { faults = raised self.old.faults }) }
     {
         let added = self.files.add(&self.rt, flow, piece);
         let made = self.count(added)?;
         self.flows.fetch_add(u64::from(made), Ordering::SeqCst);
+        self.appended = self.appended.saturating_add(piece.len() as u64);
         Ok(())
     }
 
     /// Writes what is gathered, and closes all files. Where that fails at several, it is one fault.
     fn flush(&mut self) -> Result<(), Failed>
         ensures bytes { (flow : ℕ) → Keeps None None }
-        ensures cause { HasCause self.old self.new result }
+        ensures cause { HasCause self.old.faults self.new.faults result }
+        ensures counted { self.new.appended ≡ self.old.appended }
 
-        ensures after { MatchResult result (λ _. self.new ≡ self.old) (λ _. self.new ≡ raised self.old) }
+        ensures after { MatchResult result (λ _. self.new ≡ self.old) (λ _. self.new ≡ record self.old { faults = raised self.old.faults }) }
     {
         let closed = self.files.close_all();
         self.count(closed)

@@ -2,9 +2,8 @@
 use Rattle.std.proofs.Common.{◌≡◌, ℕ, zero, suc, ◌+◌, ◌-◌, ◌<◌, ◌≤◌, true, false, List, [], ◌∷◌, ◌++◌, Some, length, take, drop, refl}
 use Rattle.std.{proofs.{Common.{sym, ap, subst, ◌∙◌, arith, ⊎_elim, inl, append_assoc, length-append}, lemmas.Bool.{cases_Bool}}, specs.Prelude.{MatchBool, slice_get}}
 use Rattle.zr_kinds.specs.CopyingReceiver.{value_at}
-use Rattle.board_face.specs.{Texts.{further}, AppEvents.{has_read, loan_origin, reads_with}, declared.views.app.Origin.{Origin}}
+use Rattle.board_face.specs.{Texts.{further}, AppEvents.{has_read, loan_origin, reads_with}, declared.views.app.{Origin.{Origin}, Reading.{Reading}, AppView.{AppView}}}
 use Rattle.board_face.specs.{declared.views.app.{Origin.TheVariants.{Note as of_note, Copied as of_copy}, TakenNote.{TakenNote}}, AppCalls.{ShowsCopy}}
-use Rattle.board_face.specs.declared.views.app.{Reading.{Reading}, AppView.{AppView}}
 use Rattle.flow_queues.specs.{declared.queues.Lending.{Lending}, Marks.{Mark, marks_from}, Core.{IsIn, LieApart, lent_piece, origin_in, IsReadAt, AreReadAt}}
 use Rattle.flow_queues.proofs.{Tokens.{in-right, loan-origin}, NotesStay.{note-there}}
 

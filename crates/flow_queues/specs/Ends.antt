@@ -3,7 +3,7 @@
 use Rattle.std.specs.Prelude.{◌≡◌, ◌≢◌, ℕ, ◌+◌, ◌*◌, ◌<◌, ◌≤◌, ◌==◌, true, if◌then◌else◌, List, [], ◌∷◌, length, take, drop, Option}
 use Rattle.zr_kinds.specs.declared.behaviour.{Behaviour.{Behaviour}, Stopped.{Stopped}}
 use Rattle.zr_kinds.specs.declared.behaviour.Stopped.TheVariants as stop
-use Rattle.zr_io.specs.Moved.{Gained, Rose}
+use Rattle.zr_io.specs.Moved.{Gained, Rose, ShelfCounts, raised_by}
 use Rattle.board_face.specs.declared.views.app.AppView.{AppView}
 use Rattle.flow_queues.specs.{declared.queues.FlowQueue.{FlowQueue}, Marks.{FramesStandTogether, marks_of}, Core.{total, Each, own_notes, most_at_once}}
 use Rattle.flow_queues.specs.{Shelves.{AreOfOneLoan}, Totals.{Quits, capped, lent_len, loan_entries, raw_entries, taken_len}, Streams.{HasAll, HasFronts}}
@@ -32,8 +32,7 @@ pub record IsCounted (stopped : Stopped) (count : ℕ) (bytes : List ℕ) : Type
   pub at_least : count ≤ length bytes
 
 -- A flow of an application whose shelf failed at the flow `torn`. All of what another gained is counted. Of that flow there may
--- be up to 4,096 bytes more than are counted, all of one loan, which no entry gave back. An append that went well may be
--- among them.
+-- be up to 4,096 bytes more than are counted, all of one loan, which no entry gave back.
 pub record IsTorn (v : AppView) (torn number count : ℕ) (bytes : List ℕ) : Type 0 where
   pub exact : number ≢ torn → count ≡ length bytes
   pub at_once : length bytes ≤ count + most_at_once
@@ -44,9 +43,9 @@ pub record IsTornAtOne (first kept : ℕ → Option (List ℕ)) (v : AppView) (f
   pub torn : ℕ
   pub each : (number : ℕ) → Gained (first number) (kept number) (IsTorn v torn number (bytes_in number flows))
 
--- An application that behaves so has left with this. Its shelf had `first` before and has `kept` now, and its count of faults was
--- `losses` and is `losses_now`.
-pub record HasLeft (how : Behaviour) (first kept : ℕ → Option (List ℕ)) (losses losses_now : ℕ) (v : AppView) (end : AppEnd) : Type 0 where
+-- An application that behaves so has left with this. Its shelf had `first` before and has `kept` now, and its counts were `losses`
+-- and are `losses_now`.
+pub record HasLeft (how : Behaviour) (first kept : ℕ → Option (List ℕ)) (losses losses_now : ShelfCounts) (v : AppView) (end : AppEnd) : Type 0 where
   -- it has left, and no loan is out
   pub left : v.left ≡ true
   pub none_out : v.loans ≡ []
@@ -68,11 +67,13 @@ pub record HasLeft (how : Behaviour) (first kept : ℕ → Option (List ℕ)) (l
   pub whole : end.stopped ≡ stop.No → FramesStandTogether v.taken → HasAll first kept v
   pub counted : (number : ℕ) → Gained (first number) (kept number) (IsCounted end.stopped (bytes_in number end.flows))
   pub torn : end.stopped ≡ stop.Write → FramesStandTogether v.taken → IsTornAtOne first kept v end.flows
+  -- what was written is what the appends took that went well, and nothing else
+  pub appended : losses_now.appended ≡ raised_by losses.appended end.written
   -- what stopped it
   pub quits : Quits how.quit end.written end.stopped
-  pub later : losses ≤ losses_now
-  pub cause : end.stopped ≡ stop.Write → Rose losses losses_now
-  pub still : end.stopped ≢ stop.Write → losses_now ≡ losses
+  pub later : losses.faults ≤ losses_now.faults
+  pub cause : end.stopped ≡ stop.Write → Rose losses.faults losses_now.faults
+  pub still : end.stopped ≢ stop.Write → losses_now.faults ≡ losses.faults
   -- at most so many raw entries as may follow the loans that entries gave back
   pub strays : raw_entries v ≤ how.stray * loan_entries v
   pub entries : loan_entries v ≤ length v.returned

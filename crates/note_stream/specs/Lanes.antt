@@ -1,9 +1,8 @@
 -- The lanes of the applications, each with its seat and its half of the stream.
 use Rattle.std.specs.Prelude.{◌≡◌, ℕ, ◌<◌, ◌≤◌, true, List, length, map, All, Contains, slice_index_or, IsTrue}
-use Rattle.note_stream.specs.Halves.{IsReceiver}
+use Rattle.note_stream.specs.{Halves.{IsReceiver}, declared.lanes.Lane.{Lane}}
 use Rattle.ref_words.specs.declared.view.View.{View}
 use Rattle.word_board.specs.Board.{TheBoard}
-use Rattle.note_stream.specs.declared.lanes.Lane.{Lane}
 
 -- the lanes are at this board, in the order of their applications
 abbrev pub AreAt : TheBoard → List Lane → Type 0

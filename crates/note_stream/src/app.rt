@@ -7,7 +7,7 @@ use board_face::{AppFace, Held, Loan, Polled};
 use zr_kinds::Note;
 
 /// What a look for a note came to.
-#[derive(Clone, Copy, Debug, PartialEq, Eq)]
+#[derive(Clone, Copy)]
 pub enum Took {
     /// A note.
     Note,

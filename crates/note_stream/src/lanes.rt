@@ -1,8 +1,7 @@
 //! The lanes of the applications, each with its seat, its half of the stream and room for a text.
 ghost use Rattle.std.specs.Prelude.{◌≡◌, All, IfOk, IfSome};
 ghost use Rattle.board_face.specs.{NicCalls.{apps_of}, Opened.{new_app}};
-ghost use Rattle.note_stream.specs.Halves.{IsReceiver};
-ghost use Rattle.note_stream.specs.Lanes.{AreReady, HasRun, HaveRun};
+ghost use Rattle.note_stream.specs.{Halves.{IsReceiver}, Lanes.{AreReady, HasRun, HaveRun}};
 
 use crate::Receiver;
 use crate::app::receive_all;

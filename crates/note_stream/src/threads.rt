@@ -2,8 +2,7 @@
 ghost use Rattle.std.specs.Prelude.{◌≡◌, ◌≤◌, [], length, true, None, IsTrue, All, IfOk};
 ghost use Rattle.zr_kinds.specs.Limits.{longest_payload};
 ghost use Rattle.board_face.specs.NicCalls.{apps_of};
-ghost use Rattle.note_stream.specs.Halves.{IsSender, IsReceiver};
-ghost use Rattle.note_stream.specs.Lanes.{AreAt, SayLeft, HaveRun};
+ghost use Rattle.note_stream.specs.{Halves.{IsSender, IsReceiver}, Lanes.{AreAt, SayLeft, HaveRun}};
 ghost use Rattle.word_board.specs.Desk.{AllAreBack};
 
 use crate::card::send_all;

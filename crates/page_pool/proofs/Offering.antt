@@ -7,7 +7,8 @@ use Rattle.board_face.specs.{Looks.{NicLooksStay, same_nic_look}, NicCalls.{apps
 use Rattle.board_face.specs.declared.views.{parts.{Setting.{Setting}, Filling.{Filling}}, nic.{PlacedText.{PlacedText}, NicView.{NicView}}}
 use Rattle.board_face.proofs.{ListLemmas.{same_filling-refl}, LookLemmas.{NicLooksStay-same, NicLooksStay-trans, times-more}}
 use Rattle.page_pool.specs.{declared.{pool.Pending.{Pending}, offer.Offer.{Offer}}, Frames.{offered, ShowRest}, Packing.{buffers_for, fits, needed}}
-use Rattle.page_pool.specs.{Pool.{PoolState, PoolStands, HasNonePending, piece_notes}, Searching.{SearchEnd, empty, AreToldOf, EndsBy, Searches}}
+use Rattle.page_pool.specs.{Pool.{PoolState, PoolStands, HasNonePending, piece_notes}, Searching.{AreToldOf, CountsEnd, EndsBy, Searches, joint_end}}
+use Rattle.page_pool.specs.declared.search_end.SearchEnd.{SearchEnd, TheVariants.{Fast, Empty}}
 use Rattle.page_pool.specs.Offer.{payload_of, split_notes, packed, packed_into, last_of, ClosesCurrent, LooksFor, not_needed, searched}
 use Rattle.page_pool.{specs.Placing.{PiecesStand, part_of, fresh_places, FillsFresh, FillsCurrent, PlacesSplit, LacksRoom}, proofs.FramesShown.{one_shows, fresh_shows}}
 use Rattle.page_pool.proofs.{Packed.{parts_places}, PlacedParts.{PiecesStand-part, still_needed}}
@@ -34,19 +35,19 @@ Keeps-trans u v w first then = record {
   looks = NicLooksStay-trans u v w first.looks then.looks;
 }
 
-pub LooksFor-keeps : (need : ℕ) (current : Option Filling) (was now : PoolStats) (old new : NicView) (how : Option SearchEnd)
-    → LooksFor need current was now old new how → ClosesOnly old new
-LooksFor-keeps need current was now old new _ (not_needed none stats same) = rw same (record { view = refl; looks = NicLooksStay-same old old refl })
-LooksFor-keeps need current was now old new _ (searched begin how some closes searches) =
-    Keeps-trans old begin new (ClosesCurrent-keeps current old begin closes) (Searches-keeps need was now begin new how searches)
+pub LooksFor-keeps : (need : ℕ) (current : Option Filling) (ahead : SearchEnd) (was now : PoolStats) (old new : NicView) (how : Option SearchEnd)
+    → LooksFor need current ahead was now old new how → ClosesOnly old new
+LooksFor-keeps need current ahead was now old new _ (not_needed none stats same) = rw same (record { view = refl; looks = NicLooksStay-same old old refl })
+LooksFor-keeps need current ahead was now old new _ (searched begin met how some closes searches counts) =
+    Keeps-trans old begin new (ClosesCurrent-keeps current old begin closes) (Searches-keeps need was met begin new how searches)
 
 -- where it found too few, all buffers are told of
-pub looked-out : (need : ℕ) (current : Option Filling) (was now : PoolStats) (old new : NicView) (how : Option SearchEnd) → how ≡ Some empty
-    → LooksFor need current was now old new how → AreToldOf new
-looked-out need current was now old new _ is (not_needed none stats same) = absurd (cc)
-looked-out need current was now old new _ is (searched begin how some closes searches) =
-    let same : how ≡ empty = cc in
-    (subst (λ end. EndsBy end need begin new searches.more searches.freed searches.words) same searches.ends).3
+pub looked-out : (need : ℕ) (current : Option Filling) (ahead : SearchEnd) (was now : PoolStats) (old new : NicView) (how : Option SearchEnd)
+    → how ≡ Some Empty → LooksFor need current ahead was now old new how → AreToldOf new
+looked-out need current ahead was now old new _ is (not_needed none stats same) = absurd (cc)
+looked-out need current ahead was now old new _ is (searched begin met how some closes searches counts) =
+    let same : how ≡ Empty = cc in
+    (subst (λ end. EndsBy end need begin new searches.more searches.freed searches.words) same searches.ends).4
 
 -- ---- a payload that is split
 
@@ -67,9 +68,10 @@ pub PiecesStand-none : (v : NicView) → v.pieces ≡ [] → PiecesStand [] v
 PiecesStand-none v none = record { places_are = rw none refl; apps = All-nil _; fields = All-nil _; places = All-nil _ }
 
 -- it went to the current buffer
-pub PlacesSplit-current : (was : PoolState) (old new : NicView) (o : Offer) (current : Option Filling) (pieces : List Pending) → PoolStands was old
+pub PlacesSplit-current : (was : PoolState) (old new : NicView) (o : Offer) (current : Option Filling) (pieces : List Pending)
+    → PoolStands was old
     → HasNonePending was → o.app < apps_of old.setting → 0 < length (payload_of o) → length (payload_of o) ≤ longest_payload
-    → FillsCurrent o was.current current old new pieces → PlacesSplit was (record was { current = current; pieces = pieces }) old new o
+    → FillsCurrent o was.current current old new pieces → PlacesSplit was (record was { current = current; pieces = pieces; ahead = Fast }) old new o
 PlacesSplit-current was old new o current pieces stands none app some most fills =
     let own : Filling = fills.own in
     let len : ℕ = length (payload_of o) in
@@ -84,7 +86,7 @@ PlacesSplit-current was old new o current pieces stands none app some most fills
       found = old;
       how = None;
       search = not_needed (rw (was_is, there) refl) refl refl;
-      enough = none_not empty;
+      enough = none_not Empty;
       buffers = [];
       many = rw (was_is, there) refl;
       few = omega arith;
@@ -146,17 +148,19 @@ some_needed need size current begin o is layout some =
     rw is.need_is one
 
 -- there weren't enough buffers
-pub LacksRoom-empty : (was : PoolState) (stats : PoolStats) (old begin new : NicView) (o : Offer) (cached need size : ℕ) → PoolStands was old
+pub LacksRoom-empty : (was : PoolState) (met stats : PoolStats) (old begin new : NicView) (o : Offer) (cached need size : ℕ)
+    → PoolStands was old
     → HasNonePending was → IsNeed need size was.current begin o
-    → ClosesCurrent was.current old begin → begin.owns ≡ [] → Searches need was.stats stats begin new empty → length new.cache ≡ cached
-    → cached < need → LacksRoom was (record was { current = None; pieces = []; stats = stats }) old new o cached need
-LacksRoom-empty was stats old begin new o cached need size stands none is closes owns searches many few =
-    let all = looked was old begin new need stats empty stands none closes owns searches in
+    → ClosesCurrent was.current old begin → begin.owns ≡ [] → Searches need was.stats met begin new Empty → CountsEnd Empty met stats
+    → length new.cache ≡ cached
+    → cached < need → LacksRoom was (record was { current = None; pieces = []; stats = stats; ahead = Fast }) old new o cached need
+LacksRoom-empty was met stats old begin new o cached need size stands none is closes owns searches counts many few =
+    let all = looked was old begin new need met Empty stands none closes owns searches in
     record {
       cached_is = many;
       need_is = needed_is need size was.current old begin o closes is;
       too_few = few;
-      search = searched begin empty (omega (arith, few)) closes searches;
+      search = searched begin met Empty (omega (arith, few)) closes searches counts;
       pool = rw none.pieces refl;
       stands = record {
         owns = all.owns;
@@ -175,17 +179,17 @@ packed_into-fresh setting None buffers len too_long = refl
 packed_into-fresh setting (Some own) buffers len too_long = rw too_long refl
 
 -- it went to fresh buffers
-pub PlacesSplit-fresh : (was : PoolState) (stats : PoolStats) (old begin found new : NicView) (o : Offer) (how : SearchEnd) (need size : ℕ)
-    (current : Option Filling) (pieces : List Pending)
+pub PlacesSplit-fresh : (was : PoolState) (met stats : PoolStats) (old begin found new : NicView) (o : Offer) (how : SearchEnd)
+    (need size : ℕ) (current : Option Filling) (pieces : List Pending)
     → PoolStands was old → HasNonePending was → IsNeed need size was.current begin o → IsLayout begin.setting.layout → 0 < length (payload_of o)
-    → ClosesCurrent was.current old begin → begin.owns ≡ [] → Searches need was.stats stats begin found how → how ≢ empty
-    → FillsFresh o found new pieces current
+    → ClosesCurrent was.current old begin → begin.owns ≡ [] → Searches need was.stats met begin found how → how ≢ Empty
+    → CountsEnd (joint_end was.ahead how) met stats → FillsFresh o found new pieces current
     → new.owns ≡ option_to_list current → length pieces ≤ 64
-    → PlacesSplit was (record was { current = current; pieces = pieces; stats = stats }) old new o
-PlacesSplit-fresh was stats old begin found new o how need size current pieces stands none is layout some closes begin_owns searches enough fills owns
-    few =
+    → PlacesSplit was (record was { current = current; pieces = pieces; stats = stats; ahead = Fast }) old new o
+PlacesSplit-fresh was met stats old begin found new o how need size current pieces stands none is layout some closes begin_owns searches enough
+    counts fills owns few =
     let len : ℕ = length (payload_of o) in
-    let all = looked was old begin found need stats how stands none closes begin_owns searches in
+    let all = looked was old begin found need met how stands none closes begin_owns searches in
     let setting : found.setting ≡ old.setting = ap (λ (v : NicView). v.setting) all.keeps.view in
     let used : found.used ≡ old.used = ap (λ (v : NicView). v.used) all.keeps.view in
     let begin_setting : begin.setting ≡ old.setting = ap (λ (v : NicView). v.setting) (ClosesCurrent-keeps was.current old begin closes).view in
@@ -198,7 +202,7 @@ PlacesSplit-fresh was stats old begin found new o how need size current pieces s
     record {
       found = found;
       how = Some how;
-      search = rw need_is (searched begin how (some_needed need size was.current begin o is layout some) closes searches);
+      search = rw need_is (searched begin met how (some_needed need size was.current begin o is layout some) closes searches counts);
       enough = λ same. enough (grind (arith, same));
       buffers = buffers;
       many = rw is.too_long (rw setting at fills.many);

@@ -10,7 +10,8 @@ use Rattle.board_face.specs.{NicCalls.{apps_of, free_words_of, HasSweptAll, lost
 use Rattle.board_face.{specs.declared.views.nic.{NicLook.TheVariants.{RingEmpty, Swept}, NicView.{NicView}}, proofs.LostLemmas.{buffers-accounted}}
 use Rattle.board_face.proofs.LookLemmas.{NicLooksStay-same, NicLooksStay-trans, NicRose-later, NicRose-before, times-more}
 use Rattle.page_pool.specs.{Dealing.{DealsWith, IsRaised}, Gathering.{DrainsRing, Gathers, HasAtMost, RefillsFirst, SweepsFirst}}
-use Rattle.page_pool.specs.{Searching.{SearchEnd, fast, refill, slow, empty, enough, AreRingsDone, AreSwept, AreToldOf, Searches, LooksAhead}, Pool.{PoolState}}
+use Rattle.page_pool.specs.{Searching.{enough, AreRingsDone, AreSwept, AreToldOf, Searches}}
+use Rattle.page_pool.specs.declared.search_end.SearchEnd.{SearchEnd, TheVariants.{Fast, Refill, Slow, Empty}}
 use Rattle.page_pool.proofs.Entries.{CountsStrays-none, CachesFreed-none, CachesFreed-trans}
 use Rattle.page_pool.proofs.Rings.{CountsStrays-more, AreInTurn-none, AreInTurn-ring, entries_of-own, entries_of-append}
 
@@ -126,12 +127,8 @@ SweepsFirst-word old v w most word count first room one lost =
 
 -- ---- how a search ends
 
-pub raised_one : (was now : ℕ) → now ≡ min (was + 1) (2 ^ 64 - 1) → IsRaised was 1 now
-raised_one was now is = grind arith
-
-pub Searches-fast : (need : ℕ) (was now : PoolStats) (v : NicView) → need ≤ length v.cache
-    → now ≡ record was { fast = min (was.fast + 1) (2 ^ 64 - 1) } → Searches need was now v v fast
-Searches-fast need was now v held is = record {
+pub Searches-fast : (need : ℕ) (stats : PoolStats) (v : NicView) → need ≤ length v.cache → Searches need stats stats v v Fast
+Searches-fast need stats v held = record {
   more = [];
   freed = 0;
   words = 0;
@@ -141,7 +138,7 @@ Searches-fast need was now v held is = record {
   looks = NicLooksStay-same v v refl;
   seen = omega arith;
   ends = (held, refl);
-  counts = rw is (raised_one was.fast _ refl, inl (omega arith), refl);
+  strays = CountsStrays-none stats;
 }
 
 -- each ring was done, or 64 are cached
@@ -151,11 +148,9 @@ rings_or_enough was now old v r =
     ⊎_elim (λ few. inr (λ a lt. ⊎_elim (λ done. done) (λ cached. absurd (omega (arith, few, cached))) (r.rings a lt))) (λ full. inl full)
     (cases_lt (length v.cache) 64)
 
-pub Searches-refill : (need : ℕ) (was mid now : PoolStats) (old v : NicView) → need ≤ 64 → length old.cache < need
-    → RefillsFirst was mid old v 64 (apps_of old.setting) → need ≤ length v.cache → now ≡ record mid { refill = min (mid.refill + 1) (2 ^ 64 - 1) }
-    → Searches need was now old v refill
-Searches-refill need was mid now old v small few refills held is =
-    let e = refills.strays.others in
+pub Searches-refill : (need : ℕ) (was now : PoolStats) (old v : NicView) → need ≤ 64 → length old.cache < need
+    → RefillsFirst was now old v 64 (apps_of old.setting) → need ≤ length v.cache → Searches need was now old v Refill
+Searches-refill need was now old v small few refills held =
     let most : length v.cache ≤ 64 = ⊎_elim (λ most. most) (λ same. absurd (omega (arith, same, few, held))) refills.most in
     record {
       more = refills.more;
@@ -167,7 +162,7 @@ Searches-refill need was mid now old v small few refills held is =
       looks = refills.gathers.looks;
       seen = refills.caches.seen;
       ends = (few, held, refl, omega (arith, refills.caches.cached, few, held, small, most), most, rings_or_enough _ _ _ _ refills);
-      counts = rw (is, e) (raised_one was.refill _ refl, refills.strays.strays, refl);
+      strays = refills.strays;
     }
 
 -- what a search has done once it swept words
@@ -177,10 +172,10 @@ record Swept_too (more : List Dealt) (words : ℕ) (old w : NicView) : Type 0 wh
   rose : (word : ℕ) → word < words → NicRose (Swept word) old w
   rings : AreRingsDone more old w
 
-sweeps_too : (need : ℕ) (was mid : PoolStats) (old v w : NicView) → need ≤ 64 → (r : RefillsFirst was mid old v 64 (apps_of old.setting))
+sweeps_too : (need : ℕ) (was now : PoolStats) (old v w : NicView) → need ≤ 64 → (r : RefillsFirst was now old v 64 (apps_of old.setting))
     → length v.cache < need
     → (s : SweepsFirst v w 64 (free_words_of v.setting)) → Swept_too r.more s.count old w
-sweeps_too need was mid old v w small r few s = record {
+sweeps_too need was now old v w small r few s = record {
   view = rw s.gathers.view (rw r.gathers.view (simp (append-nil, append_assoc) refl));
   looks = NicLooksStay-trans old v w r.gathers.looks s.gathers.looks;
   rose = λ word lt. NicRose-later old v w (Swept word) r.gathers.looks (s.gathers.each word lt);
@@ -197,13 +192,11 @@ words_or_enough : (old v w : NicView) → v.setting ≡ old.setting → (s : Swe
 words_or_enough old v w same s rose = ⊎_elim (λ all. inr (λ word lt. rose word
     (let count : s.count ≡ free_words_of old.setting = all ∙ ap free_words_of same in rw count lt))) (λ full. inl full) s.until
 
-pub Searches-slow : (need : ℕ) (was mid now : PoolStats) (old v w : NicView) → need ≤ 64 → length old.cache < need
-    → RefillsFirst was mid old v 64 (apps_of old.setting) → length v.cache < need
-    → SweepsFirst v w 64 (free_words_of v.setting) → need ≤ length w.cache → now ≡ record mid { slow = min (mid.slow + 1) (2 ^ 64 - 1) }
-    → Searches need was now old w slow
-Searches-slow need was mid now old v w small few refills few_still sweeps held is =
-    let e = refills.strays.others in
-    let both = sweeps_too need was mid old v w small refills few_still sweeps in
+pub Searches-slow : (need : ℕ) (was now : PoolStats) (old v w : NicView) → need ≤ 64 → length old.cache < need
+    → RefillsFirst was now old v 64 (apps_of old.setting) → length v.cache < need
+    → SweepsFirst v w 64 (free_words_of v.setting) → need ≤ length w.cache → Searches need was now old w Slow
+Searches-slow need was now old v w small few refills few_still sweeps held =
+    let both = sweeps_too need was now old v w small refills few_still sweeps in
     let setting : v.setting ≡ old.setting = ap (λ (u : NicView). u.setting) refills.gathers.view in
     let some : 0 < sweeps.count = ⊎_elim (λ some. some) (λ same. let cache : length w.cache
     ≡ length v.cache = ap (λ (u : NicView). length u.cache) same in absurd (omega (arith, cache, few_still, held))) sweeps.some in
@@ -217,7 +210,7 @@ Searches-slow need was mid now old v w small few refills few_still sweeps held i
       looks = both.looks;
       seen = omega (arith, refills.caches.seen, sweeps.none_freed);
       ends = (omega (arith, refills.caches.cached, few_still, small), held, some, both.rings, words_or_enough old v w setting sweeps both.rose);
-      counts = rw (is, e) (raised_one was.slow _ refl, refills.strays.strays, refl);
+      strays = refills.strays;
     }
 
 -- ---- once all words were swept
@@ -250,13 +243,13 @@ told-of old w n swept all lost = record { swept = each; all = told n all lost }
     told zero none lost = omega (arith, none)
     told (suc m) some lost = omega (arith, buffers-accounted w each, lost (omega arith))
 
-pub Searches-empty : (need : ℕ) (was mid now : PoolStats) (old v w : NicView) → need ≤ 64 → RefillsFirst was mid old v 64 (apps_of old.setting)
-    → length v.cache < need
-    → SweepsFirst v w 64 (free_words_of v.setting) → length w.cache < need → now ≡ record mid { empty = min (mid.empty + 1) (2 ^ 64 - 1) }
-    → Searches need was now old w empty
-Searches-empty need was mid now old v w small refills few_still sweeps none is =
-    let e = refills.strays.others in
-    let both = sweeps_too need was mid old v w small refills few_still sweeps in
+pub Searches-empty : (need : ℕ) (was now : PoolStats) (old v w : NicView) → need ≤ 64 → RefillsFirst was now old v 64 (apps_of old.setting)
+    → length v.cache < need → 0 < free_words_of v.setting → SweepsFirst v w 64 (free_words_of v.setting) → length w.cache < need
+    → Searches need was now old w Empty
+Searches-empty need was now old v w small refills few_still some sweeps none =
+    let both = sweeps_too need was now old v w small refills few_still sweeps in
+    let all : sweeps.count ≡ free_words_of v.setting =
+    ⊎_elim (λ all. all) (λ full. absurd (omega (arith, full, none, small))) sweeps.until in
     let setting : v.setting ≡ old.setting = ap (λ (u : NicView). u.setting) refills.gathers.view in
     record {
       more = refills.more;
@@ -269,41 +262,20 @@ Searches-empty need was mid now old v w small refills few_still sweeps none is =
       seen = omega (arith, refills.caches.seen, sweeps.none_freed);
       ends = (
         none,
+        omega (arith, all, some),
         both.rings,
         ⊎_elim (λ full. absurd (omega (arith, full, none, small))) (λ all. all) (words_or_enough old v w setting sweeps both.rose),
         told-of v w sweeps.count (ap (λ (u : NicView). u.swept) sweeps.gathers.view)
-            (⊎_elim (λ all. all ∙ ap free_words_of (sym (ap (λ (u : NicView). u.setting) sweeps.gathers.view)))
-            (λ full. absurd (omega (arith, full, none, small))) sweeps.until)
-            sweeps.lost,
+            (all ∙ ap free_words_of (sym (ap (λ (u : NicView). u.setting) sweeps.gathers.view))) sweeps.lost,
       );
-      counts = rw (is, e) (raised_one was.empty _ refl, refills.strays.strays, refl);
+      strays = refills.strays;
     }
 
-is_empty : SearchEnd → Bool
-is_empty fast = false
-is_empty refill = false
-is_empty slow = false
-is_empty empty = true
+-- ---- which ends tell of how many are cached
 
-pub fast_not : fast ≢ empty
-unfolding is_empty
-fast_not e = absurd (true≢false (sym (ap is_empty e)))
-
-pub refill_not : refill ≢ empty
-unfolding is_empty
-refill_not e = absurd (true≢false (sym (ap is_empty e)))
-
-pub slow_not : slow ≢ empty
-unfolding is_empty
-slow_not e = absurd (true≢false (sym (ap is_empty e)))
-
--- ---- a search that isn't counted
-
-pub LooksAhead-by : (need : ℕ) (found : Bool) (was now : PoolState) (counted : PoolStats) (begin end : NicView)
-    → now ≡ record was { stats = record was.stats { strays = counted.strays } }
-    → MatchBool found ((how : SearchEnd) × (how ≢ empty) × Searches need was.stats counted begin end how) (Searches need was.stats counted begin end empty)
-    → LooksAhead need was now begin end
-LooksAhead-by need true was now counted begin end is (how, some, searches) =
-    record { result = how; counted = counted; searches = searches; pool = is }
-LooksAhead-by need false was now counted begin end is searches =
-    record { result = empty; counted = counted; searches = searches; pool = is }
+pub ends-enough : (end : SearchEnd) (need : ℕ) (was now : PoolStats) (old new : NicView) → Searches need was now old new end → end ≢ Empty
+    → need ≤ length new.cache
+ends-enough Fast need was now old new searches found = rw searches.ends.1 searches.ends.0
+ends-enough Refill need was now old new searches found = searches.ends.1
+ends-enough Slow need was now old new searches found = searches.ends.1
+ends-enough Empty need was now old new searches found = absurd (found refl)

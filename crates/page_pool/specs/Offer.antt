@@ -7,7 +7,8 @@ use Rattle.board_face.specs.{Looks.{NicRose, NicLooksStay}, NicEvents.{fresh}, N
 use Rattle.board_face.specs.declared.views.{parts.{Setting.{Setting}, Filling.{Filling}}, nic.{NicLook.TheVariants.{NoteInUse}, SentNote.{SentNote}, NicView.{NicView}}}
 use Rattle.page_pool.specs.{declared.offer.{Offer.{Offer}, Verdict.{Verdict, TheVariants.{Accepted, NoRoom, Busy}}}, Frames.{offered, ShowsFrame}}
 use Rattle.page_pool.specs.Packing.{Current, Target, Part, fits, needed, packing, taken, current as in_current, fresh as in_fresh}
-use Rattle.page_pool.specs.{Pool.{PoolState, OnlySends, IsNextApp, all_notes}, Searching.{SearchEnd, empty, Searches}}
+use Rattle.page_pool.specs.{Pool.{PoolState, OnlySends, IsNextApp, all_notes}, Searching.{CountsEnd, Searches, joint_end}}
+use Rattle.page_pool.specs.declared.search_end.SearchEnd.{SearchEnd, TheVariants.{Fast, Empty}}
 
 -- ---- the notes of a frame
 
@@ -121,11 +122,12 @@ abbrev pub ClosesCurrent : Option Filling → NicView → NicView → Type 0
 ClosesCurrent None old new = new ≡ old
 ClosesCurrent (Some own) old new = Closed old new own
 
--- Where fresh buffers are needed, the current buffer was closed and then a search was made; where none are, nothing was done.
-pub data LooksFor (need : ℕ) (current : Option Filling) (was now : PoolStats) (old new : NicView) : Option SearchEnd → Type 0 where
-  not_needed : need ≡ 0 → now ≡ was → new ≡ old → LooksFor need current was now old new None
-  searched : (begin : NicView) (how : SearchEnd) → 0 < need → ClosesCurrent current old begin → Searches need was now begin new how
-      → LooksFor need current was now old new (Some how)
+-- Where fresh buffers are needed, the current buffer was closed and then a search was made, which ended so. It was counted once,
+-- where it ended as one with what was searched ahead. Where none are needed, nothing was done.
+pub data LooksFor (need : ℕ) (current : Option Filling) (ahead : SearchEnd) (was now : PoolStats) (old new : NicView) : Option SearchEnd → Type 0 where
+  not_needed : need ≡ 0 → now ≡ was → new ≡ old → LooksFor need current ahead was now old new None
+  searched : (begin : NicView) (met : PoolStats) (how : SearchEnd) → 0 < need → ClosesCurrent current old begin
+      → Searches need was met begin new how → CountsEnd (joint_end ahead how) met now → LooksFor need current ahead was now old new (Some how)
 
 -- ---- the verdict
 
@@ -137,8 +139,8 @@ pub record Accepts (was now : PoolState) (old new : NicView) (o : Offer) : Type 
   -- the view as the first byte was placed
   pub found : NicView
   pub how : Option SearchEnd
-  pub search : LooksFor (needed_for was old o) was.current was.stats now.stats flushed found how
-  pub enough : how ≢ Some empty
+  pub search : LooksFor (needed_for was old o) was.current was.ahead was.stats now.stats flushed found how
+  pub enough : how ≢ Some Empty
   -- The fresh buffers in the order of taking. Each of them is used, so they may be fewer than were found.
   pub buffers : List ℕ
   pub many : taken_for was old buffers o ≡ length buffers
@@ -150,6 +152,8 @@ pub record Accepts (was now : PoolState) (old new : NicView) (o : Offer) : Type 
   pub shows : ShowsFrame was.split (offered o) (frame_notes was.split o (places_for was old buffers o))
   pub current : now.current ≡ current_after was old buffers o
   pub split : now.split ≡ was.split
+  -- Nothing was searched ahead for the next frame.
+  pub ahead : now.ahead ≡ Fast
   -- what was sent since the flush
   pub more : List SentNote
   pub sent : new.sent ≡ flushed.sent ++ more
@@ -169,8 +173,8 @@ pub record Refuses (was now : PoolState) (old new : NicView) (o : Offer) (cached
   pub within : pool_buffers new.setting.layout ≤ cached + length new.used + sent_unsplit_bytes new
   pub flushed : NicView
   pub flush : Flushes was old flushed
-  pub search : LooksFor need was.current was.stats now.stats flushed new (Some empty)
-  pub pool : now ≡ record was { current = None; short = None; pieces = []; stats = now.stats }
+  pub search : LooksFor need was.current was.ahead was.stats now.stats flushed new (Some Empty)
+  pub pool : now ≡ record was { current = None; short = None; pieces = []; stats = now.stats; ahead = Fast }
   pub notes : all_notes now new ≡ all_notes was old
   pub used : new.used ≡ old.used
 

@@ -5,7 +5,7 @@ use Rattle.zr_kinds.specs.declared.place.Place.{Place}
 use Rattle.board_face.specs.{Looks.{NicLooksStay}, Texts.{IsSplitNote}, Tokens.{next_place, filled_by}, NicCalls.{apps_of, HasNothingIn}}
 use Rattle.board_face.specs.{declared.views.{parts.Filling.{Filling}, nic.NicView.{NicView}}, NicEvents.{placed}}
 use Rattle.page_pool.specs.{declared.{pool.{Pending.{Pending}, Short.{Short}}, offer.Offer.{Offer}}, Pool.{PoolState, PoolStands, piece_notes}}
-use Rattle.page_pool.specs.{Searching.{SearchEnd, empty}, Frames.{offered, ShowRest}}
+use Rattle.page_pool.specs.{declared.search_end.SearchEnd.{SearchEnd, TheVariants.{Fast, Empty}}, Frames.{offered, ShowRest}}
 use Rattle.page_pool.specs.Offer.{payload_of, len_of, short_note, split_note, split_notes, packed, place_of, last_of, packed_into, LooksFor}
 use Rattle.page_pool.specs.Packing.{buffers_for, fits, needed, fresh_parts, packing, taken}
 use Rattle.area_layout.specs.Layout.{Shape, least_size, size_of}
@@ -90,8 +90,8 @@ pub record LeavesCurrent (o : Offer) (was now : Option Filling) (old new : NicVi
 pub record PlacesSplit (was now : PoolState) (old new : NicView) (o : Offer) : Type 0 where
   pub found : NicView
   pub how : Option SearchEnd
-  pub search : LooksFor (needed (least_size old.setting.layout) (packed was.current) (len_of o)) was.current was.stats now.stats old found how
-  pub enough : how ≢ Some empty
+  pub search : LooksFor (needed (least_size old.setting.layout) (packed was.current) (len_of o)) was.current was.ahead was.stats now.stats old found how
+  pub enough : how ≢ Some Empty
   pub buffers : List ℕ
   pub many : taken (packed was.current) (map (size_of old.setting.layout) buffers) (len_of o) ≡ length buffers
   pub few : length buffers ≤ needed (least_size old.setting.layout) (packed was.current) (len_of o)
@@ -102,7 +102,7 @@ pub record PlacesSplit (was now : PoolState) (old new : NicView) (o : Offer) : T
   pub shows : ShowRest (offered o) 0 (split_notes o 0 (map (place_of was.current buffers)
       (packing (packed was.current) (map (size_of old.setting.layout) buffers) (len_of o))))
   pub current : now.current ≡ packed_into old.setting was.current buffers (len_of o)
-  pub pool : now ≡ record was { current = now.current; pieces = now.pieces; stats = now.stats }
+  pub pool : now ≡ record was { current = now.current; pieces = now.pieces; stats = now.stats; ahead = Fast }
   pub view : new ≡ record found { cache = new.cache; used = new.used; owns = new.owns; pieces = new.pieces; looks = new.looks }
   pub looks : NicLooksStay found new
   pub stands : PoolStands now new
@@ -112,8 +112,8 @@ pub record LacksRoom (was now : PoolState) (old new : NicView) (o : Offer) (cach
   pub cached_is : length new.cache ≡ cached
   pub need_is : needed (least_size old.setting.layout) (packed was.current) (len_of o) ≡ need
   pub too_few : cached < need
-  pub search : LooksFor need was.current was.stats now.stats old new (Some empty)
-  pub pool : now ≡ record was { current = None; stats = now.stats }
+  pub search : LooksFor need was.current was.ahead was.stats now.stats old new (Some Empty)
+  pub pool : now ≡ record was { current = None; stats = now.stats; ahead = Fast }
   pub stands : PoolStands now new
 
 -- A short payload is to travel in its note.

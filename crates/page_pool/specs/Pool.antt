@@ -3,7 +3,7 @@ use Rattle.std.specs.Prelude.{◌≡◌, ℕ, ◌+◌, ◌<◌, ◌≤◌, List,
 use Rattle.zr_kinds.specs.declared.outcome.PoolStats.{PoolStats}
 use Rattle.board_face.specs.{Looks.{NicLooksStay}, Texts.{IsSplitNote, IsLinearNote}, NicEvents.{nic_ended}, NicCalls.{apps_of, Closed}}
 use Rattle.board_face.specs.declared.views.{parts.{Setting.{Setting}, Filling.{Filling}}, nic.{PlacedText.{PlacedText}, SentNote.{SentNote}, NicView.{NicView}}}
-use Rattle.page_pool.specs.declared.pool.{Pending.{Pending}, Short.{Short}}
+use Rattle.page_pool.specs.declared.{pool.{Pending.{Pending}, Short.{Short}}, search_end.SearchEnd.{SearchEnd, TheVariants.{Fast}}}
 
 pub record PoolState : Type 0 where
   -- the greatest payload that isn't split
@@ -14,6 +14,8 @@ pub record PoolState : Type 0 where
   pub short : Option Short
   pub pieces : List Pending
   pub stats : PoolStats
+  -- where the search ended that was made ahead for the frame that is offered next; in the cache, where none was
+  pub ahead : SearchEnd
 
 abbrev pub new_pool : ℕ → PoolState
 new_pool split = record {
@@ -22,6 +24,7 @@ new_pool split = record {
   short = None;
   pieces = [];
   stats = record { fast = 0; refill = 0; slow = 0; empty = 0; strays = 0 };
+  ahead = Fast;
 }
 
 -- how many notes are pending

@@ -4,30 +4,29 @@ use Rattle.zr_kinds.specs.declared.outcome.PoolStats.{PoolStats}
 use Rattle.board_face.specs.{Looks.{NicRose, NicLooksStay}, NicCalls.{apps_of, free_words_of, HasSweptAll, sent_unsplit_bytes}, declared.views.nic.Dealt.{Dealt}}
 use Rattle.board_face.specs.declared.views.nic.{NicLook.TheVariants.{Swept}, NicView.{NicView}}
 use Rattle.area_layout.specs.Layout.{pool_buffers}
-use Rattle.page_pool.specs.{Dealing.{IsRaised, freed_in, AreInTurn, IsRingDone, strays_in}, Pool.{PoolState}}
+use Rattle.page_pool.specs.{Dealing.{IsRaised, freed_in, AreInTurn, IsRingDone, CountsStrays}, Pool.{PoolState}}
+use Rattle.page_pool.specs.declared.search_end.SearchEnd.{SearchEnd, TheVariants.{Fast, Refill, Slow, Empty}}
 
 -- A search that looks beyond the cache goes on until so many buffers are cached.
 abbrev pub enough : ℕ
 enough = 64
 
--- where a search ended: in the cache, which held as many as were needed; at the refill rings; on the free list; or
--- nowhere, since there weren't as many
-pub data SearchEnd : Type 0 where
-  fast : SearchEnd
-  refill : SearchEnd
-  slow : SearchEnd
-  empty : SearchEnd
+-- Two searches for one frame, one after the other, are one: it ended where the farther of them did, the free list being behind the
+-- refill rings and these behind the cache; and nowhere where the later of them found too few.
+abbrev pub joint_end : SearchEnd → SearchEnd → SearchEnd
+joint_end before Empty = Empty
+joint_end Fast later = later
+joint_end Refill Fast = Refill
+joint_end Refill later = later
+joint_end Slow later = Slow
+joint_end Empty later = Slow
 
--- The search's end was counted once, and the strays that it met. No other count changed.
-abbrev pub CountsEnd : SearchEnd → PoolStats → PoolStats → List Dealt → Type 0
-CountsEnd fast was now more =
-    IsRaised was.fast 1 now.fast × IsRaised was.strays (strays_in more) now.strays × (now ≡ record was { fast = now.fast; strays = now.strays })
-CountsEnd refill was now more =
-    IsRaised was.refill 1 now.refill × IsRaised was.strays (strays_in more) now.strays × (now ≡ record was { refill = now.refill; strays = now.strays })
-CountsEnd slow was now more =
-    IsRaised was.slow 1 now.slow × IsRaised was.strays (strays_in more) now.strays × (now ≡ record was { slow = now.slow; strays = now.strays })
-CountsEnd empty was now more =
-    IsRaised was.empty 1 now.empty × IsRaised was.strays (strays_in more) now.strays × (now ≡ record was { empty = now.empty; strays = now.strays })
+-- The search's end was counted once, and no other count changed.
+abbrev pub CountsEnd : SearchEnd → PoolStats → PoolStats → Type 0
+CountsEnd Fast was now = IsRaised was.fast 1 now.fast × (now ≡ record was { fast = now.fast })
+CountsEnd Refill was now = IsRaised was.refill 1 now.refill × (now ≡ record was { refill = now.refill })
+CountsEnd Slow was now = IsRaised was.slow 1 now.slow × (now ≡ record was { slow = now.slow })
+CountsEnd Empty was now = IsRaised was.empty 1 now.empty × (now ≡ record was { empty = now.empty })
 
 -- Each ring was seen empty, or it gave as many entries as it has places.
 abbrev pub AreRingsDone : List Dealt → NicView → NicView → Type 0
@@ -46,19 +45,19 @@ pub record AreToldOf (v : NicView) : Type 0 where
 -- What a search for `need` buffers did from this view on, by where it ended: the entries that it dealt with, how many pool
 -- buffers came to be free by them, and how many words it swept.
 abbrev pub EndsBy : SearchEnd → ℕ → NicView → NicView → List Dealt → ℕ → ℕ → Type 0
-EndsBy fast need begin end more freed words = (need ≤ length begin.cache) × (end ≡ begin)
-EndsBy refill need begin end more freed words =
+EndsBy Fast need begin end more freed words = (need ≤ length begin.cache) × (end ≡ begin)
+EndsBy Refill need begin end more freed words =
     (length begin.cache < need) × (need ≤ length end.cache) × (words ≡ 0) × (length end.cache ≡ length begin.cache + freed)
     × (length end.cache ≤ enough) × ((enough ≤ length end.cache) ⊎ AreRingsDone more begin end)
-EndsBy slow need begin end more freed words =
+EndsBy Slow need begin end more freed words =
     (length begin.cache + freed < need) × (need ≤ length end.cache) × (0 < words) × AreRingsDone more begin end
     × ((enough ≤ length end.cache) ⊎ AreSwept begin end)
-EndsBy empty need begin end more freed words =
-    (length end.cache < need) × AreRingsDone more begin end × AreSwept begin end × AreToldOf end
+EndsBy Empty need begin end more freed words =
+    (length end.cache < need) × (0 < words) × AreRingsDone more begin end × AreSwept begin end × AreToldOf end
 
 -- A search for `need` buffers, from this view to that one: entries were dealt with, application by application from 0, of
 -- each ring as many as it has places at most, and words of the free list were swept, from 0. Else nothing happened but
--- looks.
+-- looks. Of the pool's counts that of the strays alone may have changed.
 pub record Searches (need : ℕ) (was now : PoolStats) (begin end : NicView) (result : SearchEnd) : Type 0 where
   pub more : List Dealt
   pub freed : ℕ
@@ -69,11 +68,11 @@ pub record Searches (need : ℕ) (was now : PoolStats) (begin end : NicView) (re
   pub looks : NicLooksStay begin end
   pub seen : freed_in end ≡ freed_in begin + freed
   pub ends : EndsBy result need begin end more freed words
-  pub counts : CountsEnd result was now more
+  pub strays : CountsStrays was now more
 
--- It searched, and of that only the strays were counted.
+-- It searched for the frame that is offered next: with what was searched for that frame before it is one search, which isn't counted
+-- yet.
 pub record LooksAhead (need : ℕ) (was now : PoolState) (begin end : NicView) : Type 0 where
   pub result : SearchEnd
-  pub counted : PoolStats
-  pub searches : Searches need was.stats counted begin end result
-  pub pool : now ≡ record was { stats = record was.stats { strays = counted.strays } }
+  pub searches : Searches need was.stats now.stats begin end result
+  pub pool : now ≡ record was { stats = now.stats; ahead = joint_end was.ahead result }

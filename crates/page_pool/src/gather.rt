@@ -1,13 +1,12 @@
 ghost use Rattle.std.specs.Prelude.{◌≡◌, ◌<◌, ◌≤◌, length, MatchBool};
 ghost use Rattle.page_pool.specs.{Pool.{PoolStands}, Searching.{LooksAhead}};
 
-use crate::Pool;
 use crate::search::find_fresh;
+use crate::{Pool, SearchEnd};
 use board_face::NicFace;
-use zr_kinds::PoolStats;
 
-/// Looks for so many fresh buffers, as an offer would: in the cache, then in the refill rings, then on the free list. It answers
-/// whether so many are cached. The search isn't counted, as nothing is offered.
+/// Looks for so many fresh buffers for the frame that is offered next, as the offer would: in the cache, then in the refill rings,
+/// then on the free list. It answers whether so many are cached. The search is the frame's, and is counted as it is offered.
 pub fn nic_gather<F: NicFace>(face: &mut F, pool: &mut Pool, needed: u32) -> bool
     requires stands { PoolStands pool.old (F.seen face.old) }
     requires few { needed ≤ 64 }
@@ -16,11 +15,7 @@ pub fn nic_gather<F: NicFace>(face: &mut F, pool: &mut Pool, needed: u32) -> boo
     ensures enough { MatchBool result (needed ≤ length (F.seen face.new).cache) (length (F.seen face.new).cache < needed) }
     ensures beside { F.beside face.new ≡ F.beside face.old }
 {
-    let was = pool.stats;
-    let found = find_fresh(face, &mut pool.stats, needed);
-    pool.stats = PoolStats {
-        strays: pool.stats.strays,
-        ..was
-    };
-    found
+    let end = find_fresh(face, &mut pool.stats, needed);
+    pool.ahead = pool.ahead.joined(end);
+    !matches!(end, SearchEnd::Empty)
 }

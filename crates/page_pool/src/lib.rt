@@ -13,6 +13,7 @@ mod pieces;
 mod placing;
 mod pool;
 mod search;
+mod search_end;
 
 pub use close::nic_close;
 pub use drain::nic_drain;
@@ -22,3 +23,4 @@ pub use laws::{accepted_are_shown, offer_is_shown, packing_is_short, packing_is_
 pub use offer::{Offer, Verdict, nic_offer};
 pub use pool::{Pending, Pool, Short};
 pub use search::find_fresh;
+pub use search_end::SearchEnd;

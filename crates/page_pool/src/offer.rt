@@ -6,7 +6,7 @@ ghost use Rattle.page_pool.specs.{declared.pool.Short.{Short as TheShort}, Pool.
 use crate::pieces::PendingPieces;
 use crate::placing::{place_fresh, place_part};
 use crate::search::find_fresh;
-use crate::{Pool, Short, nic_flush};
+use crate::{Pool, SearchEnd, Short, nic_flush};
 use board_face::{NicFace, Own};
 use zr_kinds::{Note, Place};
 
@@ -131,7 +131,8 @@ pub(crate) fn close_current<F: NicFace>(face: &mut F, current: &mut Option<Own>)
     }
 }
 
-/// Places a payload that is split: whole in the current buffer, where it fits there, or else in fresh buffers.
+/// Places a payload that is split: whole in the current buffer, where it fits there, or else in fresh buffers. The search for these
+/// is counted, as one with what was searched ahead.
 pub(crate) fn place_split<F: NicFace>(
     face: &mut F,
     pool: &mut Pool,
@@ -148,12 +149,16 @@ pub(crate) fn place_split<F: NicFace>(
         (λ short. LacksRoom pool.old pool.new (F.seen face.old) (F.seen face.new) offer.now short.cached short.needed) }
     ensures beside { F.beside face.new ≡ F.beside face.old }
 {
+    let ahead = pool.ahead;
+    pool.ahead = SearchEnd::Fast;
     if place_in_current(face, &mut pool.current, &mut pool.pieces, offer) {
         return Ok(());
     }
     close_current(face, &mut pool.current);
     let needed = (offer.payload.len() as u32).div_ceil(face.size());
-    if !find_fresh(face, &mut pool.stats, needed) {
+    let end = find_fresh(face, &mut pool.stats, needed);
+    ahead.joined(end).count(&mut pool.stats);
+    if let SearchEnd::Empty = end {
         return Err(Shortage {
             cached: face.cached(),
             needed,
@@ -164,7 +169,8 @@ pub(crate) fn place_split<F: NicFace>(
 }
 
 /// Offers a frame with 1 to 65,515 bytes of payload. It sends what is pending first. A payload of at most `split` bytes
-/// travels in its note; a longer one is placed in the area, by packing.
+/// travels in its note; a longer one is placed in the area, by packing. Where fresh buffers are needed their search is counted, as
+/// one with what was searched ahead for the frame.
 pub fn nic_offer<F: NicFace>(face: &mut F, pool: &mut Pool, offer: &Offer<'_>) -> Verdict
     requires open { IsOpen (F.seen face.old) }
     requires stands { PoolStands pool.old (F.seen face.old) }
@@ -183,6 +189,7 @@ pub fn nic_offer<F: NicFace>(face: &mut F, pool: &mut Pool, offer: &Offer<'_>) -
         return Verdict::Busy;
     }
     if offer.payload.len() <= pool.split as usize {
+        pool.ahead = SearchEnd::Fast;
         send_short(face, &mut pool.short, offer);
         return Verdict::Accepted;
     }

@@ -2,7 +2,9 @@ ghost use Rattle.std.specs.Prelude.{◌≡◌, ◌<◌, ◌≤◌};
 ghost use Rattle.zr_kinds.specs.Limits.{longest_payload};
 ghost use Rattle.board_face.specs.{NicCalls.{HasNoToken}, declared.views.nic.NicView.{NicView}};
 ghost use Rattle.page_pool.specs.{Offer.{fresh_for, packed}, Packing.{fits}, Pool.{new_pool, pending_count, PoolStands}};
+ghost use Rattle.page_pool.specs.declared.search_end.SearchEnd.TheVariants.{Fast};
 
+use crate::SearchEnd;
 use crate::pieces::PendingPieces;
 use board_face::{Own, Piece};
 use std::marker::Model;
@@ -34,6 +36,8 @@ pub struct Pool {
     pub(crate) short: Option<Short>,
     pub(crate) pieces: PendingPieces,
     pub(crate) stats: PoolStats,
+    /// Where the search ended that was made ahead for the frame that is offered next.
+    pub(crate) ahead: SearchEnd,
 }
 
 impl Model for Pool {
@@ -48,6 +52,7 @@ impl Model for Pool {
       short = p.short;
       pieces = p.pieces;
       stats = p.stats;
+      ahead = p.ahead;
     } };
 
     ghost invariant = { λ p. (p.split ≤ 256) × (length (option_to_list p.short) + length p.pieces ≤ 64) };
@@ -74,6 +79,7 @@ impl Pool {
                 empty: 0,
                 strays: 0,
             },
+            ahead: SearchEnd::Fast,
         }
     }
 
@@ -82,6 +88,13 @@ impl Pool {
         ensures { result ≡ self.now.stats }
     {
         self.stats
+    }
+
+    /// The frame for which a search was made ahead isn't offered. The search isn't counted.
+    pub fn drop_search(&mut self)
+        ensures { self.new ≡ record self.old { ahead = Fast } }
+    {
+        self.ahead = SearchEnd::Fast;
     }
 
     /// How many notes are pending.

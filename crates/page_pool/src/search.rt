@@ -1,7 +1,8 @@
-ghost use Rattle.std.specs.Prelude.{◌≡◌, ◌≢◌, ◌<◌, ◌≤◌, length, MatchBool};
+ghost use Rattle.std.specs.Prelude.{◌≡◌, ◌≢◌, ◌<◌, ◌≤◌, length};
 ghost use Rattle.board_face.specs.NicCalls.{apps_of, free_words_of};
-ghost use Rattle.page_pool.specs.{Gathering.{RefillsFirst, SweepsFirst}, Searching.{SearchEnd, empty, Searches}};
+ghost use Rattle.page_pool.specs.{Gathering.{RefillsFirst, SweepsFirst}, Searching.{Searches}, declared.search_end.SearchEnd.TheVariants.{Empty}};
 
+use crate::SearchEnd;
 use crate::drain::drain_ring;
 use board_face::NicFace;
 use zr_kinds::PoolStats;
@@ -24,8 +25,11 @@ pub(crate) fn refill<F: NicFace>(face: &mut F, stats: &mut PoolStats)
 /// Sweeps the words of the free list, from 0, until 64 buffers are cached.
 pub(crate) fn sweep<F: NicFace>(face: &mut F)
     ensures sweeps { SweepsFirst (F.seen face.old) (F.seen face.new) 64 (free_words_of (F.seen face.old).setting) }
+    ensures some { 0 < free_words_of (F.seen face.old).setting }
     ensures beside { F.beside face.new ≡ F.beside face.old }
 {
+    // Its answer says that there are buffers, so that the list has a word.
+    let _ = face.size();
     for word in 0..face.free_words() {
         if face.cached() < ENOUGH {
             face.sweep(word);
@@ -33,30 +37,25 @@ pub(crate) fn sweep<F: NicFace>(face: &mut F)
     }
 }
 
-/// Looks for so many fresh buffers: in the cache, then in the refill rings, then on the free list. It answers whether so
-/// many are cached, and counts the search where it ended.
-pub fn find_fresh<F: NicFace>(face: &mut F, stats: &mut PoolStats, needed: u32) -> bool
+/// Looks for so many fresh buffers: in the cache, then in the refill rings, then on the free list. It answers where the search
+/// ended, which isn't counted.
+pub fn find_fresh<F: NicFace>(face: &mut F, stats: &mut PoolStats, needed: u32) -> SearchEnd
     requires few { needed ≤ 64 }
-    ensures searches { MatchBool result
-        ((how : SearchEnd) × (how ≢ empty) × Searches needed stats.old stats.new (F.seen face.old) (F.seen face.new) how)
-        (Searches needed stats.old stats.new (F.seen face.old) (F.seen face.new) empty) }
-    ensures enough { MatchBool result (needed ≤ length (F.seen face.new).cache) (length (F.seen face.new).cache < needed) }
+    ensures searches { Searches needed stats.old stats.new (F.seen face.old) (F.seen face.new) result }
+    ensures enough { result ≢ Empty → needed ≤ length (F.seen face.new).cache }
+    ensures lacks { result ≡ Empty → length (F.seen face.new).cache < needed }
     ensures beside { F.beside face.new ≡ F.beside face.old }
 {
     if face.cached() >= needed {
-        stats.fast = stats.fast.saturating_add(1);
-        return true;
+        return SearchEnd::Fast;
     }
     refill(face, stats);
     if face.cached() >= needed {
-        stats.refill = stats.refill.saturating_add(1);
-        return true;
+        return SearchEnd::Refill;
     }
     sweep(face);
     if face.cached() >= needed {
-        stats.slow = stats.slow.saturating_add(1);
-        return true;
+        return SearchEnd::Slow;
     }
-    stats.empty = stats.empty.saturating_add(1);
-    false
+    SearchEnd::Empty
 }

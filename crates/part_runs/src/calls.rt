@@ -40,5 +40,5 @@ pub fn expect_appends<S: Shelf>(
 }
 
 pub fn expect_bytes(rt: &impl Abort, bytes: &[u8], wanted: &[u8]) {
-    assert_eq!(rt; bytes, wanted);
+    assert!(rt; bytes == wanted, "{bytes:?}");
 }

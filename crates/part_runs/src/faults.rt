@@ -4,7 +4,7 @@ use zr_kinds::Fault;
 // Each fault has the number that stands beside it.
 fn expect_numbers(rt: &impl Abort, rows: &[(Fault, u8)]) {
     for (fault, number) in rows {
-        assert_eq!(rt; fault.number(), *number, "{fault:?}");
+        assert!(rt; fault.number() == *number, "{fault:?}");
     }
 }
 

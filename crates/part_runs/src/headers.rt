@@ -47,7 +47,7 @@ fn over_ipv6(payload: &[u8]) -> Seen<'_> {
 }
 
 fn expect_seen(rt: &impl Abort, frame: &[u8], wanted: Seen, at: usize) {
-    assert_eq!(rt; read_frame(frame), wanted, "row {at}");
+    assert!(rt; read_frame(frame) == wanted, "row {at}");
 }
 
 /// `HELLO` with this pair of bytes at each place is seen as what stands beside it.

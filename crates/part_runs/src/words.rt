@@ -76,7 +76,7 @@ fn expect_words(rt: &impl Abort, slot: &[u64; 39], at: usize, words: &[u64])
     let mut wanted = *slot;
     wanted[at..].fill(0);
     wanted[at..at + words.len()].copy_from_slice(words);
-    assert_eq!(rt; *slot, wanted);
+    assert!(rt; *slot == wanted);
 }
 
 /// The slot has this note and these bytes, and behind them zeros.
@@ -86,8 +86,7 @@ fn expect_slot(rt: &impl Abort, slot: &[u64; 39], note: &Note, payload: &[u8])
     let mut wanted = [0; 256];
     wanted[..payload.len()].copy_from_slice(payload);
     let (back, linear) = read(slot);
-    assert_eq!(rt; back, *note);
-    assert_eq!(rt; linear, wanted);
+    assert!(rt; back == *note && linear == wanted);
 }
 
 /// A drawn note of a piece in the area comes back, with no byte.
@@ -114,14 +113,14 @@ fn expect_entry_back(rt: &impl Abort, state: &mut u32) {
         len: draw(state),
         pad: draw(state),
     };
-    assert_eq!(rt; refill_read(&refill_words(&entry)), entry);
+    assert!(rt; refill_read(&refill_words(&entry)) == entry);
 }
 
 /// Word `k` of a text is this one.
 fn expect_text_word(rt: &impl Abort, text: &[u8], k: usize, word: u64)
     requires { k < text_count (length text.now) }
 {
-    assert_eq!(rt; text_word(text, k), word);
+    assert!(rt; text_word(text, k) == word, "word {k}");
 }
 
 #[test]

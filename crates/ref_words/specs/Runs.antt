@@ -5,9 +5,8 @@ use mathlib.Core.Option.{some}
 use lib.ListN.{get_elem?}
 use Rattle.zr_kinds.specs.declared.{place.{Place.{Place}, Note.{Note}}, ring.Rqe.{Rqe}}
 use Rattle.area_layout.specs.Layout.{area_of_buffer, IsLayout, total, judged}
-use Rattle.board_face.specs.NicEvents.{took, text_at, word_bits}
+use Rattle.board_face.specs.{NicEvents.{took, text_at, word_bits}, NicCalls.{HasOwn, HasPiece, HasNoToken, IsOpen, apps_of, free_words_of}}
 use Rattle.board_face.specs.AppEvents.{cut, lent, lent_own, reserve_of, begin_place, loan_origin, reads_with, entry_of as loan_entry}
-use Rattle.board_face.specs.NicCalls.{HasOwn, HasPiece, HasNoToken, IsOpen, apps_of, free_words_of}
 use Rattle.board_face.specs.{AppCalls.{IsHere, HasHeld, HasLoan, HasSpare, IsFilled, CanLend, CanLeave, MaySpare, NamesNoLoan}, Counts.{pool_count, user_count}}
 use Rattle.board_face.specs.{FreeOnce.{AreFreeOnce}, Holders.{sent_to}, Shown.{AreShown}, Relay.{IsAsSent}, Opened.{new_nic, new_app, new_apps}, Sides.{nic_at, app_at}}
 use Rattle.board_face.specs.Steps.{side_begun, side_shut, side_judged, side_user_lowered, side_both_lowered}
@@ -16,9 +15,8 @@ use Rattle.board_face.specs.SlotSteps.{next_slot, side_refill_looked, side_refil
 use Rattle.board_face.specs.SlotSteps.{side_entry_looked, side_entry_loaded, side_in_hand, side_slot_looked, side_slot_loaded}
 use Rattle.board_face.specs.SlotSteps.{side_gave, side_pushed, side_dealt, side_sent, side_sent_linear, side_took_note, side_took_linear}
 use Rattle.board_face.specs.{Texts.{IsSplitNote, IsLinearNote, further}, Tokens.{filled_by, next_place}, Used.{PicksAreGiven}, declared.views.parts.Setting.{Setting}}
-use Rattle.board_face.specs.declared.views.{parts.Filling.{Filling}, nic.Fate.TheVariants.{Honoured, Stray}}
+use Rattle.board_face.specs.declared.views.{parts.Filling.{Filling}, nic.Fate.TheVariants.{Honoured, Stray}, app.{Reading.{Reading}, AppSide.{AppSide}}}
 use Rattle.board_face.specs.declared.views.nic.{Judged.TheVariants.{Not, Stray as judged_stray, Owed, UserLowered, BothLowered}, NicSide.{NicSide}}
-use Rattle.board_face.specs.declared.views.app.{Reading.{Reading}, AppSide.{AppSide}}
 use Rattle.word_rings.specs.Slots.{note_width, refill_width, entry_of, entry_body, note_body}
 use Rattle.ref_words.specs.{declared.view.View.{View}, Words.{Words, opened_words, with_role, with_pool, pool_of, with_user, user_of, listed_in}}
 use Rattle.ref_words.specs.Words.{free_of, with_free, with_listed, with_unlisted, slot_word, with_refill, with_note}

@@ -1,5 +1,6 @@
 -- What is told of a run that was played, with the shelves that were set aside behind those of its applications.
 use Rattle.std.{proofs.Common.{◌≡◌, ℕ, List, ◌++◌, Option, inr, sym, subst}, specs.Prelude.{Result, Ok, Err, OnErr}}
+use Rattle.zr_io.specs.Moved.{ShelfCounts}
 use Rattle.flow_queues.specs.Ends.{AppEnd}
 use Rattle.card_feed.specs.{Feed.{FeedState}, declared.{outcome.Outcome.{Outcome}, plan.Plan.{Plan}}}
 use Rattle.run_account.specs.{Laws.{RunsAreTold, RunsEndWell}, Ran.{HasReadOn, LacksMemoryBeside, Ran, TellsOfEnds, told_of}, Running.{HasRun}}
@@ -10,7 +11,7 @@ pub on-err : {A E : Type 0} (r : Result A E) (P : Type 0) → P → OnErr r P
 on-err (Ok x) P holds = tt
 on-err (Err e) P holds = holds
 
-module _ {S T : Type 0} (left : S → Option (List ℕ)) (faults : S → ℕ) (kept : T → ℕ → Option (List ℕ)) (losses : T → ℕ)
+module _ {S T : Type 0} (left : S → Option (List ℕ)) (faults : S → ℕ) (kept : T → ℕ → Option (List ℕ)) (losses : T → ShelfCounts)
     (source source_now : S) (all mid mid_now all_now more : List T) (plan : Plan) (desk : TheDesk) (feed : FeedState) (ends : List AppEnd)
     (first : all ≡ mid ++ more) (last : all_now ≡ mid_now ++ more)
     (played : HasPlayed left faults kept losses source source_now mid mid_now plan desk feed ends) where

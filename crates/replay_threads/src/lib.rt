@@ -8,5 +8,6 @@ mod moving;
 mod playing;
 mod running;
 
+pub use playing::processors;
 pub use run_loops::{Gate, NoGate};
 pub use running::run_threads;

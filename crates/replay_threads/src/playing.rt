@@ -124,8 +124,8 @@ fn play_rounds<S: Source, W: Sits + Send, G: Gate + Sync, R: Threads + Sync>(
     are_over(card, lanes)
 }
 
-/// For how many processors a run is laid out.
-fn processors<G: Gate, R: Threads>(rt: &R, gate: &G) -> usize {
+/// For how many processors a run is laid out: as many as the gate names, or as there are.
+pub fn processors<G: Gate, R: Threads>(rt: &R, gate: &G) -> usize {
     if let Some(processors) = gate.processors() {
         return processors;
     }

@@ -1,5 +1,5 @@
 -- What a turn answers: it brought the run further, or did nothing since its role can do nothing.
-use Rattle.std.proofs.Common.{◌≡◌, ◌≢◌, ℕ, ◌+◌, ◌<◌, Bool, true, false, set, List, [], Option, Some, inl, inr, ⊎_elim, refl, sym, ap, ◌∙◌, subst, arith}
+use Rattle.std.proofs.Common.{◌≡◌, ◌≢◌, ℕ, ◌+◌, ◌<◌, ◌≤◌, Bool, true, false, set, List, [], Option, Some, inl, inr, ⊎_elim, refl, sym, ap, ◌∙◌, subst, arith}
 use Rattle.std.{specs.{Prelude.{MatchBool}, List.{slice_get}}, proofs.lemmas.{Bool.{cases_Bool, Decides.{eqb_tells}}, List.{set-get_or}}}
 use Rattle.std.proofs.lemmas.Option.{get_or_from_slice_get}
 use Rattle.board_face.specs.{AppEvents.{app_gist, reserve_of}, NicCalls.{apps_of}, declared.views.{app.{AppSide.{AppSide}, AppView.{AppView}}, nic.NicSide.{NicSide}}}
@@ -19,11 +19,14 @@ module _ (board board_now : Board) (was now : Run) (workers : now.workers.items 
   sides : (a : ℕ) → app_gist (side_of board_now a).view ≡ app_gist (side_of board a).view
   sides a = ap (λ all. app_gist (side_in all a).view) apps
 
+  apps-same : steps_from board_now 0 now.workers.items ≡ steps_from board 0 was.workers.items
+  apps-same = ap (steps_from board_now 0) workers ∙ steps-alike board board_now 0 was.workers.items (λ a later. sides a)
+
   card-rises : feed_steps was.feed board.nic.view < feed_steps now.feed board_now.nic.view → run_steps board was < run_steps board_now now
-  card-rises rises =
-      let same : steps_from board_now 0 now.workers.items ≡ steps_from board 0 was.workers.items =
-      ap (steps_from board_now 0) workers ∙ steps-alike board board_now 0 was.workers.items (λ a later. sides a) in
-      omega (arith, rises, same)
+  card-rises rises = omega (arith, rises, apps-same)
+
+  pub card-later : feed_steps was.feed board.nic.view ≤ feed_steps now.feed board_now.nic.view → run_steps board was ≤ run_steps board_now now
+  card-later later = omega (arith, later, apps-same)
 
   card-idle : IsIdle IsSeenByCard board_now.apps was.feed now.feed board.nic.view board_now.nic.view → DidNothing Card board board_now was now
   card-idle idle =

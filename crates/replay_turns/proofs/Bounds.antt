@@ -13,6 +13,7 @@ use Rattle.replay_turns.specs.{Running.{RunFits}, Steps.{worker_steps, steps_fro
 use Rattle.replay_turns.proofs.BoardOver.{side-is}
 use Rattle.run_account.{specs.declared.run.{Run.{Run}, Worker.{Worker}}, proofs.{Shares.{shares, over-most}, NoteSums.{note_len, AreFew}}}
 use Rattle.run_account.proofs.SentFew.{notes-few, own-few, taken-sum}
+use Rattle.zr_io.specs.Moved.{ShelfCounts}
 
 -- ---- entries
 
@@ -128,11 +129,11 @@ module _ (board : Board) (run : Run) (shelves : ℕ) (fits : RunFits board run s
       let bytes = notes.bytes in
       omega (arith, records, some, bytes, dealt, apps, one-most run.feed.closed, one-most (is_over run.feed.stage))
 
-pub runs-within : {S T : Type 0} (left : S → Option (List ℕ)) (faults : S → ℕ) (kept : T → ℕ → Option (List ℕ)) (losses : T → ℕ)
+pub runs-within : {S T : Type 0} (left : S → Option (List ℕ)) (faults : S → ℕ) (kept : T → ℕ → Option (List ℕ)) (losses : T → ShelfCounts)
     → RunsStayWithin left faults kept losses
 runs-within left faults kept losses source source_now shelves shelves_now plan board run fits runs =
     let notes = notes-few left faults source source_now plan.ports.items plan.split runs.frames run.feed board.nic.view runs.feed runs.records
     fits.sound.notes in
     let dealt = subst (λ n. All (λ (d : Dealt). d.app < n) board.nic.view.dealt) (sym runs.many) runs.dealt in
     subst (λ n. run_steps board run ≤ run_most n plan.how.stray) runs.many
-    (run-within board run (length shelves_now) fits runs.records dealt notes plan.how.stray (λ a w at. ap (λ how. how.stray) (runs.worker a w at).how_is))
+    (run-within board run (length shelves_now) fits runs.records dealt notes plan.how.stray (λ a w at. ap (λ how. how.stray) (runs.worker a w at).runs.how_is))

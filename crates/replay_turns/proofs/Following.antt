@@ -1,8 +1,9 @@
 -- Turns behind turns.
 use Rattle.std.{proofs.Common.{ℕ, suc, Bool, true, false, List, [], ◌∷◌, ◌++◌, map, Option, ◌⊎◌, ◌+◌, ◌≡◌, inl, inr, refl, subst, arith}, specs.Prelude.{MatchBool}}
 use Rattle.replay_turns.specs.{Following.{Moment, Moves, Follows, round_of, rounds_of}, Schedule.{role_of}, declared.role.Role.{Role, TheVariants.{App}}}
+use Rattle.zr_io.specs.Moved.{ShelfCounts}
 
-module _ {S T : Type 0} (left : S → Option (List ℕ)) (faults : S → ℕ) (kept : T → ℕ → Option (List ℕ)) (losses : T → ℕ) where
+module _ {S T : Type 0} (left : S → Option (List ℕ)) (faults : S → ℕ) (kept : T → ℕ → Option (List ℕ)) (losses : T → ShelfCounts) where
   pub follows-through : (roles more : List Role) (first mid last : Moment S T) → Follows left faults kept losses roles first mid
       → Follows left faults kept losses more mid last → Follows left faults kept losses (roles ++ more) first last
   follows-through [] more first mid last same later = subst (λ m. Follows left faults kept losses more m last) same later

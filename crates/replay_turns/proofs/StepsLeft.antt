@@ -3,6 +3,7 @@ use Rattle.std.{proofs.Common.{◌≡◌, ℕ, ◌-◌, ◌<◌, ◌≤◌, List
 use Rattle.plain_board.specs.Board.{Board}
 use Rattle.replay_turns.{specs.{Rounds.{IsOfPlan}, Running.{Plays}, Steps.{run_steps, run_most}}, proofs.Bounds.{runs-within}}
 use Rattle.run_account.specs.{Running.{Running}, declared.run.{Run.{Run}, Worker.{Worker}}}
+use Rattle.zr_io.specs.Moved.{ShelfCounts}
 
 -- how many entries may follow each loan, which is the same for all applications
 abbrev pub stray_of : List Worker → ℕ
@@ -24,7 +25,7 @@ comes-down : (before after most steps steps_now : ℕ) → before ≡ most → a
     → after - steps_now < before - steps
 comes-down before after most steps steps_now was now rises within = omega (arith, was, now, rises, within)
 
-module _ {S T : Type 0} (left : S → Option (List ℕ)) (faults : S → ℕ) (kept : T → ℕ → Option (List ℕ)) (losses : T → ℕ)
+module _ {S T : Type 0} (left : S → Option (List ℕ)) (faults : S → ℕ) (kept : T → ℕ → Option (List ℕ)) (losses : T → ShelfCounts)
     (source source_now : S) (shelves shelves_now : List T) (board board_now : Board) (was now : Run)
     (of : IsOfPlan left faults kept losses source shelves board was)
     (plays : Plays left faults kept losses source source_now shelves shelves_now board board_now was now) where
@@ -39,7 +40,7 @@ module _ {S T : Type 0} (left : S → Option (List ℕ)) (faults : S → ℕ) (k
       let many = runs.many in
       ap (λ n. run_most n (stray_of run.workers.items)) many
       ∙ ap (run_most (length of.plan.ports.items)) (stray-is run.workers.items of.plan.how.stray (omega (arith, some, many))
-      (λ a w is. ap (λ how. how.stray) (runs.worker a w is).how_is))
+      (λ a w is. ap (λ how. how.stray) (runs.worker a w is).runs.how_is))
 
   pub left-falls : run_steps board was < run_steps board_now now → steps_left board_now now < steps_left board was
   unfolding still-of

@@ -4,10 +4,12 @@ use Rattle.std.specs.List.{slice_get}
 use Rattle.zr_kinds.specs.Limits.{most_records}
 use Rattle.board_face.specs.{declared.views.{app.AppSide.{AppSide}, parts.Setting.{Setting}, nic.{Dealt.{Dealt}, NicSide.{NicSide}}}, Sides.{side_in}}
 use Rattle.plain_board.specs.{Board.{Board, stand_of, side_of}, Stand.{setting_of}, Sound.{IsSound}}
-use Rattle.card_feed.specs.{Account.{kept_in}, Feed.{FeedState, IsReady, FeedStands}, Turns.{FeedPlays as CardPlays}, declared.plan.Plan.{Plan}}
-use Rattle.run_account.{specs.{Running.{losses_in, Running, WorkerFits, WorkerRuns}, declared.run.{Run.{Run}, Worker.{Worker}}}, proofs.DealtEntries.{dealt-of}}
+use Rattle.card_feed.specs.{Account.{kept_in}, Feed.{FeedState, IsReady, FeedStands}, Turns.{FeedTurns}, declared.plan.Plan.{Plan}}
+use Rattle.run_account.specs.{Behind.{behind}, CardTurns.{CardActs, card_moment, turns}}
+use Rattle.run_account.{specs.{Running.{losses_in, Running, WorkerFits, WorkerGoes}, declared.run.{Run.{Run}, Worker.{Worker}}}, proofs.DealtEntries.{dealt-of}}
 use Rattle.run_account.proofs.Places.{InSet, here, there, in-set, get-set_same, get-set_other, get-within, kept-here, kept-there, losses-here, losses-there}
 use Rattle.replay_turns.specs.Running.{RunFits, Plays}
+use Rattle.zr_io.specs.Moved.{ShelfCounts}
 
 -- ---- the board
 
@@ -46,13 +48,14 @@ module _ (board board_now : Board) (was now : Run) (workers : now.workers.items 
     shelves_enough = let same : length now.workers.items ≡ length was.workers.items = ap length workers in omega (arith, same, fits.shelves_enough);
   }
 
-  pub card-runs : {S T : Type 0} (left : S → Option (List ℕ)) (faults : S → ℕ) (kept : T → ℕ → Option (List ℕ)) (losses : T → ℕ)
+  pub card-on : {S T : Type 0} (left : S → Option (List ℕ)) (faults : S → ℕ) (kept : T → ℕ → Option (List ℕ)) (losses : T → ShelfCounts)
       (first source source_now : S) (firsts shelves : List T) (plan : Plan) → RunFits board was (length shelves)
       → (runs : Running left faults kept losses first source firsts shelves plan board.nic board.apps was)
       → (more : List (List ℕ)) → FeedStands left faults first source_now plan.ports.items plan.split more now.feed board_now.nic.view
-      → now.feed.tally.records ≤ most_records → (read : FeedState) → CardPlays read now.feed board.nic.view board_now.nic.view
+      → CardActs plan.ports.items plan.split (card_moment runs.frames was.feed board.nic.view) (card_moment more now.feed board_now.nic.view)
+      → now.feed.tally.records ≤ most_records → All (λ (d : Dealt). d.app < length plan.ports.items) board_now.nic.view.dealt
       → Running left faults kept losses first source_now firsts shelves plan board_now.nic board_now.apps now
-  card-runs left faults kept losses first source source_now firsts shelves plan fits runs more stands records read plays =
+  card-on left faults kept losses first source source_now firsts shelves plan fits runs more stands acts records dealt =
       let some : 0 < length board.apps =
       omega (arith, runs.many, fits.many, fits.sound.set.many, runs.plan_is.some) in
       record {
@@ -60,18 +63,31 @@ module _ (board board_now : Board) (was now : Run) (workers : now.workers.items 
         by_turns = runs.by_turns;
         frames = more;
         feed = stands;
+        turns = (runs.turns.0, behind _ _ runs.turns.1 acts);
         setting = setting-same board board_now fits.sound sound_now apps some ∙ runs.setting;
         many = ap length workers ∙ runs.many;
         worker = λ a w is. subst
-            (λ all. WorkerRuns (kept_in kept firsts a) (kept_in kept shelves a) (losses_in losses firsts a) (losses_in losses shelves a) plan.how
+            (λ all. WorkerGoes plan (kept_in kept firsts a) (kept_in kept shelves a) (losses_in losses firsts a) (losses_in losses shelves a)
             (side_in all a).view w)
             (sym apps) (runs.worker a w (ap (λ items. slice_get items a) (sym workers) ∙ is));
         many_shelves = runs.many_shelves;
         beyond = runs.beyond;
         records = records;
-        dealt = dealt-of (length plan.ports.items) read now.feed board.nic.view board_now.nic.view plays
-            (ap (λ s. s.layout.reserves) fits.sound.set.card ∙ sym fits.many ∙ runs.many) runs.dealt;
+        dealt = dealt;
       }
+
+  pub card-runs : {S T : Type 0} (left : S → Option (List ℕ)) (faults : S → ℕ) (kept : T → ℕ → Option (List ℕ)) (losses : T → ShelfCounts)
+      (first source source_now : S) (firsts shelves : List T) (plan : Plan) → RunFits board was (length shelves)
+      → (runs : Running left faults kept losses first source firsts shelves plan board.nic board.apps was)
+      → FeedTurns left faults first source_now plan.ports.items plan.split runs.frames was.feed now.feed board.nic.view board_now.nic.view
+      → now.feed.tally.records ≤ most_records
+      → Running left faults kept losses first source_now firsts shelves plan board_now.nic board_now.apps now
+  card-runs left faults kept losses first source source_now firsts shelves plan fits runs turn records =
+      card-on left faults kept losses first source source_now firsts shelves plan fits runs turn.more turn.stands
+      (turns now.feed board_now.nic.view
+      (record { read = turn.read; more = turn.more; only = turn.only; reads = turn.reads; waits = turn.waits; plays = turn.plays })) records
+      (dealt-of (length plan.ports.items) turn.read now.feed board.nic.view board_now.nic.view turn.plays
+      (ap (λ s. s.layout.reserves) fits.sound.set.card ∙ sym fits.many ∙ runs.many) runs.dealt)
 
 -- ---- an application
 
@@ -100,48 +116,49 @@ module _ (board board_now : Board) (was now : Run) (app : ℕ) (w_was w_now : Wo
     shelves_enough = let same = many-now in omega (arith, same, fits.shelves_enough);
   }
 
-  pub app-runs : {S T : Type 0} (left : S → Option (List ℕ)) (faults : S → ℕ) (kept : T → ℕ → Option (List ℕ)) (losses : T → ℕ)
+  pub app-runs : {S T : Type 0} (left : S → Option (List ℕ)) (faults : S → ℕ) (kept : T → ℕ → Option (List ℕ)) (losses : T → ShelfCounts)
       (first source : S) (firsts shelves : List T) (plan : Plan) (shelf shelf_now : T) → slice_get shelves app ≡ Some shelf
       → Running left faults kept losses first source firsts shelves plan board.nic board.apps was
-      → (WorkerRuns (kept_in kept firsts app) (kept shelf) (losses_in losses firsts app) (losses shelf) plan.how (side_of board app).view w_was
-      → WorkerRuns (kept_in kept firsts app) (kept shelf_now) (losses_in losses firsts app) (losses shelf_now) plan.how (side_of board_now app).view w_now)
+      → (WorkerGoes plan (kept_in kept firsts app) (kept shelf) (losses_in losses firsts app) (losses shelf) (side_of board app).view w_was
+      → WorkerGoes plan (kept_in kept firsts app) (kept shelf_now) (losses_in losses firsts app) (losses shelf_now) (side_of board_now app).view w_now)
       → Running left faults kept losses first source firsts (set shelves app shelf_now) plan board_now.nic board_now.apps now
   app-runs left faults kept losses first source firsts shelves plan shelf shelf_now shelf_is runs goes =
       let later = set shelves app shelf_now in
       let within : app < length shelves = get-within shelves app shelf shelf_is in
       let below : app < length plan.ports.items = omega (arith, get-within was.workers.items app w_was is_was, runs.many) in
       let here_is = get-set_same shelves app shelf_now within in
-      let was_runs = subst (λ k. WorkerRuns (kept_in kept firsts app) k (losses_in losses firsts app) (losses shelf) plan.how (side_of board app).view w_was)
+      let was_runs = subst (λ k. WorkerGoes plan (kept_in kept firsts app) k (losses_in losses firsts app) (losses shelf) (side_of board app).view w_was)
       (kept-here kept shelves app shelf shelf_is)
-      (subst (λ n. WorkerRuns (kept_in kept firsts app) (kept_in kept shelves app) (losses_in losses firsts app) n plan.how (side_of board app).view w_was)
+      (subst (λ n. WorkerGoes plan (kept_in kept firsts app) (kept_in kept shelves app) (losses_in losses firsts app) n (side_of board app).view w_was)
       (losses-here losses shelves app shelf shelf_is) (runs.worker app w_was is_was)) in
-      let now_runs = subst (λ k. WorkerRuns (kept_in kept firsts app) k (losses_in losses firsts app) (losses_in losses later app) plan.how
+      let now_runs = subst (λ k. WorkerGoes plan (kept_in kept firsts app) k (losses_in losses firsts app) (losses_in losses later app)
       (side_of board_now app).view w_now)
       (sym (kept-here kept later app shelf_now here_is))
-      (subst (λ n. WorkerRuns (kept_in kept firsts app) (kept shelf_now) (losses_in losses firsts app) n plan.how (side_of board_now app).view w_now)
+      (subst (λ n. WorkerGoes plan (kept_in kept firsts app) (kept shelf_now) (losses_in losses firsts app) n (side_of board_now app).view w_now)
       (sym (losses-here losses later app shelf_now here_is)) (goes was_runs)) in
       record {
         plan_is = runs.plan_is;
         by_turns = runs.by_turns;
         frames = runs.frames;
+        turns = rw (feed_is, nic_is) runs.turns;
         feed = subst (λ f. FeedStands left faults first source plan.ports.items plan.split runs.frames f board_now.nic.view) (sym feed_is)
             (subst (λ nic. FeedStands left faults first source plan.ports.items plan.split runs.frames was.feed nic.view) (sym nic_is) runs.feed);
         setting = ap (λ nic. nic.view.setting) nic_is ∙ runs.setting;
         many = many-now ∙ runs.many;
         worker = λ a w is. elim (get-now a w is) [
-          | here at same ↦ subst (λ b. WorkerRuns (kept_in kept firsts b) (kept_in kept later b) (losses_in losses firsts b)
-              (losses_in losses later b) plan.how
+          | here at same ↦ subst (λ b. WorkerGoes plan (kept_in kept firsts b) (kept_in kept later b) (losses_in losses firsts b)
+              (losses_in losses later b)
               (side_of board_now b).view w) (sym at)
-              (subst (λ x. WorkerRuns (kept_in kept firsts app) (kept_in kept later app) (losses_in losses firsts app) (losses_in losses later app) plan.how
+              (subst (λ x. WorkerGoes plan (kept_in kept firsts app) (kept_in kept later app) (losses_in losses firsts app) (losses_in losses later app)
               (side_of board_now app).view x) (sym same) now_runs)
           | there other is_there ↦
               let shelf_there = get-set_other shelves app a shelf_now other in
-              subst (λ k. WorkerRuns (kept_in kept firsts a) k (losses_in losses firsts a) (losses_in losses later a) plan.how (side_of board_now a).view w)
+              subst (λ k. WorkerGoes plan (kept_in kept firsts a) k (losses_in losses firsts a) (losses_in losses later a) (side_of board_now a).view w)
               (sym (kept-there kept shelves later a shelf_there))
-              (subst (λ n. WorkerRuns (kept_in kept firsts a) (kept_in kept shelves a) (losses_in losses firsts a) n plan.how (side_of board_now a).view w)
+              (subst (λ n. WorkerGoes plan (kept_in kept firsts a) (kept_in kept shelves a) (losses_in losses firsts a) n (side_of board_now a).view w)
               (sym (losses-there losses shelves later a shelf_there))
-              (subst (λ side. WorkerRuns (kept_in kept firsts a) (kept_in kept shelves a) (losses_in losses firsts a)
-              (losses_in losses shelves a) plan.how side.view w)
+              (subst (λ side. WorkerGoes plan (kept_in kept firsts a) (kept_in kept shelves a) (losses_in losses firsts a)
+              (losses_in losses shelves a) side.view w)
               (sym (others a other)) (runs.worker a w is_there)))
         ];
         many_shelves = length-set shelves app shelf_now ∙ runs.many_shelves;
@@ -152,7 +169,7 @@ module _ (board board_now : Board) (was now : Run) (app : ℕ) (w_was w_now : Wo
 
 -- ---- turns behind turns
 
-pub plays-through : {S T : Type 0} (left : S → Option (List ℕ)) (faults : S → ℕ) (kept : T → ℕ → Option (List ℕ)) (losses : T → ℕ)
+pub plays-through : {S T : Type 0} (left : S → Option (List ℕ)) (faults : S → ℕ) (kept : T → ℕ → Option (List ℕ)) (losses : T → ShelfCounts)
     (a b c : S) (k l m : List T) (first second third : Board) (u v w : Run)
     → Plays left faults kept losses a b k l first second u v → Plays left faults kept losses b c l m second third v w
     → Plays left faults kept losses a c k m first third u w

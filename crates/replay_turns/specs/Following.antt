@@ -7,6 +7,7 @@ use Rattle.card_feed.specs.{Feed.{FeedStands, WantsRecord, feed_steps, new_feed}
 use Rattle.card_feed.specs.declared.plan.Plan.{Plan}
 use Rattle.run_account.specs.{Ran.{TellsOf, Told, told_of}, Running.{AreNew, AreOver}, declared.run.{Run.{Run}, Worker.{Worker}}}
 use Rattle.replay_turns.specs.{Events.{room_of}, Schedule.{role_of}, declared.role.Role.{Role, TheVariants.{Card, App}}}
+use Rattle.zr_io.specs.Moved.{ShelfCounts}
 
 -- A run between two turns.
 pub record Moment (S T : Type 0) : Type 0 where
@@ -33,14 +34,14 @@ pub record CardMoves {S T : Type 0} (left : S → Option (List ℕ)) (faults : S
   pub sound : IsSound (stand_of now.board)
 
 -- An application had a turn, with this answer; where it did nothing, that is so. Only its side moved, with its shelf.
-pub record AppMoves {S T : Type 0} (kept : T → ℕ → Option (List ℕ)) (losses : T → ℕ) (app : ℕ) (worker : Worker) (was now : Moment S T) : Type 0 where
+pub record AppMoves {S T : Type 0} (kept : T → ℕ → Option (List ℕ)) (losses : T → ShelfCounts) (app : ℕ) (worker : Worker) (was now : Moment S T) : Type 0 where
   pub worker_now : Worker
   pub shelf : T
   pub shelf_now : T
   pub shelf_at : slice_get was.shelves app ≡ Some shelf
   pub answer : Turn
   pub turns : Turns worker.state worker_now.state (side_of was.board app).view (side_of now.board app).view (kept shelf) (kept shelf_now)
-      (losses shelf) (losses shelf_now) answer
+      (losses shelf).faults (losses shelf_now).faults answer
   pub seen : (why : Why) → answer ≡ Idle why → IsSeenBy (look_of why) (app_gist (side_of now.board app).view) (others_of now.board app)
   pub leaves : answer ≡ Finished → worker_now.left ≡ true
   pub stays : answer ≢ Finished → worker_now.left ≡ false
@@ -54,13 +55,13 @@ pub record AppMoves {S T : Type 0} (kept : T → ℕ → Option (List ℕ)) (los
   pub sound : IsSound (stand_of now.board)
 
 -- The role had a turn. An application that has left does nothing in it.
-abbrev pub Moves : {S T : Type 0} → (S → Option (List ℕ)) → (S → ℕ) → (T → ℕ → Option (List ℕ)) → (T → ℕ) → Role → Moment S T → Moment S T → Type 0
+abbrev pub Moves : {S T : Type 0} → (S → Option (List ℕ)) → (S → ℕ) → (T → ℕ → Option (List ℕ)) → (T → ShelfCounts) → Role → Moment S T → Moment S T → Type 0
 Moves left faults kept losses Card was now = CardMoves left faults was now
 Moves left faults kept losses (App app) was now = (worker : Worker) × (slice_get was.run.workers.items app ≡ Some worker)
     × (((worker.left ≡ true) × (now ≡ was)) ⊎ ((worker.left ≡ false) × AppMoves kept losses app worker was now))
 
 -- These roles had turns, one after another.
-abbrev pub Follows : {S T : Type 0} → (S → Option (List ℕ)) → (S → ℕ) → (T → ℕ → Option (List ℕ)) → (T → ℕ) → List Role → Moment S T → Moment S T → Type 0
+abbrev pub Follows : {S T : Type 0} → (S → Option (List ℕ)) → (S → ℕ) → (T → ℕ → Option (List ℕ)) → (T → ShelfCounts) → List Role → Moment S T → Moment S T → Type 0
 Follows left faults kept losses [] was now = now ≡ was
 Follows {S} {T} left faults kept losses (role ∷ roles) was now = (next : Moment S T) × Moves left faults kept losses role was next
     × Follows left faults kept losses roles next now
@@ -86,7 +87,7 @@ pub record IsNewRun (plan : Plan) (board : Board) (run : Run) : Type 0 where
 
 -- A run by a text of turns: nobody had taken a turn, the turns were those of the text, one a letter, and then whole rounds, until all
 -- was over, and that is what is told.
-pub record RunsBy {S T : Type 0} (left : S → Option (List ℕ)) (faults : S → ℕ) (kept : T → ℕ → Option (List ℕ)) (losses : T → ℕ)
+pub record RunsBy {S T : Type 0} (left : S → Option (List ℕ)) (faults : S → ℕ) (kept : T → ℕ → Option (List ℕ)) (losses : T → ShelfCounts)
     (source source_now : S) (shelves shelves_now : List T) (plan : Plan) (turns : List ℕ) (told : Told) (board_now : Board) : Type 0 where
   pub opened : Board
   pub begun : Run

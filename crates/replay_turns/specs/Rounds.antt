@@ -6,6 +6,7 @@ use Rattle.plain_board.specs.Board.{Board, side_of}
 use Rattle.card_feed.specs.declared.plan.Plan.{Plan}
 use Rattle.run_account.specs.{Running.{Running}, declared.run.Run.{Run}}
 use Rattle.replay_turns.specs.{Stuck.{IsStuck}, declared.role.Role.{Role}}
+use Rattle.zr_io.specs.Moved.{ShelfCounts}
 
 -- All is as it was, but for looks and what the applications know of their refill slots.
 pub record StandsStill (board board_now : Board) (was now : Run) : Type 0 where
@@ -22,7 +23,7 @@ pub record DidNothing (role : Role) (board board_now : Board) (was now : Run) : 
   pub stuck : IsStuck role board_now now
 
 -- The run is one of some plan, so it goes no further than that lets it.
-pub record IsOfPlan {S T : Type 0} (left : S → Option (List ℕ)) (faults : S → ℕ) (kept : T → ℕ → Option (List ℕ)) (losses : T → ℕ)
+pub record IsOfPlan {S T : Type 0} (left : S → Option (List ℕ)) (faults : S → ℕ) (kept : T → ℕ → Option (List ℕ)) (losses : T → ShelfCounts)
     (source : S) (shelves : List T) (board : Board) (run : Run) : Type 0 where
   pub first : S
   pub firsts : List T

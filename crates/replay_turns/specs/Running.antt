@@ -3,6 +3,7 @@ use Rattle.std.specs.Prelude.{◌≡◌, ℕ, ◌≤◌, List, length, Option}
 use Rattle.plain_board.specs.{Board.{Board, stand_of}, Sound.{IsSound}}
 use Rattle.card_feed.specs.declared.plan.Plan.{Plan}
 use Rattle.run_account.specs.{Running.{RolesFit, Running}, declared.run.Run.{Run}}
+use Rattle.zr_io.specs.Moved.{ShelfCounts}
 
 -- What is kept fits the board, and there is a shelf for each application.
 pub record RunFits (board : Board) (run : Run) (shelves : ℕ) : Type 0 where
@@ -12,7 +13,7 @@ pub record RunFits (board : Board) (run : Run) (shelves : ℕ) : Type 0 where
   pub shelves_enough : length run.workers.items ≤ shelves
 
 -- Some turns: what is kept fits the board again, its log has room for as many events, and the run goes on.
-pub record Plays {S T : Type 0} (left : S → Option (List ℕ)) (faults : S → ℕ) (kept : T → ℕ → Option (List ℕ)) (losses : T → ℕ)
+pub record Plays {S T : Type 0} (left : S → Option (List ℕ)) (faults : S → ℕ) (kept : T → ℕ → Option (List ℕ)) (losses : T → ShelfCounts)
     (source source_now : S) (shelves shelves_now : List T) (board board_now : Board) (was now : Run) : Type 0 where
   pub fits : RunFits board_now now (length shelves_now)
   pub workers : length now.workers.items ≡ length was.workers.items

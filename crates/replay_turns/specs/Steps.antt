@@ -7,6 +7,7 @@ use Rattle.app_worker.specs.{State.{app_steps, one_if}, Turns.{Turns}, declared.
 use Rattle.card_feed.specs.{Feed.{feed_steps}, declared.plan.Plan.{Plan}}
 use Rattle.run_account.specs.{Running.{Running}, declared.run.{Run.{Run}, Worker.{Worker}}}
 use Rattle.replay_turns.specs.Running.{RunFits}
+use Rattle.zr_io.specs.Moved.{ShelfCounts}
 
 -- ---- how far it has come
 
@@ -50,7 +51,7 @@ abbrev pub run_most : ℕ → ℕ → ℕ
 run_most apps stray = most_records + most_bytes + 2 + apps * entries_most stray + apps * worker_most stray
 
 -- A run of a plan goes no further.
-abbrev pub RunsStayWithin : {S T : Type 0} → (S → Option (List ℕ)) → (S → ℕ) → (T → ℕ → Option (List ℕ)) → (T → ℕ) → Type 0
+abbrev pub RunsStayWithin : {S T : Type 0} → (S → Option (List ℕ)) → (S → ℕ) → (T → ℕ → Option (List ℕ)) → (T → ShelfCounts) → Type 0
 RunsStayWithin {S} {T} left faults kept losses =
     (source source_now : S) (shelves shelves_now : List T) (plan : Plan) (board : Board) (run : Run)
     → RunFits board run (length shelves_now) → Running left faults kept losses source source_now shelves shelves_now plan board.nic board.apps run

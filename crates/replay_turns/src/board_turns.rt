@@ -4,12 +4,13 @@ ghost use Rattle.std.specs.Prelude.{◌≡◌, ◌≢◌, ℕ, ◌<◌, ◌≤�
 ghost use Rattle.zr_kinds.specs.declared.{behaviour.Stopped.TheVariants.{No}, fault.Fault.TheVariants.{Write}};
 ghost use Rattle.board_face.specs.{AppCalls.{IsHere}, AppEvents.{app_gist}};
 ghost use Rattle.plain_board.specs.{Board.{stand_of, side_of, others_of}, Seen.{IsSeenBy, IsSeenByCard}, Sound.{IsSound}};
-ghost use Rattle.app_worker.specs.{Marks.{FramesStandTogether}, Moves.{reads_of, reserve_loans}, State.{AppStands, app_steps, furthest}, Turns.{Turns, look_of}, declared.turn.{Turn.TheVariants.{Idle, Failed, Finished}, Why.{Why}}};
+ghost use Rattle.app_worker.specs.{Marks.{FramesStandTogether}, Moves.{CountsOn, reads_of, reserve_loans}, State.{AppStands, app_steps, furthest}, Turns.{Turns, look_of}, declared.turn.{Turn.TheVariants.{Idle, Failed, Finished}, Why.{Why}}};
 ghost use Rattle.flow_queues.specs.{Shelves.{AreShelved, AreFronts}, Streams.{HasFronts, HasAll}};
-ghost use Rattle.card_feed.specs.{Feed.{IsReady, FeedStands, WantsRecord, feed_steps}, Turns.{FeedTurns, IsIdle}};
+ghost use Rattle.card_feed.specs.{Feed.{IsReady, FeedKnows, FeedStands, WantsRecord, feed_steps}, Turns.{FeedSteps, FeedTurns, IsIdle}};
+ghost use Rattle.card_feed.specs.declared.arrived.Arrived.TheVariants.{Nothing};
 
 use app_worker::{AppState, Turn, app_turn};
-use card_feed::{Feed, nic_turn};
+use card_feed::{Arrived, Feed, nic_step, nic_turn};
 use plain_board::PlainBoard;
 use std::alloc::Global;
 use zr_io::{Shelf, Source};
@@ -42,6 +43,25 @@ pub(crate) fn card_step<S: Source>(
     (board, did)
 }
 
+/// A turn of the card for which nothing has come: it sends what is pending and deals with entries. Each application's side stays as
+/// it is.
+pub(crate) fn card_keeps_up(board: PlainBoard, feed: &mut Feed) -> PlainBoard
+    requires ready { IsReady feed.old board.nic.view }
+    ensures ready { IsReady feed.new result.nic.view }
+    ensures steps { (ports : List ℕ) (split : ℕ) (frames : List (List ℕ)) → FeedKnows ports split frames feed.old board.nic.view
+        → FeedSteps ports split frames Nothing feed.old feed.new board.nic.view result.nic.view }
+    ensures later { feed_steps feed.old board.nic.view ≤ feed_steps feed.new result.nic.view }
+    ensures apps { result.apps ≡ board.apps }
+    ensures room { result.log.room ≡ board.log.room }
+    ensures sound { IsSound (stand_of result) }
+{
+    let mut face = board.nic();
+    nic_step(feed, Arrived::Nothing, &mut face);
+    let board = face.back();
+    board.sound();
+    board
+}
+
 /// A turn of an application. The card's side and those of the other applications stay as they are.
 pub(crate) fn app_step<T: Shelf>(
     alloc: Global,
@@ -56,7 +76,7 @@ pub(crate) fn app_step<T: Shelf>(
     ensures stands { AppStands st.new (side_of result.0 app).view }
     ensures here { result.1 ≢ Finished → IsHere (side_of result.0 app).view }
     ensures turns { Turns st.old st.new (side_of board app).view (side_of result.0 app).view
-        (T.kept shelf.old) (T.kept shelf.new) (T.faults shelf.old) (T.faults shelf.new) result.1 }
+        (T.kept shelf.old) (T.kept shelf.new) (T.counts shelf.old).faults (T.counts shelf.new).faults result.1 }
     // Where the pieces of each frame stand together among the notes, what the shelf has of each flow since the first turn
     // are the bytes at the first of the flow's marks.
     ensures fronts { (first : ℕ → Option (List ℕ)) → FramesStandTogether (side_of result.0 app).view.taken
@@ -81,8 +101,9 @@ pub(crate) fn app_step<T: Shelf>(
         → st.new.how.hold ≤ length st.new.unread }
     ensures copies { st.new.copied ≤ st.new.loans }
     ensures counts { st.new.bare ≡ true → st.new.stopped ≡ No → st.new.loans ≤ st.new.written }
-    ensures later { T.faults shelf.old ≤ T.faults shelf.new }
-    ensures still { result.1 ≢ Failed Write → T.faults shelf.new ≡ T.faults shelf.old }
+    ensures later { (T.counts shelf.old).faults ≤ (T.counts shelf.new).faults }
+    ensures still { result.1 ≢ Failed Write → (T.counts shelf.new).faults ≡ (T.counts shelf.old).faults }
+    ensures appended { CountsOn st.old.written st.new.written (T.counts shelf.old).appended (T.counts shelf.new).appended }
     // Why it did nothing is so.
     ensures told { (why : Why) → result.1 ≡ Idle why
         → IsSeenBy (look_of why) (app_gist (side_of result.0 app).view) (others_of result.0 app) }

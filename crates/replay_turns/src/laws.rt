@@ -10,7 +10,7 @@ pub fn stuck_runs_are_over()
 
 /// A run goes no further than its records, their bytes and its plan let it. It does nothing: its contract is the law.
 pub fn runs_stay_within<S: Source, T: Shelf>()
-    ensures { RunsStayWithin S.left S.faults T.kept T.faults }
+    ensures { RunsStayWithin S.left S.faults T.kept T.counts }
 {}
 
 /// A turn of an application that did something brings it further, and none brings it back. It does nothing: its contract is

@@ -2,15 +2,17 @@
 
 ghost use Rattle.std.specs.Prelude.{◌≡◌, ◌≤◌, length, vec_len, IfOk, OnErr};
 ghost use Rattle.plain_board.specs.{Board.{stand_of, sides_of}, Recorded.{IsRecorded}, Sound.{IsSound}};
-ghost use Rattle.card_feed.specs.Plan.{IsPlan, TakesTurns};
+ghost use Rattle.card_feed.specs.{Counts.{sweeping_in, sweeps_in}, Plan.{IsPlan, TakesTurns}};
 ghost use Rattle.run_account.specs.Ran.{Ran, LacksMemory, told_of};
 ghost use Rattle.replay_turns.specs.{Events.{room_of}, Following.{RunsBy}, Schedule.{AreTurns}};
 
 use crate::opening::open;
 use crate::playing::{play_rounds, play_text};
+use crate::waiting::play_waiting;
 use card_feed::{Outcome, Plan};
 use plain_board::PlainBoard;
 use run_account::{Run, tell};
+use run_loops::Gate;
 use std::alloc::{AllocError, Global};
 use std::collections::hash_map::RandomState;
 use zr_io::{Shelf, Source};
@@ -34,22 +36,60 @@ pub fn run_turns<S: Source, T: Shelf>(
     requires turns { AreTurns (length plan.now.ports.items) turns.now }
     ensures many { vec_len shelves.new ≡ vec_len shelves.old }
     // The stream theorem, what the outcome says, and that all is over at the board and it accounts for the run.
-    ensures ran { IfOk result (λ it. Ran S.left S.faults T.kept T.faults source.old source.new shelves.old.items shelves.new.items plan.now
+    ensures ran { IfOk result (λ it. Ran S.left S.faults T.kept T.counts source.old source.new shelves.old.items shelves.new.items plan.now
         (told_of it.0) it.1.nic it.1.apps) }
     // Its turns were those of the text, one a letter, and then whole rounds.
-    ensures follows { IfOk result (λ it. RunsBy S.left S.faults T.kept T.faults source.old source.new shelves.old.items shelves.new.items plan.now
+    ensures follows { IfOk result (λ it. RunsBy S.left S.faults T.kept T.counts source.old source.new shelves.old.items shelves.new.items plan.now
         turns.now (told_of it.0) it.1) }
+    // Each sweep of the free list was made by a search that is counted as one that swept it.
+    ensures swept { IfOk result (λ it. sweeping_in it.0.pool ≡ sweeps_in it.1.nic.view) }
     // The board is sound too.
     ensures sound { IfOk result (λ it. IsSound (stand_of it.1)) }
     // And its log tells of it. There is room for 1,000,000 events where the plan asks for a log, and for none else.
     ensures recorded { IfOk result (λ it. IsRecorded (sides_of it.1) it.1.log) }
     ensures room { IfOk result (λ it. it.1.log.room ≡ room_of plan.now) }
     // Want of memory comes before the first turn or behind the last.
-    ensures lacks { OnErr result (LacksMemory S.left S.faults T.kept T.faults source.old source.new shelves.old.items shelves.new.items plan.now) }
+    ensures lacks { OnErr result (LacksMemory S.left S.faults T.kept T.counts source.old source.new shelves.old.items shelves.new.items plan.now) }
 {
     let (mut board, mut run) = open::<S, T>(alloc, random, plan)?;
     board = play_text(alloc, board, &mut run, source, shelves, turns);
     board = play_rounds(alloc, board, &mut run, source, shelves);
+    board.sound();
+    let Run { feed, workers } = run;
+    let outcome = tell(alloc, feed, &workers, &plan.ports)?;
+    Ok((outcome, board))
+}
+
+/// Replays a capture over a board for one thread, by rounds: a turn of the card and one of each application, until all have left. No
+/// record is read while an application has something to do, so that no frame is refused whose buffers are on their way back. Shelf
+/// `a` takes the flows to the port of place `a` among the plan's. `random` keys the table of flows, and `gate` is told of each turn
+/// before its round.
+///
+/// It answers how the run went, and its board as it stands then.
+pub fn run_rounds<S: Source, T: Shelf, G: Gate>(
+    alloc: Global,
+    random: RandomState,
+    source: &mut S,
+    shelves: &mut Vec<T>,
+    plan: &Plan,
+    gate: &G,
+) -> Result<(Outcome, PlainBoard), AllocError>
+    requires plan { IsPlan plan.now }
+    requires turns_only { TakesTurns plan.now }
+    requires shelves { length plan.now.ports.items ≤ vec_len shelves.old }
+    ensures many { vec_len shelves.new ≡ vec_len shelves.old }
+    // The stream theorem, what the outcome says, and that all is over at the board and it accounts for the run.
+    ensures ran { IfOk result (λ it. Ran S.left S.faults T.kept T.counts source.old source.new shelves.old.items shelves.new.items plan.now
+        (told_of it.0) it.1.nic it.1.apps) }
+    // The board is sound too, its log tells of it, and has the room that the plan asks for.
+    ensures sound { IfOk result (λ it. IsSound (stand_of it.1)) }
+    ensures recorded { IfOk result (λ it. IsRecorded (sides_of it.1) it.1.log) }
+    ensures room { IfOk result (λ it. it.1.log.room ≡ room_of plan.now) }
+    // Want of memory comes before the first turn or behind the last.
+    ensures lacks { OnErr result (LacksMemory S.left S.faults T.kept T.counts source.old source.new shelves.old.items shelves.new.items plan.now) }
+{
+    let (mut board, mut run) = open::<S, T>(alloc, random, plan)?;
+    board = play_waiting(alloc, gate, board, &mut run, source, shelves);
     board.sound();
     let Run { feed, workers } = run;
     let outcome = tell(alloc, feed, &workers, &plan.ports)?;

@@ -1,6 +1,5 @@
 //! What differs between the plays of one row.
 use crate::wrong::Wrong;
-use std::fmt;
 
 /// The most plays of one line.
 const MOST: u64 = 10_000;
@@ -31,16 +30,6 @@ pub enum Change<'a> {
         text: &'a str,
         bad: u32,
     },
-}
-
-impl fmt::Display for Change<'_> {
-    fn fmt<W: fmt::Write>(&self, f: &mut fmt::Formatter<W>) -> fmt::Result {
-        match self {
-            Change::Nothing => Ok(()),
-            Change::Numbered(_, number) => write!(f, ", {number}"),
-            Change::Line { number, text, .. } => write!(f, ", line {number} {text}"),
-        }
-    }
 }
 
 /// `N to M`.

@@ -18,13 +18,19 @@ const ETHERNET: [u8; 12] = [2, 0, 0, 0, 0, 2, 2, 0, 0, 0, 0, 1];
 /// The tag of VLAN 5 (IEEE 802.1Q).
 const TAG: [u8; 4] = [0x81, 0, 0, 5];
 
-/// From 10.0.0.1 to 10.0.0.2.
-const ADDRESSES: [u8; 8] = [10, 0, 0, 1, 10, 0, 0, 2];
+/// The Ethernet type of IPv4, and what stands before the total length.
+const IPV4: [u8; 4] = [8, 0, 0x45, 0];
 
-/// From 2001:db8::1 to 2001:db8::2.
-const LONG_ADDRESSES: [u8; 32] = [
-    0x20, 1, 0x0d, 0xb8, 0, 0, 0, 0, 0, 0, 0, 0, 0, 0, 0, 1, 0x20, 1, 0x0d, 0xb8, 0, 0, 0, 0, 0, 0,
-    0, 0, 0, 0, 0, 2,
+/// What stands behind it: no fragment, TCP, from 10.0.0.1 to 10.0.0.2.
+const IPV4_REST: [u8; 16] = [0, 0, 0x40, 0, 0x40, 6, 0, 0, 10, 0, 0, 1, 10, 0, 0, 2];
+
+/// The Ethernet type of IPv6, and what stands before the payload's length.
+const IPV6: [u8; 6] = [0x86, 0xdd, 0x60, 0, 0, 0];
+
+/// What stands behind it: TCP, from 2001:db8::1 to 2001:db8::2.
+const IPV6_REST: [u8; 34] = [
+    6, 0x40, 0x20, 1, 0x0d, 0xb8, 0, 0, 0, 0, 0, 0, 0, 0, 0, 0, 0, 1, 0x20, 1, 0x0d, 0xb8, 0, 0, 0,
+    0, 0, 0, 0, 0, 0, 0, 0, 2,
 ];
 
 /// The header of a classic pcap file: little-endian, microseconds, version 2.4, Ethernet.
@@ -71,32 +77,39 @@ fn read_flags(word: &str) -> Result<u8, Wrong> {
     Ok(flags)
 }
 
-/// The headers before a segment of so many bytes.
-fn headers(alloc: Global, form: Form, len: u16) -> Result<Vec<u8>, Wrong> {
-    let mut bytes = ETHERNET.to_vec(alloc)?;
-    match form {
-        Form::Ipv4 => push_ipv4(&mut bytes, len)?,
-        Form::Tagged => {
-            bytes.extend_from_slice(&TAG)?;
-            push_ipv4(&mut bytes, len)?;
-        }
-        Form::Ipv6 => {
-            bytes.extend_from_slice(&[0x86, 0xdd, 0x60, 0, 0, 0])?;
-            bytes.extend_from_slice(&len.to_be_bytes())?;
-            bytes.extend_from_slice(&[6, 0x40])?;
-            bytes.extend_from_slice(&LONG_ADDRESSES)?;
-        }
-    }
-    Ok(bytes)
+/// The header of a packet in front of so many bytes. IPv4 counts itself too.
+fn push_header(frame: &mut Vec<u8>, form: Form, len: usize) -> Result<(), Wrong> {
+    let (begin, own, rest): (&[u8], usize, &[u8]) = match form {
+        Form::Ipv4 | Form::Tagged => (&IPV4, 20, &IPV4_REST),
+        Form::Ipv6 => (&IPV6, 0, &IPV6_REST),
+    };
+    let len = u16::try_from(len.saturating_add(own))?;
+    frame.extend_from_slice(begin)?;
+    frame.extend_from_slice(&len.to_be_bytes())?;
+    frame.extend_from_slice(rest)?;
+    Ok(())
 }
 
-fn push_ipv4(bytes: &mut Vec<u8>, len: u16) -> Result<(), Wrong> {
-    let total = len.checked_add(20).ok_or(Wrong("too long"))?;
-    bytes.extend_from_slice(&[8, 0, 0x45, 0])?;
-    bytes.extend_from_slice(&total.to_be_bytes())?;
-    bytes.extend_from_slice(&[0, 0, 0x40, 0, 0x40, 6, 0, 0])?;
-    bytes.extend_from_slice(&ADDRESSES)?;
-    Ok(())
+/// The frame of a segment with these ports, this sequence number, these flags and this payload.
+fn frame_of(
+    alloc: Global,
+    form: Form,
+    (sport, dport): (u16, u16),
+    number: u32,
+    flags: u8,
+    payload: &[u8],
+) -> Result<Vec<u8>, Wrong> {
+    let mut frame = ETHERNET.to_vec(alloc)?;
+    if matches!(form, Form::Tagged) {
+        frame.extend_from_slice(&TAG)?;
+    }
+    push_header(&mut frame, form, payload.len().saturating_add(20))?;
+    frame.extend_from_slice(&sport.to_be_bytes())?;
+    frame.extend_from_slice(&dport.to_be_bytes())?;
+    frame.extend_from_slice(&number.to_be_bytes())?;
+    frame.extend_from_slice(&[0, 0, 0, 0, 0x50, flags, 0xff, 0xff, 0, 0, 0, 0])?;
+    frame.extend_from_slice(payload)?;
+    Ok(frame)
 }
 
 /// The frame of a line, and how many bytes its payload has. A payload that is `N bytes` goes on from this place.
@@ -107,17 +120,11 @@ pub fn read_frame(
     place: usize,
 ) -> Result<(Vec<u8>, usize), Wrong> {
     let mut words = text.splitn(4, ' ');
-    let (sport, dport) = read_ports(words.next().ok_or(Wrong("no port"))?)?;
+    let ports = read_ports(words.next().ok_or(Wrong("no port"))?)?;
     let number = read_number(words.next().ok_or(Wrong("no sequence number"))?, place)?;
     let flags = read_flags(words.next().ok_or(Wrong("no flags"))?)?;
     let payload = read_bytes(alloc, words.next().unwrap_or(""), place)?;
-    let len = u16::try_from(payload.len().saturating_add(20))?;
-    let mut frame = headers(alloc, form, len)?;
-    frame.extend_from_slice(&sport.to_be_bytes())?;
-    frame.extend_from_slice(&dport.to_be_bytes())?;
-    frame.extend_from_slice(&number.to_be_bytes())?;
-    frame.extend_from_slice(&[0, 0, 0, 0, 0x50, flags, 0xff, 0xff, 0, 0, 0, 0])?;
-    frame.extend_from_slice(&payload)?;
+    let frame = frame_of(alloc, form, ports, number, flags, &payload)?;
     Ok((frame, payload.len()))
 }
 

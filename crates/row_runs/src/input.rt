@@ -117,7 +117,7 @@ impl<'a> Input<'a> {
     fn set(&mut self, text: &str) -> Result<(), Wrong> {
         if let Some((numbers, digits)) = text.rsplit_once(' ') {
             if let Some(range) = read_range(numbers)? {
-                let byte = u8::from_str_radix(digits, 16)?;
+                let byte = read_hex(self.alloc, digits)?.pop().ok_or(Wrong("no byte"))?;
                 return push_range(&mut self.changes, Kind::Set(byte), range);
             }
         }

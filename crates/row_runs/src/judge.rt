@@ -40,26 +40,16 @@ fn judge_sent(told: &mut Told, name: &str, wanted: &[u8], came: &[u8]) -> Result
     if wanted == came {
         return Ok(());
     }
-    let came_text = str::from_utf8(came).unwrap_or("no text");
-    let mut came_lines = came_text.lines();
+    let came = str::from_utf8(came).unwrap_or("no text");
+    let mut came_lines = came.lines();
     for line in str::from_utf8(wanted).unwrap_or("bytes").lines() {
         let other = came_lines.next().unwrap_or("no line more");
         if line != other {
             return told.add(name, "goes out", line, other);
         }
     }
-    told.number(
-        name,
-        "goes out, in bytes",
-        wanted.len() as u64,
-        came.len() as u64,
-    )?;
-    told.add(
-        name,
-        "goes out",
-        "no more",
-        came_lines.next().unwrap_or("other bytes"),
-    )
+    let more = came_lines.next().unwrap_or("other bytes");
+    told.add(name, "goes out", "no more", more)
 }
 
 /// These words stand in a line that goes out, and those in none.
@@ -118,27 +108,16 @@ fn judge_shelf(
         let (stream, came) = (wanted.stream(app, flow), shelf.flow(flow));
         if stream != came {
             let what = format!(in alloc; "flow {flow} of application {app}, in bytes")?;
-            let alike = format!(in alloc; "{}, {} of them so", came.len(), alike(stream, came))?;
-            let bytes = format!(in alloc; "{}", stream.len())?;
-            told.add(name, &what, &bytes, &alike)?;
+            let (wanted, came) = (stream.len(), came.len());
+            let wanted = format!(in alloc; "{wanted}")?;
+            let came = format!(in alloc; "{came}, or others")?;
+            told.add(name, &what, &wanted, &came)?;
         }
     }
     Ok(())
 }
 
-/// How many bytes at the begin are the same.
-fn alike(one: &[u8], other: &[u8]) -> usize {
-    let mut count = 0usize;
-    for (byte, beside) in one.iter().zip(other) {
-        if byte != beside {
-            break;
-        }
-        count = count.saturating_add(1);
-    }
-    count
-}
-
-/// There is a board just where one is wanted.
+/// There is a board just where one is wanted, and each of its buffers is free once.
 fn judge_board(
     alloc: Global,
     told: &mut Told,
@@ -150,36 +129,13 @@ fn judge_board(
         (None, None) => Ok(()),
         (None, Some(_)) => told.add(name, "board", "none", "one"),
         (Some(_), None) => told.add(name, "board", "one", "none"),
-        (Some(buffers), Some(free)) => judge_free(alloc, told, name, buffers, free),
-    }
-}
-
-/// Each buffer is free once.
-fn judge_free(
-    alloc: Global,
-    told: &mut Told,
-    name: &str,
-    buffers: u32,
-    free: Vec<u32>,
-) -> Result<(), Fail> {
-    let mut free = free;
-    free.sort()?;
-    let all: Vec<u32> = (0..buffers).collect(alloc)?;
-    if free.as_slice() == all.as_slice() {
-        return Ok(());
-    }
-    let came = format!(in alloc; "{} free, {} of them in order", free.len(), in_order(&free))?;
-    told.add(name, "board", "each buffer free once", &came)
-}
-
-/// How many numbers at the begin are 0, 1, 2 and so on.
-fn in_order(numbers: &[u32]) -> u32 {
-    let mut next = 0u32;
-    for number in numbers {
-        if *number != next {
-            break;
+        (Some(buffers), Some(mut free)) => {
+            free.sort()?;
+            let all: Vec<u32> = (0..buffers).collect(alloc)?;
+            if free.as_slice() == all.as_slice() {
+                return Ok(());
+            }
+            told.add(name, "board", "each buffer free once", "others")
         }
-        next = next.saturating_add(1);
     }
-    next
 }

@@ -122,8 +122,8 @@ fn play_changes(
     most: usize,
     told: &mut Told,
 ) -> Result<(), Fail> {
-    for change in row.input.changes.iter() {
-        let name = format!(in rt.alloc(); "{} ({words}, most {most}{change})", row.name)?;
+    for (before, change) in row.input.changes.iter().enumerate() {
+        let name = format!(in rt.alloc(); "{} ({words}, most {most}, play {before})", row.name)?;
         match Case::of_row(rt.alloc(), row, bytes, change) {
             Ok(case) => play(rt, row, &name, words, most, &case, told)?,
             Err(wrong) => told.add(&name, "the row", "sense", wrong.0)?,

@@ -5,34 +5,56 @@ use std::alloc::Global;
 /// The most bytes that one line makes.
 const MOST: usize = 1_000_000;
 
+/// The value of a hexadecimal digit.
+fn read_digit(byte: u8) -> Result<u8, Wrong> {
+    match byte {
+        b'0'..=b'9' => Ok(byte - b'0'),
+        b'a'..=b'f' => Ok(byte - b'a' + 10),
+        b'A'..=b'F' => Ok(byte - b'A' + 10),
+        _ => Err(Wrong("no digit")),
+    }
+}
+
+/// What comes next between the quotes.
+#[derive(Clone, Copy)]
+enum Next {
+    Byte,
+    /// What stands behind a backslash.
+    Escape,
+    /// The first digit of a byte, and the second, behind this value.
+    First,
+    Second(u8),
+}
+
 /// What stands between the quotes: `\n`, `\r` and `\xHH` are bytes of their own.
 fn read_quoted(alloc: Global, text: &str) -> Result<Vec<u8>, Wrong> {
     let mut bytes = Vec::new(alloc);
-    let mut pieces = text.split('\\');
-    if let Some(front) = pieces.next() {
-        bytes.extend_from_slice(front.as_bytes())?;
+    let mut next = Next::Byte;
+    for byte in text.bytes() {
+        let (made, then) = read_byte(next, byte)?;
+        if let Some(made) = made {
+            bytes.push(made)?;
+        }
+        next = then;
     }
-    for piece in pieces {
-        let (byte, rest) = read_escape(piece)?;
-        bytes.push(byte)?;
-        bytes.extend_from_slice(rest.as_bytes())?;
+    match next {
+        Next::Byte => Ok(bytes),
+        _ => Err(Wrong("an escape isn't whole")),
     }
-    Ok(bytes)
 }
 
-/// The byte that stands behind a backslash, and what follows.
-fn read_escape(piece: &str) -> Result<(u8, &str), Wrong> {
-    if let Some(rest) = piece.strip_prefix('n') {
-        return Ok((b'\n', rest));
+/// The byte that ends here, if one does, and what comes then.
+fn read_byte(next: Next, byte: u8) -> Result<(Option<u8>, Next), Wrong> {
+    match (next, byte) {
+        (Next::Byte, b'\\') => Ok((None, Next::Escape)),
+        (Next::Byte, _) => Ok((Some(byte), Next::Byte)),
+        (Next::Escape, b'n') => Ok((Some(b'\n'), Next::Byte)),
+        (Next::Escape, b'r') => Ok((Some(b'\r'), Next::Byte)),
+        (Next::Escape, b'x') => Ok((None, Next::First)),
+        (Next::Escape, _) => Err(Wrong("no such escape")),
+        (Next::First, _) => Ok((None, Next::Second(read_digit(byte)?))),
+        (Next::Second(high), _) => Ok((Some(high << 4 | read_digit(byte)?), Next::Byte)),
     }
-    if let Some(rest) = piece.strip_prefix('r') {
-        return Ok((b'\r', rest));
-    }
-    let digits = piece.strip_prefix('x').ok_or(Wrong("no such escape"))?;
-    let (digits, rest) = digits
-        .split_at_checked(2)
-        .ok_or(Wrong("two digits are missing"))?;
-    Ok((u8::from_str_radix(digits, 16)?, rest))
 }
 
 /// How many bytes a line makes.
@@ -82,22 +104,19 @@ pub fn read_bytes(alloc: Global, text: &str, place: usize) -> Result<Vec<u8>, Wr
 /// The bytes of pairs of hexadecimal digits, parted by spaces or not.
 pub fn read_hex(alloc: Global, text: &str) -> Result<Vec<u8>, Wrong> {
     let mut bytes = Vec::new(alloc);
-    for word in text.split_ascii_whitespace() {
-        push_pairs(&mut bytes, word)?;
-    }
-    Ok(bytes)
-}
-
-/// The bytes of one such word.
-fn push_pairs(bytes: &mut Vec<u8>, word: &str) -> Result<(), Wrong> {
-    let mut rest = word;
-    for _ in 0..word.len() {
-        if rest.is_empty() {
-            break;
+    let mut high = None;
+    for byte in text.bytes() {
+        match high {
+            None if byte == b' ' => {}
+            None => high = Some(read_digit(byte)?),
+            Some(first) => {
+                bytes.push(first << 4 | read_digit(byte)?)?;
+                high = None;
+            }
         }
-        let (digits, behind) = rest.split_at_checked(2).ok_or(Wrong("a digit is missing"))?;
-        bytes.push(u8::from_str_radix(digits, 16)?)?;
-        rest = behind;
     }
-    Ok(())
+    match high {
+        None => Ok(bytes),
+        Some(_) => Err(Wrong("a digit is missing")),
+    }
 }

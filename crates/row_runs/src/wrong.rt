@@ -3,7 +3,7 @@ use std::alloc::{AllocError, AllocFailed};
 use std::num::{ParseIntError, TryFromIntError};
 
 /// Why a line has no reading.
-#[derive(Clone, Copy, Debug)]
+#[derive(Clone, Copy)]
 pub struct Wrong(pub &'static str);
 
 impl From<AllocError> for Wrong {

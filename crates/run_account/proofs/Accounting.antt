@@ -2,7 +2,7 @@
 use Rattle.std.{proofs.Common.{◌≡◌, ℕ, ◌<◌, ◌==◌, List, length, map, Option, Some, sym, ap, subst, ◌∙◌, arith}, specs.{Prelude.{All}, List.{slice_get}}}
 use Rattle.std.proofs.lemmas.{List.Elements.{All-filter}, Option.{slice_get_within}}
 use Rattle.zr_kinds.specs.declared.outcome.AppLine.{AppLine}
-use Rattle.zr_io.specs.Moved.{Gained}
+use Rattle.zr_io.specs.Moved.{Gained, ShelfCounts}
 use Rattle.flow_table.specs.{Steered.{SteeredTcp}, Flows.{flows_of}}
 use Rattle.frames_read.specs.Ending.{steered_in}
 use Rattle.board_face.specs.{Blank.{blank_app}, Ended.{HaveEnded, IsServed}, Sides.{IsApp, side_in}, Holders.{sent_to}}
@@ -33,7 +33,7 @@ pub record IsLineAt (ports : List ℕ) (ends : List AppEnd) (a : ℕ) (line : Ap
   pub end_at : slice_get ends a ≡ Some end
   pub is : line ≡ line_of port end
 
-module _ {S T : Type 0} (left : S → Option (List ℕ)) (faults : S → ℕ) (kept : T → ℕ → Option (List ℕ)) (losses : T → ℕ)
+module _ {S T : Type 0} (left : S → Option (List ℕ)) (faults : S → ℕ) (kept : T → ℕ → Option (List ℕ)) (losses : T → ShelfCounts)
     (source source_now : S) (shelves shelves_now : List T) (plan : Plan) (nic : NicSide) (apps : List AppSide) (feed : FeedState)
     (ends : List AppEnd) (ended : HaveEnded nic apps)
     (runs : HasRun left faults kept losses source source_now shelves shelves_now plan nic apps feed ends) where

@@ -3,7 +3,7 @@ use Rattle.std.{proofs.{Common.{◌≡◌, ℕ, ◌<◌, List, ◌++◌, Option,
 use Rattle.zr_kinds.specs.declared.outcome.PoolStats.{PoolStats}
 use Rattle.board_face.specs.{NicCalls.{apps_of}, declared.views.{parts.Filling.{Filling}, nic.{Dealt.{Dealt}, NicView.{NicView}}}}
 use Rattle.page_pool.specs.{declared.offer.{Offer.{Offer}, Verdict.{Verdict, TheVariants.{Accepted, NoRoom, Busy}}}, Dealing.{DrainsRings}}
-use Rattle.page_pool.specs.{Offer.{ClosesCurrent, LooksFor, not_needed, searched}, Searching.{SearchEnd, LooksAhead}, Pool.{PoolState}}
+use Rattle.page_pool.specs.{Offer.{ClosesCurrent, LooksFor, not_needed, searched}, Searching.{LooksAhead}, Pool.{PoolState}, declared.search_end.SearchEnd.{SearchEnd}}
 use Rattle.card_feed.{specs.{Feed.{FeedState}, Turns.{FeedPlays, drains, offers, finishes, rests, Settles, KeepsUp}}, proofs.PlayLemmas.{closed-dealt}}
 use Rattle.card_feed.proofs.Counting.{closes-dealt}
 
@@ -23,10 +23,10 @@ module _ (n : ℕ) where
   drained was now old new count d many all = with-more old.dealt d.more new.dealt (ap (λ (v : NicView). v.dealt) d.deals.view) all
       (subst (λ m. All (λ (e : Dealt). e.app < m) d.more) many d.turns.apps_of)
 
-  looked : (need : ℕ) (current : Option Filling) (was now : PoolStats) (old new : NicView) (how : Option SearchEnd)
-      → LooksFor need current was now old new how → apps_of old.setting ≡ n → All IsOne old.dealt → All IsOne new.dealt
-  looked need current was now old new _ (not_needed none stats same) many all = subst (λ (v : NicView). All IsOne v.dealt) (sym same) all
-  looked need current was now old new _ (searched begin how some closes searches) many all =
+  looked : (need : ℕ) (current : Option Filling) (ahead : SearchEnd) (was now : PoolStats) (old new : NicView) (how : Option SearchEnd)
+      → LooksFor need current ahead was now old new how → apps_of old.setting ≡ n → All IsOne old.dealt → All IsOne new.dealt
+  looked need current ahead was now old new _ (not_needed none stats same) many all = subst (λ (v : NicView). All IsOne v.dealt) (sym same) all
+  looked need current ahead was now old new _ (searched begin met how some closes searches counts) many all =
       with-more begin.dealt searches.more new.dealt (ap (λ (v : NicView). v.dealt) searches.view)
       (subst (All IsOne) (sym (closed-dealt current old begin closes)) all)
       (subst (λ m. All (λ (e : Dealt). e.app < m) searches.more) (ap apps_of (closed-setting current old begin closes) ∙ many) searches.turns.apps_of)
@@ -36,13 +36,13 @@ module _ (n : ℕ) where
   settled was now old new o Accepted settles many all =
       let accepts = settles.0 in
       let same = accepts.flush.view in
-      let found = looked _ _ _ _ accepts.flushed accepts.found accepts.how accepts.search (ap (λ (v : NicView). apps_of v.setting) same ∙ many)
+      let found = looked _ _ _ _ _ accepts.flushed accepts.found accepts.how accepts.search (ap (λ (v : NicView). apps_of v.setting) same ∙ many)
       (subst (All IsOne) (sym (ap (λ (v : NicView). v.dealt) same)) all) in
       subst (All IsOne) (sym (ap (λ (v : NicView). v.dealt) accepts.placing)) found
   settled was now old new o (NoRoom cached need) settles many all =
       let refuses = settles.0 in
       let same = refuses.flush.view in
-      looked _ _ _ _ refuses.flushed new _ refuses.search (ap (λ (v : NicView). apps_of v.setting) same ∙ many)
+      looked _ _ _ _ _ refuses.flushed new _ refuses.search (ap (λ (v : NicView). apps_of v.setting) same ∙ many)
       (subst (All IsOne) (sym (ap (λ (v : NicView). v.dealt) same)) all)
   settled was now old new o Busy (pool, mid, count, puts, drains_it, same_feed) many all =
       let same = puts.sends.view in

@@ -5,7 +5,7 @@ use Rattle.std.{specs.Io.KnownBytes.{Keeps}, proofs.{KnownBytes.{Keeps-refl}, le
 use Rattle.std.proofs.lemmas.Option.{slice_get_within}
 use Rattle.zr_kinds.specs.{Limits.{most_records}, declared.outcome.{AppLine.{AppLine}, FlowLine.{FlowLine}, PoolStats.{PoolStats}}}
 use Rattle.zr_kinds.specs.declared.behaviour.Stopped.TheVariants as stop
-use Rattle.zr_io.specs.Moved.{Gained}
+use Rattle.zr_io.specs.Moved.{Gained, ShelfCounts}
 use Rattle.flow_table.specs.{Flows.{Flow, flows_of}, Stream.{stream_of}}
 use Rattle.frames_read.specs.{Ending.{steered_in}, Reading.{HasEnded}}
 use Rattle.board_face.specs.{Ended.{HaveEnded}, Sides.{IsApp, side_in}, declared.views.{nic.NicSide.{NicSide}, app.AppSide.{AppSide}}}
@@ -14,13 +14,14 @@ use Rattle.flow_queues.specs.Ends.{AppEnd, IsCounted, IsTorn, bytes_in}
 use Rattle.card_feed.specs.{Account.{AccountsFor, IsStreamedTo, kept_in}, Coming.{ComesTo, is_over}, Feed.{FeedState, end_of}}
 use Rattle.card_feed.specs.{Offered.{AreRefused, AreSettled, offers_of}, Outcomes.{AreLinesOf, line_of as flow_line_of}, declared.intake.Stage.{Stage}, Plan.{how_of}}
 use Rattle.card_feed.{specs.{declared.plan.Plan.{Plan}, Counts.{AreCounted, begins_fresh, found_in, is_long, long_in, searches_in}}, proofs.Bridge.{give_streams}}
+use Rattle.card_feed.specs.{Counts.{sweeping_in, sweeps_in}, declared.outcome.Outcome.{Outcome}}
 use Rattle.card_feed.{specs.Need.{AreNeeded, RefusesByNeed}, proofs.{Needing.{refuses-by-need}, OfFlow.{there}}}
 use Rattle.card_feed.specs.declared.intake.Stage.TheVariants as stage
 use Rattle.run_account.specs.Laws.{RunsAreTold, RunsEndWell}
-use Rattle.run_account.specs.Ran.{There, IsLineOf, IsStreamed, HasFailed, IsAppLine, all_loans, line_of, lines_of, AreCounts, Ran, Told, told_of}
+use Rattle.run_account.specs.Ran.{There, IsLineOf, IsStreamed, HasFailed, IsAppLine, all_loans, line_of, lines_of, AreCounts, Ran, TellsOfEnds, Told, told_of}
 use Rattle.run_account.{specs.Running.{HasRun, losses_in}, proofs.AppLines.{one-value, is-there, line-at, many-lines, ports-of-lines}}
 use Rattle.run_account.proofs.{Accounting.{IsTold, told, line-known, side-is, accounts}, Counted.{gained-both}, Ports.{flows-have-apps}}
-use Rattle.run_account.proofs.{SentFew.{frames-read, offers-few}, Strays.{strays-within}, Tellable.{OutcomeTells, all-told, all-tells}}
+use Rattle.run_account.{proofs.{SentFew.{frames-read, offers-few}, Strays.{strays-within}, Tellable.{OutcomeTells, all-told, all-tells}}, specs.Ways.{HasCome}}
 use Rattle.run_account.proofs.Written.{all-own, app-below, flow-line, written-is}
 
 -- ---- small steps
@@ -45,7 +46,7 @@ same-beyond n xs ys i same behind =
     ap (slice_get xs) (sym place) ∙ sym (slice-drop n xs (i - n)) ∙ ap (λ zs. slice_get zs (i - n)) same ∙ slice-drop n ys (i - n)
     ∙ ap (slice_get ys) place
 
-module _ {S T : Type 0} (left : S → Option (List ℕ)) (faults : S → ℕ) (kept : T → ℕ → Option (List ℕ)) (losses : T → ℕ)
+module _ {S T : Type 0} (left : S → Option (List ℕ)) (faults : S → ℕ) (kept : T → ℕ → Option (List ℕ)) (losses : T → ShelfCounts)
     (source source_now : S) (shelves shelves_now : List T) (plan : Plan) (nic : NicSide) (apps : List AppSide) (feed : FeedState)
     (ends : List AppEnd) (told_is : Told) (ended : HaveEnded nic apps)
     (runs : HasRun left faults kept losses source source_now shelves shelves_now plan nic apps feed ends)
@@ -115,7 +116,7 @@ module _ {S T : Type 0} (left : S → Option (List ℕ)) (faults : S → ℕ) (k
       subst (λ lines. told_is.pool.strays ≤ (how_of plan).stray * all_loans lines) (sym tells.apps_are) (omega (arith, counted.strays, most))
 
   -- there are too few searches for a count to stop
-  searches-few : searches_in told_is.pool ≤ most_records
+  pub searches-few : searches_in told_is.pool ≤ most_records
   searches-few =
       let few : long_in plan.split (offers_of (steered_in plan.ports.items runs.frames)) ≤ length (offers_of (steered_in plan.ports.items runs.frames)) =
       count_by-le-length (is_long plan.split) (offers_of (steered_in plan.ports.items runs.frames)) in
@@ -130,6 +131,10 @@ module _ {S T : Type 0} (left : S → Option (List ℕ)) (faults : S → ℕ) (k
   -- as many found too few as frames were refused
   found-none : told_is.pool.empty ≡ length told_is.refused
   found-none = omega (arith, counted.empty, searches-few)
+
+  -- no more swept the free list than the card did
+  swept-few : sweeping_in told_is.pool ≤ sweeps_in nic.view
+  swept-few = omega (arith, runs.stands.knows.swept, ap sweeping_in tells.pool)
 
   -- and as many found enough as frames begin in a fresh buffer
   found-fresh : found_in told_is.pool ≡ count_by begins_fresh nic.view.sent
@@ -201,6 +206,7 @@ module _ {S T : Type 0} (left : S → Option (List ℕ)) (faults : S → ℕ) (k
         later = went.later;
         cause = went.cause;
         still = went.still;
+        appended = went.appended;
       }
 
   app-lines : (a port : ℕ) → slice_get plan.ports.items a ≡ Some port
@@ -230,6 +236,16 @@ module _ {S T : Type 0} (left : S → Option (List ℕ)) (faults : S → ℕ) (k
             (IsTorn (side_in apps a).view fails.torn number l.bytes)) is (fails.each number);
       }
 
+  -- and by what turns it came to its line
+  came-to : (a port : ℕ) (line : AppLine) → slice_get plan.ports.items a ≡ Some port → slice_get told_is.apps a ≡ Some line
+      → (end : AppEnd) × (line ≡ line_of port end)
+      × HasCome plan (kept_in kept shelves a) (kept_in kept shelves_now a) (losses_in losses shelves a) (losses_in losses shelves_now a)
+      (side_in apps a).view end
+  came-to a port line port_at at =
+      let within = slice_get_within plan.ports.items a port port_at in
+      let (end, end_at) = end-there a within in
+      (end, one-value (sym at ∙ app-line-at a port end port_at end_at), runs.came a end end_at)
+
   ran : Ran left faults kept losses source source_now shelves shelves_now plan told_is nic apps
   ran = record {
     before = runs.frames;
@@ -241,6 +257,7 @@ module _ {S T : Type 0} (left : S → Option (List ℕ)) (faults : S → ℕ) (k
     searches = searched;
     found = found-fresh;
     empty = found-none;
+    swept = swept-few;
     strays = strays-few;
     flow = streams;
     many_flows = lines-are.many;
@@ -250,28 +267,51 @@ module _ {S T : Type 0} (left : S → Option (List ℕ)) (faults : S → ℕ) (k
     failed = failed-at;
     many_shelves = runs.many_shelves;
     beyond = runs.beyond;
+    turns = record {
+      feed = feed;
+      turns = runs.turns;
+      tally = tells.tally;
+      refused = tells.refused;
+      pool = tells.pool;
+      end = tells.end;
+    };
+    came = came-to;
     over = ended;
     accounts = accounts-told;
   }
 
+outcome-tells : (feed : FeedState) (ends : List AppEnd) (ports : List ℕ) (outcome : Outcome) → TellsOfEnds feed ends ports outcome
+    → OutcomeTells feed ends ports (told_of outcome)
+outcome-tells feed ends ports outcome tells = record {
+  counts = tells.counts;
+  are = tells.are;
+  tally = tells.is.tally;
+  apps_are = tells.is.apps_are;
+  flows = tells.is.flows;
+  refused = tells.is.refused;
+  pool = tells.is.pool;
+  end = tells.is.end;
+}
+
 -- Once all are gone, the outcome that is told is that of the run.
-pub end-well : {S T : Type 0} (left : S → Option (List ℕ)) (faults : S → ℕ) (kept : T → ℕ → Option (List ℕ)) (losses : T → ℕ)
+pub end-well : {S T : Type 0} (left : S → Option (List ℕ)) (faults : S → ℕ) (kept : T → ℕ → Option (List ℕ)) (losses : T → ShelfCounts)
     → RunsEndWell left faults kept losses
 end-well left faults kept losses source source_now shelves shelves_now plan nic apps feed ends outcome ended runs tells =
     ran left faults kept losses source source_now shelves shelves_now plan nic apps feed ends (told_of outcome) ended runs
-    (record {
-      counts = tells.counts;
-      are = tells.are;
-      tally = tells.is.tally;
-      apps_are = tells.is.apps_are;
-      flows = tells.is.flows;
-      refused = tells.is.refused;
-      pool = tells.is.pool;
-      end = tells.is.end;
-    })
+    (outcome-tells feed ends plan.ports.items outcome tells)
+
+-- It tells of no more searches than records are read at most.
+pub end-few : {S T : Type 0} (left : S → Option (List ℕ)) (faults : S → ℕ) (kept : T → ℕ → Option (List ℕ)) (losses : T → ShelfCounts)
+    (source source_now : S) (shelves shelves_now : List T) (plan : Plan) (nic : NicSide) (apps : List AppSide) (feed : FeedState)
+    (ends : List AppEnd) (outcome : Outcome) → HaveEnded nic apps
+    → HasRun left faults kept losses source source_now shelves shelves_now plan nic apps feed ends
+    → TellsOfEnds feed ends plan.ports.items outcome → searches_in outcome.pool ≤ most_records
+end-few left faults kept losses source source_now shelves shelves_now plan nic apps feed ends outcome ended runs tells =
+    searches-few left faults kept losses source source_now shelves shelves_now plan nic apps feed ends (told_of outcome) ended runs
+    (outcome-tells feed ends plan.ports.items outcome tells)
 
 -- And there is something to tell, whether there is memory for it or not.
-pub end-told : {S T : Type 0} (left : S → Option (List ℕ)) (faults : S → ℕ) (kept : T → ℕ → Option (List ℕ)) (losses : T → ℕ)
+pub end-told : {S T : Type 0} (left : S → Option (List ℕ)) (faults : S → ℕ) (kept : T → ℕ → Option (List ℕ)) (losses : T → ShelfCounts)
     → RunsAreTold left faults kept losses
 end-told left faults kept losses source source_now shelves shelves_now plan nic apps feed ends ended runs =
     let told_is = all-told feed ends plan.ports.items in

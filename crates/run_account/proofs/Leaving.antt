@@ -2,14 +2,14 @@
 use Rattle.std.proofs.Common.{◌≡◌, ◌≢◌, ℕ, ◌+◌, ◌*◌, ◌≤◌, ◌==◌, true, if◌then◌else◌, List, [], ◌∷◌, length, map, Option, Some, None, refl, sym, ap, subst, ◌∙◌, arith}
 use Rattle.std.{specs.{Prelude.{MatchBool, option_map}, List.{slice_get}}, proofs.lemmas.{List.{length-map}, Option.{slice_get-map}}}
 use Rattle.zr_kinds.specs.declared.behaviour.Behaviour.{Behaviour}
-use Rattle.zr_io.specs.Moved.{Gained}
+use Rattle.zr_io.specs.Moved.{Gained, ShelfCounts}
 use Rattle.board_face.specs.{Sides.{side_in}, declared.views.{nic.NicSide.{NicSide}, app.{AppSide.{AppSide}, AppView.{AppView}, TakenNote.{TakenNote}}}}
 use Rattle.flow_queues.specs.{declared.queues.FlowQueue.{FlowQueue}, Ends.{AppEnd, HasLeft, IsCounted, IsTorn, bytes_in, flow_end_of, times}, Shelves.{FlowEnds}}
 use Rattle.flow_queues.specs.{Totals.{Quits, capped, lent_len, loan_entries, raw_entries}, Entries.{AreBlocks, WasLive}, Returned.{HasReturned}}
 use Rattle.app_worker.specs.{Core.{total, Each, many, own_notes, BeginAt}, StateOf.{end_of}, Kept.{flow_bytes}, State.{Bare, Common, Working}}
 use Rattle.card_feed.specs.{Account.{kept_in}, Plan.{TakesTurns, how_of}, declared.plan.Plan.{Plan}}
 use Rattle.run_account.specs.{Running.{AreOver, HasRun, RolesFit, Running, WorkerFits, WorkerRuns, ends_of, losses_in}, declared.run.{Run.{Run}, Worker.{Worker}}}
-use Rattle.run_account.proofs.{Counted.{flow-counted}, Gone.{worker-left}, Torn.{flow-torn}}
+use Rattle.run_account.{specs.Ways.{by_turns}, proofs.{Counted.{flow-counted}, Gone.{worker-left}, Torn.{flow-torn}}}
 
 -- ---- flows, as their numbers with their bytes
 
@@ -32,7 +32,7 @@ noted-by taken (f ∷ fs) each = (λ none. subst (BeginAt f.queue.base) none eac
 
 -- ---- one application
 
-module _ (first kept : ℕ → Option (List ℕ)) (losses losses_now : ℕ) (how : Behaviour) (v : AppView) (w : Worker) (fits : WorkerFits v w)
+module _ (first kept : ℕ → Option (List ℕ)) (losses losses_now : ShelfCounts) (how : Behaviour) (v : AppView) (w : Worker) (fits : WorkerFits v w)
     (runs : WorkerRuns first kept losses losses_now how v w) (left : w.left ≡ true) where
   bare : Bare w.state v
   bare = subst (λ b. MatchBool b (Bare w.state v) (Working w.state v)) (fits.gone left).1 fits.stands.mode
@@ -78,6 +78,7 @@ module _ (first kept : ℕ → Option (List ℕ)) (losses losses_now : ℕ) (how
         later = runs.later;
         cause = runs.cause;
         still = runs.still;
+        appended = runs.appended;
         strays = omega (arith, follow);
         entries = common.entries;
       }
@@ -95,7 +96,7 @@ module _ (first kept : ℕ → Option (List ℕ)) (losses losses_now : ℕ) (how
 
 -- one that takes turns behaves as the plan says
 pub behaves-so : (plan : Plan) → TakesTurns plan → plan.how ≡ how_of plan
-behaves-so plan by_turns = rw (by_turns.unpolled, by_turns.unforwarded) refl
+behaves-so plan turning = rw (turning.unpolled, turning.unforwarded) refl
 
 -- what an application left is what one's state says
 worker-of : (found : Option Worker) (end : AppEnd) → option_map (λ (u : Worker). end_of u.state) found ≡ Some end
@@ -103,7 +104,7 @@ worker-of : (found : Option Worker) (end : AppEnd) → option_map (λ (u : Worke
 worker-of None end is = absurd (cc)
 worker-of (Some w) end is = (w, refl, let same : end_of w.state ≡ end = cc in same)
 
-pub has-run : {S T : Type 0} (left : S → Option (List ℕ)) (faults : S → ℕ) (kept : T → ℕ → Option (List ℕ)) (losses : T → ℕ)
+pub has-run : {S T : Type 0} (left : S → Option (List ℕ)) (faults : S → ℕ) (kept : T → ℕ → Option (List ℕ)) (losses : T → ShelfCounts)
     (source source_now : S) (shelves shelves_now : List T) (plan : Plan) (nic : NicSide) (apps : List AppSide) (run : Run)
     → RolesFit nic apps run → AreOver run → Running left faults kept losses source source_now shelves shelves_now plan nic apps run
     → HasRun left faults kept losses source source_now shelves shelves_now plan nic apps run.feed (ends_of run.workers.items)
@@ -111,6 +112,7 @@ has-run left faults kept losses source source_now shelves shelves_now plan nic a
   plan_is = runs.plan_is;
   frames = runs.frames;
   stands = runs.feed;
+  turns = runs.turns;
   ready = fits.ready;
   closed = over.card;
   setting = runs.setting;
@@ -121,12 +123,16 @@ has-run left faults kept losses source source_now shelves shelves_now plan nic a
       subst (λ how. HasLeft how (kept_in kept shelves a) (kept_in kept shelves_now a) (losses_in losses shelves a) (losses_in losses shelves_now a)
       (side_in apps a).view end) (behaves-so plan runs.by_turns)
       (subst (HasLeft plan.how _ _ _ _ (side_in apps a).view) is
-      (has-left _ _ _ _ plan.how (side_in apps a).view w (fits.worker a w w_at) (runs.worker a w w_at) (worker-left nic apps run fits over a w w_at)));
+      (has-left _ _ _ _ plan.how (side_in apps a).view w (fits.worker a w w_at) (runs.worker a w w_at).runs (worker-left nic apps run fits over a w w_at)));
+  came = λ a end at.
+      let (w, w_at, is) = worker-of (slice_get run.workers.items a) end
+      (sym (slice_get-map (λ (u : Worker). end_of u.state) run.workers.items a) ∙ at) in
+      by_turns w.state (sym is) (runs.worker a w w_at).came;
   returned = λ a end at.
       let (w, w_at, is) = worker-of (slice_get run.workers.items a) end (sym (slice_get-map (λ (u : Worker). end_of u.state) run.workers.items a) ∙ at) in
       subst (λ how. HasReturned how end.stopped end.written (side_in apps a).view) (behaves-so plan runs.by_turns)
       (subst (λ (e : AppEnd). HasReturned plan.how e.stopped e.written (side_in apps a).view) is
-      (has-returned _ _ _ _ plan.how (side_in apps a).view w (fits.worker a w w_at) (runs.worker a w w_at) (worker-left nic apps run fits over a w w_at)));
+      (has-returned _ _ _ _ plan.how (side_in apps a).view w (fits.worker a w w_at) (runs.worker a w w_at).runs (worker-left nic apps run fits over a w w_at)));
   many_shelves = runs.many_shelves;
   beyond = runs.beyond;
   records = runs.records;

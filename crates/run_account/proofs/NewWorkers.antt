@@ -1,11 +1,11 @@
 -- An application that has taken no turn.
 use Rattle.std.proofs.Common.{◌≡◌, ℕ, true, false, Bool, if◌then◌else◌, List, [], Option, Some, None, refl, sym, ap, ◌∙◌, append-nil, arith}
 use Rattle.zr_kinds.specs.declared.behaviour.Stopped.TheVariants as stop
-use Rattle.zr_io.specs.Moved.{Gained}
+use Rattle.zr_io.specs.Moved.{Gained, ShelfCounts}
 use Rattle.board_face.specs.{Opened.{new_app_view}, declared.views.{parts.Setting.{Setting}, app.AppView.{AppView}}}
 use Rattle.app_worker.specs.Kept.{IsFresh, is_nothing}
-use Rattle.card_feed.specs.declared.plan.Plan.{Plan}
-use Rattle.run_account.specs.{Running.{IsNew, WorkerFits, WorkerRuns}, declared.run.Worker.{Worker}}
+use Rattle.card_feed.specs.{Plan.{TakesTurns}, declared.plan.Plan.{Plan}}
+use Rattle.run_account.specs.{Behind.{begins}, Running.{IsNew, WorkerFits, WorkerGoes, WorkerRuns}, declared.run.Worker.{Worker}}
 
 fresh : (s : Setting) (a : ℕ) → IsFresh a (new_app_view s a)
 fresh s a = record {
@@ -39,7 +39,7 @@ module _ (plan : Plan) (s : Setting) (a : ℕ) (v : AppView) (w : Worker) (is : 
   writes : w.state.stopped ≡ stop.Write → ⊥
   writes is_write = no-write (is_nothing plan.how.quit) (sym (ap (λ st. st.stopped) new.state_is) ∙ is_write)
 
-  pub new-runs : (kept : ℕ → Option (List ℕ)) (losses : ℕ) → WorkerRuns kept kept losses losses plan.how v w
+  pub new-runs : (kept : ℕ → Option (List ℕ)) (losses : ShelfCounts) → WorkerRuns kept kept losses losses plan.how v w
   new-runs kept losses = record {
     how_is = ap (λ st. st.how) new.state_is;
     shelved = λ not. new.shelved kept v;
@@ -47,8 +47,12 @@ module _ (plan : Plan) (s : Setting) (a : ℕ) (v : AppView) (w : Worker) (is : 
     later = omega arith;
     cause = λ is_write. absurd (writes is_write);
     still = λ not. refl;
+    appended = let none = ap (λ st. st.written) new.state_is in omega (arith, none);
     fronts = λ are flow. gained-nothing (kept flow) _ (record { read = []; rest = _; parts = refl; are = tt });
     whole = λ left. absurd (stays left);
     copies = let none = ap (λ st. st.copied) new.state_is in omega (arith, none);
     counts = λ left. absurd (stays left);
   }
+
+  pub new-goes : TakesTurns plan → (kept : ℕ → Option (List ℕ)) (losses : ShelfCounts) → WorkerGoes plan kept kept losses losses v w
+  new-goes by_turns kept losses = record { runs = new-runs kept losses; came = rw (new.state_is, is) (by_turns, s, a, begins) }

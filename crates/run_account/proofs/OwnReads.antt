@@ -2,7 +2,7 @@
 use Rattle.std.{proofs.Common.{◌≡◌, ◌≢◌, ℕ, List, [], ◌∷◌, ◌++◌, Option, Some, None, refl, sym, ap, subst, ◌∙◌, ⊎_elim, append-nil}, specs.Io.KnownBytes.{Keeps}}
 use Rattle.zr_kinds.specs.declared.behaviour.Behaviour.{Behaviour}
 use Rattle.zr_kinds.specs.declared.behaviour.Stopped.TheVariants as stop
-use Rattle.zr_io.{specs.Moved.{Gained}, proofs.Moved.{Gained-weaker}}
+use Rattle.zr_io.{specs.Moved.{Gained, ShelfCounts}, proofs.Moved.{Gained-weaker}}
 use Rattle.board_face.specs.declared.views.app.{Reading.{Reading}, TakenNote.{TakenNote}, AppSide.{AppSide}}
 use Rattle.app_worker.specs.{Marks.{FramesStandTogether, Mark, marks_of}, Core.{AreReadAt}}
 use Rattle.flow_queues.{specs.{Ends.{AppEnd, HasLeft}, Streams.{IsFront}}, proofs.ReadLemmas.{are-many}}
@@ -22,7 +22,7 @@ nothing-gained (Some xs) None taken reads gained = absurd gained
 nothing-gained (Some xs) (Some ys) taken reads (bytes, is, front) =
     is ∙ ap (λ more. xs ++ more) (no-byte taken reads front.read front.rest bytes front.parts front.are) ∙ append-nil xs
 
-module _ (first kept : ℕ → Option (List ℕ)) (losses losses_now : ℕ) (how : Behaviour) (app : AppSide) (end : AppEnd)
+module _ (first kept : ℕ → Option (List ℕ)) (losses losses_now : ShelfCounts) (how : Behaviour) (app : AppSide) (end : AppEnd)
     (has : HasLeft how first kept losses losses_now app.view end) (whole : FramesStandTogether app.view.taken) (number : ℕ) where
   pub flow-read : Gained (first number) (kept number) (IsFlowRead app end.stopped number)
   flow-read =

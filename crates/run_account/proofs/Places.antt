@@ -3,6 +3,7 @@ use Rattle.std.proofs.Common.{◌≡◌, ◌≢◌, ℕ, zero, suc, ◌<◌, Lis
 use Rattle.std.specs.{Prelude.{option_and_then, option_map}, List.{slice_get}}
 use Rattle.card_feed.specs.Account.{kept_in}
 use Rattle.run_account.specs.Running.{losses_in, losses_or}
+use Rattle.zr_io.specs.Moved.{ShelfCounts}
 
 pub get-set_same : {A : Type 0} (xs : List A) (i : ℕ) (x : A) → i < length xs → slice_get (set xs i x) i ≡ Some x
 get-set_same [] i x within = absurd (omega arith)
@@ -45,11 +46,11 @@ pub kept-there : {T : Type 0} (kept : T → ℕ → Option (List ℕ)) (shelves 
     → kept_in kept later a ≡ kept_in kept shelves a
 kept-there kept shelves later a is = ap (λ s flow. option_and_then (λ x. kept x flow) s) is
 
-pub losses-here : {T : Type 0} (losses : T → ℕ) (shelves : List T) (a : ℕ) (shelf : T) → slice_get shelves a ≡ Some shelf
+pub losses-here : {T : Type 0} (losses : T → ShelfCounts) (shelves : List T) (a : ℕ) (shelf : T) → slice_get shelves a ≡ Some shelf
     → losses_in losses shelves a ≡ losses shelf
 losses-here losses shelves a shelf is = ap (λ s. losses_or (option_map losses s)) is
 
-pub losses-there : {T : Type 0} (losses : T → ℕ) (shelves later : List T) (a : ℕ) → slice_get later a ≡ slice_get shelves a
+pub losses-there : {T : Type 0} (losses : T → ShelfCounts) (shelves later : List T) (a : ℕ) → slice_get later a ≡ slice_get shelves a
     → losses_in losses later a ≡ losses_in losses shelves a
 losses-there losses shelves later a is = ap (λ s. losses_or (option_map losses s)) is
 

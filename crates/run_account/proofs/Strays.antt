@@ -13,6 +13,7 @@ use Rattle.flow_queues.specs.{Ends.{AppEnd}, Totals.{raw_entries, loan_entries, 
 use Rattle.card_feed.specs.{Feed.{FeedState}, Plan.{how_of}, declared.plan.Plan.{Plan}}
 use Rattle.run_account.{specs.{Ran.{all_loans, lines_of}, Running.{HasRun}}, proofs.{Accounting.{line-known, side-is}, AppLines.{many-lines}, FlowSums.{over}}}
 use Rattle.run_account.proofs.{NoteSums.{note_len}, SentFew.{most_sent, notes-few, own-few, taken-sum}, Shares.{shares}}
+use Rattle.zr_io.specs.Moved.{ShelfCounts}
 
 abbrev one_raw : WrittenEntry → ℕ
 one_raw w = if w.of_loan then 0 else 1
@@ -78,7 +79,7 @@ strays-raw (w ∷ ws) (d ∷ ds) few none = omega (
 
 -- ---- of a run
 
-module _ {S T : Type 0} (left : S → Option (List ℕ)) (faults : S → ℕ) (kept : T → ℕ → Option (List ℕ)) (losses : T → ℕ)
+module _ {S T : Type 0} (left : S → Option (List ℕ)) (faults : S → ℕ) (kept : T → ℕ → Option (List ℕ)) (losses : T → ShelfCounts)
     (source source_now : S) (shelves shelves_now : List T) (plan : Plan) (nic : NicSide) (apps : List AppSide) (feed : FeedState)
     (ends : List AppEnd) (ended : HaveEnded nic apps)
     (runs : HasRun left faults kept losses source source_now shelves shelves_now plan nic apps feed ends) where

@@ -2,7 +2,7 @@
 use Rattle.std.{proofs.Common.{◌≡◌, ◌≢◌, ℕ, List, Option, Some, None, sym, ap, ◌∙◌, ◌⊎◌, ⊎_elim, arith}, specs.List.{slice_get}}
 use Rattle.zr_kinds.specs.declared.{behaviour.Stopped.{Stopped}, outcome.AppLine.{AppLine}}
 use Rattle.zr_kinds.specs.declared.behaviour.Stopped.TheVariants as stop
-use Rattle.zr_io.proofs.Moved.{Gained-weaker}
+use Rattle.zr_io.{specs.Moved.{ShelfCounts}, proofs.Moved.{Gained-weaker}}
 use Rattle.board_face.specs.declared.views.{nic.NicSide.{NicSide}, app.AppSide.{AppSide}}
 use Rattle.flow_queues.specs.Totals.{Quits}
 use Rattle.card_feed.{specs.{Account.{kept_in}, Plan.{how_of}, declared.plan.Plan.{Plan}}, proofs.OfFlow.{there}}
@@ -13,7 +13,7 @@ not-quit : (quit : Option ℕ) (written : ℕ) (stopped : Stopped) → Quits qui
 not-quit None written stopped quits other = quits
 not-quit (Some n) written stopped quits other = λ is. other (ap Some (sym (quits.1.0 is)))
 
-module _ {S T : Type 0} (left : S → Option (List ℕ)) (faults : S → ℕ) (kept : T → ℕ → Option (List ℕ)) (losses : T → ℕ)
+module _ {S T : Type 0} (left : S → Option (List ℕ)) (faults : S → ℕ) (kept : T → ℕ → Option (List ℕ)) (losses : T → ShelfCounts)
     (source source_now : S) (shelves shelves_now : List T) (plan : Plan) (told : Told) (nic : NicSide) (apps : List AppSide)
     (ran : Ran left faults kept losses source source_now shelves shelves_now plan told nic apps)
     (going : (number : ℕ) (app : AppLine) → slice_get told.apps number ≡ Some app → (app.stopped ≡ stop.No) ⊎ (app.stopped ≡ stop.Quit)) where

@@ -3,9 +3,9 @@ use Rattle.std.proofs.Common.{◌≡◌, ◌≢◌, ℕ, ◌≤◌, ◌⊎◌, i
 use Rattle.zr_kinds.specs.declared.behaviour.{Behaviour.{Behaviour}, Stopped.{Stopped}}
 use Rattle.zr_kinds.specs.declared.behaviour.Stopped.TheVariants as stop
 use Rattle.zr_kinds.specs.declared.fault.Fault.TheVariants as fault
-use Rattle.zr_io.specs.Moved.{Rose}
+use Rattle.zr_io.specs.Moved.{Rose, ShelfCounts}
 use Rattle.board_face.specs.declared.views.app.AppView.{AppView}
-use Rattle.app_worker.specs.{Marks.{FramesStandTogether}, State.{State}, Turns.{Answers, Turns}, declared.turn.Turn.{Turn, TheVariants.{Failed, Finished}}}
+use Rattle.app_worker.specs.{Marks.{FramesStandTogether}, State.{State}, Moves.{CountsOn}, Turns.{Answers, Turns}, declared.turn.Turn.{Turn, TheVariants.{Failed, Finished}}}
 use Rattle.flow_queues.specs.{Shelves.{AreShelved, AreFronts}, Streams.{HasFronts, HasAll}}
 use Rattle.run_account.specs.{Running.{WorkerRuns}, declared.run.Worker.{Worker}}
 
@@ -33,11 +33,12 @@ pub record WorkerTells (first kept_now : ℕ → Option (List ℕ)) (new : AppVi
   pub copies : now.copied ≤ now.loans
   pub counts : now.bare ≡ true → now.stopped ≡ stop.No → now.loans ≤ now.written
 
-module _ (first kept kept_now : ℕ → Option (List ℕ)) (losses losses_old losses_now : ℕ) (how : Behaviour) (old new : AppView) (was now : Worker)
+module _ (first kept kept_now : ℕ → Option (List ℕ)) (losses losses_old losses_now : ShelfCounts) (how : Behaviour) (old new : AppView) (was now : Worker)
     (result : Turn) (runs : WorkerRuns first kept losses losses_old how old was)
-    (turns : Turns was.state now.state old new kept kept_now losses_old losses_now result) (later : losses_old ≤ losses_now)
+    (turns : Turns was.state now.state old new kept kept_now losses_old.faults losses_now.faults result) (later : losses_old.faults ≤ losses_now.faults)
     (is_left : now.left ≡ true → result ≡ Finished) (tells : WorkerTells first kept_now new now.state (result ≡ Finished))
-    (gone : now.left ≡ true → now.state.bare ≡ true) (still : result ≢ Failed fault.Write → losses_now ≡ losses_old) where
+    (gone : now.left ≡ true → now.state.bare ≡ true) (still : result ≢ Failed fault.Write → losses_now.faults ≡ losses_old.faults)
+    (appended : CountsOn was.state.written now.state.written losses_old.appended losses_now.appended) where
   -- its shelf hadn't failed before, where it hasn't now
   before : now.state.stopped ≢ stop.Write → was.state.stopped ≢ stop.Write
   before not was_write = not (turns.goes.moves.stays (write-stops was.state.stopped was_write) ∙ was_write)
@@ -48,15 +49,15 @@ module _ (first kept kept_now : ℕ → Option (List ℕ)) (losses losses_old lo
   failed : now.state.stopped ≡ stop.Write → AreFronts first kept_now now.state.flows new
   failed is = turns.goes.failed is first runs.shelved runs.failed
 
-  cause : now.state.stopped ≡ stop.Write → Rose losses losses_now
+  cause : now.state.stopped ≡ stop.Write → Rose losses.faults losses_now.faults
   cause is = elim (is-write was.state.stopped) [
-    | inl was_write ↦ rose-later losses losses_old losses_now (runs.cause was_write) later
-    | inr not ↦ rose-before losses losses_old losses_now runs.later (turns.cause not is)
+    | inl was_write ↦ rose-later losses.faults losses_old.faults losses_now.faults (runs.cause was_write) later
+    | inr not ↦ rose-before losses.faults losses_old.faults losses_now.faults runs.later (turns.cause not is)
   ]
 
   -- the turn didn't stop it by its shelf, where that hadn't failed
   no-failure : now.state.stopped ≢ stop.Write → result ≢ Failed fault.Write
-  no-failure not is = not (subst (λ turn. Answers was.state now.state old new losses_old losses_now turn) is turns.answer).1
+  no-failure not is = not (subst (λ turn. Answers was.state now.state old new losses_old.faults losses_now.faults turn) is turns.answer).1
 
   fronts : FramesStandTogether new.taken → HasFronts first kept_now new
   fronts are = elim (is-write now.state.stopped) [
@@ -75,6 +76,7 @@ module _ (first kept kept_now : ℕ → Option (List ℕ)) (losses losses_old lo
     later = omega (arith, runs.later, later);
     cause = cause;
     still = λ not. still (no-failure not) ∙ runs.still (before not);
+    appended = appended losses.appended runs.appended;
     fronts = fronts;
     whole = λ left none are. tells.whole (is_left left) none are (shelved (not-write none));
     copies = tells.copies;

@@ -4,9 +4,10 @@ use Rattle.board_face.specs.{Ended.{HaveEnded}, declared.views.{nic.NicSide.{Nic
 use Rattle.flow_queues.specs.Ends.{AppEnd}
 use Rattle.card_feed.specs.{Feed.{FeedState, end_of}, declared.{outcome.Outcome.{Outcome}, plan.Plan.{Plan}}}
 use Rattle.run_account.specs.{Ran.{Ran, TellsOfEnds, Told, told_of}, Running.{HasRun}}
+use Rattle.zr_io.specs.Moved.{ShelfCounts}
 
 -- The outcome that is told is that of the run.
-abbrev pub RunsEndWell : {S T : Type 0} → (S → Option (List ℕ)) → (S → ℕ) → (T → ℕ → Option (List ℕ)) → (T → ℕ) → Type 0
+abbrev pub RunsEndWell : {S T : Type 0} → (S → Option (List ℕ)) → (S → ℕ) → (T → ℕ → Option (List ℕ)) → (T → ShelfCounts) → Type 0
 RunsEndWell {S} {T} left faults kept losses =
     (source source_now : S) (shelves shelves_now : List T) (plan : Plan) (nic : NicSide) (apps : List AppSide) (feed : FeedState)
     (ends : List AppEnd) (outcome : Outcome)
@@ -16,7 +17,7 @@ RunsEndWell {S} {T} left faults kept losses =
     → Ran left faults kept losses source source_now shelves shelves_now plan (told_of outcome) nic apps
 
 -- There is something to tell of the run, whether there is memory for it or not, and what ended the reading is as the feed has it.
-abbrev pub RunsAreTold : {S T : Type 0} → (S → Option (List ℕ)) → (S → ℕ) → (T → ℕ → Option (List ℕ)) → (T → ℕ) → Type 0
+abbrev pub RunsAreTold : {S T : Type 0} → (S → Option (List ℕ)) → (S → ℕ) → (T → ℕ → Option (List ℕ)) → (T → ShelfCounts) → Type 0
 RunsAreTold {S} {T} left faults kept losses =
     (source source_now : S) (shelves shelves_now : List T) (plan : Plan) (nic : NicSide) (apps : List AppSide) (feed : FeedState)
     (ends : List AppEnd)

@@ -1,3 +1,6 @@
+pub mod Behind
+pub mod CardTurns
+pub mod Ways
 pub mod Running
 pub mod Ran
 pub mod Laws

@@ -5,15 +5,15 @@ use Rattle.std.specs.{Prelude.{Option, Some, None, option_map}, List.{slice_get}
 use Rattle.zr_kinds.specs.declared.{behaviour.{Behaviour.{Behaviour}, Stopped.{Stopped}}, fault.Fault.{Fault, TheVariants.{Memory, TooManyFlows}}}
 use Rattle.zr_kinds.specs.declared.outcome.{AppLine.{AppLine}, FlowLine.{FlowLine}, PoolStats.{PoolStats}, Tally.{Tally}}
 use Rattle.zr_kinds.specs.declared.behaviour.Stopped.TheVariants as stop
-use Rattle.zr_io.specs.Moved.{Rose, Gained, Took}
+use Rattle.zr_io.specs.Moved.{Gained, Rose, ShelfCounts, Took, raised_by}
 use Rattle.flow_table.specs.{Flows.{Flow, flows_of}, Stream.{stream_of}}
 use Rattle.frames_read.specs.{Ending.{steered_in}, Reading.{HasEnded}, Tally.{tally_of}}
-use Rattle.board_face.specs.{Ended.{HaveEnded}, Sides.{side_in}, declared.views.{nic.NicSide.{NicSide}, app.{AppSide.{AppSide}, AppView.{AppView}}}}
+use Rattle.board_face.specs.{Ended.{HaveEnded}, Sides.{side_in}, declared.views.{nic.{NicSide.{NicSide}, NicView.{NicView}}, app.{AppSide.{AppSide}, AppView.{AppView}}}}
 use Rattle.flow_queues.specs.{Ends.{AppEnd, IsTorn, bytes_in}, Totals.{Quits}}
-use Rattle.card_feed.specs.{Account.{AccountsFor, kept_in}, Counts.{begins_fresh, found_in, long_in, searches_in}, Feed.{FeedState}, Need.{RefusesByNeed}}
+use Rattle.card_feed.specs.{Account.{AccountsFor, kept_in}, Feed.{FeedState, end_of}, Counts.{begins_fresh, found_in, long_in, searches_in, sweeping_in, sweeps_in}}
 use Rattle.card_feed.specs.{Offered.{AreRefused, WantsRoom, offers_of}, Outcomes.{IsOutcomeOf, flow_end}, declared.{outcome.Outcome.{Outcome}, plan.Plan.{Plan}}}
-use Rattle.card_feed.specs.Plan.{how_of}
-use Rattle.run_account.specs.{Running.{ends_of, losses_in}, declared.run.Run.{Run}}
+use Rattle.card_feed.specs.{Need.{RefusesByNeed}, Plan.{how_of}}
+use Rattle.run_account.specs.{CardTurns.{CardTurns}, Running.{ends_of, losses_in}, Ways.{HasCome}, declared.run.Run.{Run}}
 
 -- what holds of something that is there
 abbrev pub There : {A : Type 0} → Option A → (A → Type 0) → Type 0
@@ -50,17 +50,19 @@ abbrev pub written_to : ℕ → List FlowLine → ℕ
 written_to port lines = min (sum_by (λ (line : FlowLine). if line.port == port then line.bytes else 0) lines) (2 ^ 64 - 1)
 
 -- The line of the application of a port: what was written, how many loans it had, and why it stopped.
-pub record IsAppLine (how : Behaviour) (port losses losses_now : ℕ) (flows : List FlowLine) (app : AppLine) : Type 0 where
+pub record IsAppLine (how : Behaviour) (port : ℕ) (losses losses_now : ShelfCounts) (flows : List FlowLine) (app : AppLine) : Type 0 where
   pub port_is : app.port ≡ port
   pub written : app.written ≡ written_to port flows
+  -- which is what the appends to its shelf took that went well, and nothing else
+  pub appended : losses_now.appended ≡ raised_by losses.appended app.written
   pub copies : app.copied ≤ app.loans
   pub loans : app.stopped ≡ stop.No → app.loans ≤ app.written
   -- it quits exactly where it has written so many bytes
   pub quits : Quits how.quit app.written app.stopped
-  pub later : losses ≤ losses_now
+  pub later : losses.faults ≤ losses_now.faults
   -- its shelf failed, and otherwise none of the shelf's calls did
-  pub cause : app.stopped ≡ stop.Write → Rose losses losses_now
-  pub still : app.stopped ≢ stop.Write → losses_now ≡ losses
+  pub cause : app.stopped ≡ stop.Write → Rose losses.faults losses_now.faults
+  pub still : app.stopped ≢ stop.Write → losses_now.faults ≡ losses.faults
 
 -- the loans of all applications
 abbrev pub all_loans : List AppLine → ℕ
@@ -119,7 +121,16 @@ told_of outcome = record {
   end = outcome.end;
 }
 
-pub record Ran {S T : Type 0} (left : S → Option (List ℕ)) (faults : S → ℕ) (kept : T → ℕ → Option (List ℕ)) (losses : T → ℕ)
+-- What is told of these frames is what the card kept at the end, and it came to that, and to its view, by turns of its own.
+pub record CardHasTurned (ports : List ℕ) (split : ℕ) (frames : List (List ℕ)) (told : Told) (v : NicView) : Type 0 where
+  pub feed : FeedState
+  pub turns : CardTurns ports split frames feed v
+  pub tally : told.tally ≡ feed.tally
+  pub refused : told.refused ≡ feed.refused
+  pub pool : told.pool ≡ feed.pool.stats
+  pub end : told.end ≡ end_of feed.stage
+
+pub record Ran {S T : Type 0} (left : S → Option (List ℕ)) (faults : S → ℕ) (kept : T → ℕ → Option (List ℕ)) (losses : T → ShelfCounts)
     (source source_now : S) (shelves shelves_now : List T) (plan : Plan) (told : Told) (nic : NicSide) (apps : List AppSide) : Type 0 where
   -- the frames before the reading ended, and what ended it
   pub before : List (List ℕ)
@@ -135,6 +146,8 @@ pub record Ran {S T : Type 0} (left : S → Option (List ℕ)) (faults : S → �
   pub searches : searches_in told.pool ≤ long_in plan.split (offers_of (steered_in plan.ports.items before))
   pub found : found_in told.pool ≡ count_by begins_fresh nic.view.sent
   pub empty : told.pool.empty ≡ length told.refused
+  -- and no more of them swept the free list than the card did
+  pub swept : sweeping_in told.pool ≤ sweeps_in nic.view
   -- no more strays than may follow the loans
   pub strays : told.pool.strays ≤ (how_of plan).stray * all_loans told.apps
   -- The stream theorem: each flow's shelf gained a front of what the copying receiver gives of what counts of the flow's payloads
@@ -158,6 +171,12 @@ pub record Ran {S T : Type 0} (left : S → Option (List ℕ)) (faults : S → �
   -- The shelves of no application are as they were.
   pub many_shelves : length shelves_now ≡ length shelves
   pub beyond : drop (length plan.ports.items) shelves_now ≡ drop (length plan.ports.items) shelves
+  -- The card came to what is told, and each application to its line, in the way that the plan says; and both to their views.
+  pub turns : CardHasTurned plan.ports.items plan.split before told nic.view
+  pub came : (number port : ℕ) (app : AppLine) → slice_get plan.ports.items number ≡ Some port → slice_get told.apps number ≡ Some app
+      → (end : AppEnd) × (app ≡ line_of port end)
+      × HasCome plan (kept_in kept shelves number) (kept_in kept shelves_now number) (losses_in losses shelves number)
+      (losses_in losses shelves_now number) (side_in apps number).view end
   -- All is over at the board, and it accounts for the run.
   pub over : HaveEnded nic apps
   pub accounts : AccountsFor kept shelves shelves_now plan before told.refused nic apps told.apps told.pool.strays
@@ -176,7 +195,7 @@ pub record IsUntouched {S T : Type 0} (source source_now : S) (shelves shelves_n
   pub shelves_are : shelves_now ≡ shelves
 
 -- Want of memory came before the first turn; or behind the last one, and then the run is as any other.
-abbrev pub LacksMemory : {S T : Type 0} → (S → Option (List ℕ)) → (S → ℕ) → (T → ℕ → Option (List ℕ)) → (T → ℕ) → S → S
+abbrev pub LacksMemory : {S T : Type 0} → (S → Option (List ℕ)) → (S → ℕ) → (T → ℕ → Option (List ℕ)) → (T → ShelfCounts) → S → S
     → List T → List T → Plan → Type 0
 LacksMemory left faults kept losses source source_now shelves shelves_now plan =
     IsUntouched source source_now shelves shelves_now
@@ -193,7 +212,7 @@ pub record HasReadOn {S : Type 0} (left : S → Option (List ℕ)) (faults : S �
   pub later : faults at ≤ faults now
 
 -- `LacksMemory` of a run whose capture is read beside the card.
-abbrev pub LacksMemoryBeside : {S T : Type 0} → (S → Option (List ℕ)) → (S → ℕ) → (T → ℕ → Option (List ℕ)) → (T → ℕ) → S → S
+abbrev pub LacksMemoryBeside : {S T : Type 0} → (S → Option (List ℕ)) → (S → ℕ) → (T → ℕ → Option (List ℕ)) → (T → ShelfCounts) → S → S
     → List T → List T → Plan → Type 0
 LacksMemoryBeside {S} {T} left faults kept losses source source_now shelves shelves_now plan =
     IsUntouched source source_now shelves shelves_now

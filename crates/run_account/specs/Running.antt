@@ -3,19 +3,19 @@
 use Rattle.std.specs.{Prelude.{◌≡◌, ◌≢◌, ℕ, ◌<◌, ◌≤◌, true, false, List, All, length, map, drop, Option, Some, None, option_map}, List.{slice_get}}
 use Rattle.zr_kinds.specs.{Limits.{most_records}, declared.behaviour.Behaviour.{Behaviour}}
 use Rattle.zr_kinds.specs.declared.behaviour.Stopped.TheVariants as stop
-use Rattle.zr_io.specs.Moved.{Rose}
+use Rattle.zr_io.specs.Moved.{Rose, ShelfCounts, raised_by}
 use Rattle.board_face.specs.{AppCalls.{IsHere}, Sides.{side_in}, declared.views.{nic.NicSide.{NicSide}, app.{AppSide.{AppSide}, AppView.{AppView}}}}
 use Rattle.flow_queues.specs.{Ends.{AppEnd, HasLeft}, Shelves.{AreShelved, AreFronts}, Returned.{HasReturned}, Streams.{HasFronts, HasAll}}
 use Rattle.app_worker.specs.{StateOf.{end_of}, Kept.{new_state, IsFresh}, Marks.{FramesStandTogether}, State.{AppStands}}
 use Rattle.card_feed.specs.{Account.{kept_in}, Feed.{FeedState, IsReady, FeedStands}, Plan.{IsPlan, TakesTurns, layout_of, how_of}, declared.plan.Plan.{Plan}}
-use Rattle.run_account.specs.declared.run.{Run.{Run}, Worker.{Worker}}
+use Rattle.run_account.specs.{CardTurns.{CardTurns}, Ways.{HasCome, TurnedSince}, declared.run.{Run.{Run}, Worker.{Worker}}}
 
--- how often the shelf of an application has failed
-abbrev pub losses_or : Option ℕ → ℕ
-losses_or None = 0
-losses_or (Some count) = count
+-- what the shelf of an application has counted
+abbrev pub losses_or : Option ShelfCounts → ShelfCounts
+losses_or None = record { faults = 0; appended = 0 }
+losses_or (Some counts) = counts
 
-abbrev pub losses_in : {T : Type 0} → (T → ℕ) → List T → ℕ → ℕ
+abbrev pub losses_in : {T : Type 0} → (T → ShelfCounts) → List T → ℕ → ShelfCounts
 losses_in losses shelves app = losses_or (option_map losses (slice_get shelves app))
 
 -- ---- what is kept fits the sides
@@ -47,31 +47,38 @@ pub record AreNew (plan : Plan) (workers : List Worker) : Type 0 where
 -- ---- what was read, sent and written since the first turn
 
 -- One application: what its shelf has, by the marks of the notes that it took, and why it stopped.
-pub record WorkerRuns (first kept : ℕ → Option (List ℕ)) (losses losses_now : ℕ) (how : Behaviour) (v : AppView) (w : Worker) : Type 0 where
+pub record WorkerRuns (first kept : ℕ → Option (List ℕ)) (losses losses_now : ShelfCounts) (how : Behaviour) (v : AppView) (w : Worker) : Type 0 where
   pub how_is : w.state.how ≡ how
   pub shelved : w.state.stopped ≢ stop.Write → AreShelved first kept w.state.flows v
   pub failed : w.state.stopped ≡ stop.Write → AreFronts first kept w.state.flows v
-  pub later : losses ≤ losses_now
-  pub cause : w.state.stopped ≡ stop.Write → Rose losses losses_now
-  pub still : w.state.stopped ≢ stop.Write → losses_now ≡ losses
+  pub later : losses.faults ≤ losses_now.faults
+  pub cause : w.state.stopped ≡ stop.Write → Rose losses.faults losses_now.faults
+  pub still : w.state.stopped ≢ stop.Write → losses_now.faults ≡ losses.faults
+  pub appended : losses_now.appended ≡ raised_by losses.appended w.state.written
   pub fronts : FramesStandTogether v.taken → HasFronts first kept v
   pub whole : w.left ≡ true → w.state.stopped ≡ stop.No → FramesStandTogether v.taken → HasAll first kept v
   pub copies : w.state.copied ≤ w.state.loans
   pub counts : w.left ≡ true → w.state.stopped ≡ stop.No → w.state.loans ≤ w.state.written
 
--- The run so far of a plan whose applications take turns: these frames were read and the card stands by them, each application
--- stands by what it took, and no other shelf was touched.
-pub record Running {S T : Type 0} (left : S → Option (List ℕ)) (faults : S → ℕ) (kept : T → ℕ → Option (List ℕ)) (losses : T → ℕ)
+-- So it runs as the plan says, and it came to that by turns of its own.
+pub record WorkerGoes (plan : Plan) (first kept : ℕ → Option (List ℕ)) (losses losses_now : ShelfCounts) (v : AppView) (w : Worker) : Type 0 where
+  pub runs : WorkerRuns first kept losses losses_now plan.how v w
+  pub came : TurnedSince plan first losses (record { state = w.state; view = v; kept = kept; losses = losses_now })
+
+-- The run so far of a plan whose applications take turns: these frames were read, and the card stands by them and came to that by turns,
+-- each application stands by what it took, and no other shelf was touched.
+pub record Running {S T : Type 0} (left : S → Option (List ℕ)) (faults : S → ℕ) (kept : T → ℕ → Option (List ℕ)) (losses : T → ShelfCounts)
     (source source_now : S) (shelves shelves_now : List T) (plan : Plan) (nic : NicSide) (apps : List AppSide) (run : Run) : Type 0 where
   pub plan_is : IsPlan plan
   pub by_turns : TakesTurns plan
   pub frames : List (List ℕ)
   pub feed : FeedStands left faults source source_now plan.ports.items plan.split frames run.feed nic.view
+  pub turns : CardTurns plan.ports.items plan.split frames run.feed nic.view
   pub setting : nic.view.setting ≡ record { layout = layout_of plan; places = plan.ring }
   pub many : length run.workers.items ≡ length plan.ports.items
   pub worker : (a : ℕ) (w : Worker) → slice_get run.workers.items a ≡ Some w
-      → WorkerRuns (kept_in kept shelves a) (kept_in kept shelves_now a) (losses_in losses shelves a) (losses_in losses shelves_now a)
-      plan.how (side_in apps a).view w
+      → WorkerGoes plan (kept_in kept shelves a) (kept_in kept shelves_now a) (losses_in losses shelves a) (losses_in losses shelves_now a)
+      (side_in apps a).view w
   pub many_shelves : length shelves_now ≡ length shelves
   pub beyond : drop (length plan.ports.items) shelves_now ≡ drop (length plan.ports.items) shelves
   -- No more records were read than are read at most, and each entry that was dealt with is of an application.
@@ -87,20 +94,24 @@ pub record AreOver (run : Run) : Type 0 where
   pub card : run.feed.closed ≡ true
   pub apps : All (λ (w : Worker). w.left ≡ true) run.workers.items
 
--- The run of a plan that is over, as plain data: these frames were read and the card stands by them and was closed, each application
--- has left with this, and no other shelf was touched.
-pub record HasRun {S T : Type 0} (left : S → Option (List ℕ)) (faults : S → ℕ) (kept : T → ℕ → Option (List ℕ)) (losses : T → ℕ)
+-- The run of a plan that is over, as plain data: these frames were read and the card stands by them, came to that by turns and was closed,
+-- each application has left with this, to which it came in the way that the plan says, and no other shelf was touched.
+pub record HasRun {S T : Type 0} (left : S → Option (List ℕ)) (faults : S → ℕ) (kept : T → ℕ → Option (List ℕ)) (losses : T → ShelfCounts)
     (source source_now : S) (shelves shelves_now : List T) (plan : Plan) (nic : NicSide) (apps : List AppSide) (feed : FeedState)
     (ends : List AppEnd) : Type 0 where
   pub plan_is : IsPlan plan
   pub frames : List (List ℕ)
   pub stands : FeedStands left faults source source_now plan.ports.items plan.split frames feed nic.view
+  pub turns : CardTurns plan.ports.items plan.split frames feed nic.view
   pub ready : IsReady feed nic.view
   pub closed : feed.closed ≡ true
   pub setting : nic.view.setting ≡ record { layout = layout_of plan; places = plan.ring }
   pub many : length ends ≡ length plan.ports.items
   pub app : (a : ℕ) (end : AppEnd) → slice_get ends a ≡ Some end
       → HasLeft (how_of plan) (kept_in kept shelves a) (kept_in kept shelves_now a) (losses_in losses shelves a) (losses_in losses shelves_now a)
+      (side_in apps a).view end
+  pub came : (a : ℕ) (end : AppEnd) → slice_get ends a ≡ Some end
+      → HasCome plan (kept_in kept shelves a) (kept_in kept shelves_now a) (losses_in losses shelves a) (losses_in losses shelves_now a)
       (side_in apps a).view end
   pub returned : (a : ℕ) (end : AppEnd) → slice_get ends a ≡ Some end → HasReturned (how_of plan) end.stopped end.written (side_in apps a).view
   pub many_shelves : length shelves_now ≡ length shelves

@@ -1,10 +1,12 @@
 -- How the reading of a record's lines goes on and ends.
 use Rattle.std.proofs.Common.{◌≡◌, ◌∙◌, ℕ, ◌+◌, ◌++◌, ◌≤◌, List, [], ◌∷◌, length, map, All, Bool, true, false, refl, sym, ap, subst, arith, ◌⊎◌, ⊎_elim}
 use Rattle.std.proofs.Common.{Some, None, IsTrue, append_assoc, append-nil, length-append, zero, suc}
-use Rattle.run_records.specs.{declared.event.Event.{Event}, Setting.{most_events, IsArea, IsSetting, Setting}, Holders.{Holdings, after, no_holdings}}
+use Rattle.run_records.specs.{declared.event.Event.{Event}, Setting.{most_events, IsArea, IsSetting, Setting}, Holders.{Holdings, after, all_after, no_holdings}}
 use Rattle.run_records.{specs.{LegalRun.{IsLegalRun}, RunText.{Text, last_line, line_of, run_line, text_of_lines}}, proofs.Following.{all_after-more, small-more}}
-use Rattle.run_check.specs.{declared.checking.Checked.TheVariants.{Yes, No}, Coming.{HasNoLine, IsOneLine}, Judged.{BeginARun, Judges}, Reading.{event_of}}
-use Rattle.run_check.proofs.{Going.{IsLegalSoFar, MayFollow, not_last}, Judging.{bad_line, more_behind, no_run, same_line, whole_run}}
+use Rattle.run_check.specs.{declared.checking.Checked.TheVariants.{Yes, No}, Coming.{HasNoLine, IsOneLine}, Judged.{BeginARun, IsWhy, Judges}, Reading.{event_of}, Unfit.{IsUnfit}}
+use Rattle.run_check.specs.declared.unfit.Unfit.{Unfit}
+use Rattle.run_check.specs.declared.unfit.Unfit.TheVariants as unfit
+use Rattle.run_check.proofs.{Going.{IsLegalSoFar, MayFollow, not_last, same_event}, Lacking.{lack_none}, Judging.{bad_line, more_behind, no_run, same_line, whole_run}}
 use Rattle.run_check.proofs.{LineText.{event_of-line_of, line_of-event_of}, Short.{last_line-short, line_of-short}}
 
 -- so many events were read of the bytes behind the first line, and these are the holders after them
@@ -61,57 +63,70 @@ come_more s start rest later h now count line e come room took read follows =
 
 -- no line comes
 pub no_line : (s : Setting) (start rest : List ℕ) (h : Holdings) (count : ℕ) → HasCome s start rest h count → HasNoLine rest
-    → Judges (behind_first s start) (No (count + 2))
+    → Judges (behind_first s start) (No (count + 2) unfit.NoLine)
 no_line s start rest h count come none =
-    subst (λ n. Judges (behind_first s start) (No (n + 2))) come.number
+    subst (λ n. Judges (behind_first s start) (No (n + 2) unfit.NoLine)) come.number
     (bad_line s come.events h (behind_first s start) rest come.far (first_then s (map line_of come.events) rest start come.text)
     (λ line behind same one. ⊎_elim
     (λ next. let long = none line behind same one in
     absurd (omega (arith, long, line_of-short next.e next.small, ap length next.told)))
     (λ end. let long = none line behind same one in
-    absurd (omega (arith, long, last_line-short end.whole, ap length end.told)))))
+    absurd (omega (arith, long, last_line-short end.whole, ap length end.told))))
+    unfit.NoLine none)
 
--- the line that comes is no one that may follow
-bad_here : (s : Setting) (start rest later : List ℕ) (h : Holdings) (count : ℕ) (line : Text) → HasCome s start rest h count
-    → rest ≡ (line ++ 10 ∷ []) ++ later → IsOneLine line → ((events : List Event) → length events ≡ count → IsLegalSoFar s events h → MayFollow s events h line → ⊥)
-    → Judges (behind_first s start) (No (count + 2))
-bad_here s start rest later h count line come took one bad =
-    subst (λ n. Judges (behind_first s start) (No (n + 2))) come.number
-    (bad_line s come.events h (behind_first s start) rest come.far (first_then s (map line_of come.events) rest start come.text)
-    (λ other behind same other_one may.
-    let lines = same_line other line behind later other_one one (sym same ∙ took ∙ append_assoc line (10 ∷ []) later) in
-    bad come.events come.number come.far (subst (MayFollow s come.events h) lines.0 may)))
-
--- it is no last line, and no event that the holders allow
-pub bad_event : (s : Setting) (start rest later : List ℕ) (h : Holdings) (count : ℕ) (line : Text) → HasCome s start rest h count
-    → rest ≡ (line ++ 10 ∷ []) ++ later → IsOneLine line → (line ≡ last_line true → ⊥) → (line ≡ last_line false → ⊥)
-    → ((e : Event) → event_of line ≡ Some e → after s h e ≡ None) ⊎ (most_events ≤ count) → Judges (behind_first s start) (No (count + 2))
-bad_event s start rest later h count line come took one no_end no_more why =
-    bad_here s start rest later h count line come took one (λ events number far. ⊎_elim
-    (λ next. ⊎_elim
-    (λ none. let unfit : after s h next.e ≡ None = none next.e (ap event_of next.told ∙ event_of-line_of next.e next.small) in
-    let fit : after s h next.e ≡ Some next.then = next.follows in cc)
-    (λ full. omega (arith, full, number, next.room)) why)
-    (λ end. no_last end.whole end.told))
+-- what is unfit may not follow
+unfit_follows : (s : Setting) (events : List Event) (h : Holdings) (line : Text) (why : Unfit) → IsUnfit s (length events) h line why
+    → IsLegalSoFar s events h → MayFollow s events h line → ⊥
+unfit_follows s events h line unfit.NoLine is far may = is
+unfit_follows s events h line unfit.NoSetting is far may = is
+unfit_follows s events h line unfit.Behind is far may = is
+unfit_follows s events h line unfit.NoEvent (last, none) far may =
+    ⊎_elim (λ next. none next.e next.small next.told) (λ end. last end.whole end.told) may
+unfit_follows s events h line unfit.TooMany (last, full) far may =
+    ⊎_elim (λ next. omega (arith, full, next.room)) (λ end. last end.whole end.told) may
+unfit_follows s events h line unfit.Held (told, some) far may =
+    ⊎_elim (λ next. not_last next.e true next.small (sym next.told ∙ told)) (λ end. ended end.whole (sym told ∙ end.told) end.legal) may
   where
-    no_last : (whole : Bool) → line ≡ last_line whole → ⊥
-    no_last true told = no_end told
-    no_last false told = no_more told
-
--- it says the end, and there are holders
-pub early_end : (s : Setting) (start rest later : List ℕ) (h : Holdings) (count : ℕ) → HasCome s start rest h count
-    → rest ≡ (last_line true ++ 10 ∷ []) ++ later → IsOneLine (last_line true) → (((b : ℕ) → h b ≡ []) → ⊥) → Judges (behind_first s start) (No (count + 2))
-early_end s start rest later h count come took one some =
-    bad_here s start rest later h count (last_line true) come took one (λ events number far. ⊎_elim
-    (λ next. not_last next.e true next.small (sym next.told))
-    (λ end. ended events far end.whole end.told end.legal))
-  where
-    ended : (events : List Event) → IsLegalSoFar s events h → (whole : Bool) → last_line true ≡ last_line whole → IsLegalRun s events whole → ⊥
-    ended events far false told legal = cc
-    ended events far true told legal =
+    ended : (whole : Bool) → last_line true ≡ last_line whole → IsLegalRun s events whole → ⊥
+    ended false told legal = cc
+    ended true told legal =
         let same : Some h ≡ Some legal.holdings = sym far.reached ∙ legal.reached in
         let equal : legal.holdings ≡ h = cc in
         some (λ b. ap (λ k. k b) (sym equal) ∙ legal.ended refl b)
+unfit_follows s events h line (unfit.Event e l) (told, small, lack) far may =
+    ⊎_elim
+    (λ next. let same : e ≡ next.e = same_event e next.e small next.small (sym told ∙ next.told) in
+    let none : after s h next.e ≡ None = subst (λ f. after s h f ≡ None) same (lack_none s h e l lack) in
+    let fit : after s h next.e ≡ Some next.then = next.follows in cc)
+    (λ end. not_last e end.whole small (sym told ∙ end.told)) may
+
+why_unfit : (before : List Text) (rest : List ℕ) (s : Setting) (events : List Event) (h : Holdings) (line : Text) (behind : List ℕ) (why : Unfit)
+    → before ≡ run_line s ∷ map line_of events → all_after s no_holdings events ≡ Some h → rest ≡ line ++ 10 ∷ behind → IsOneLine line
+    → IsUnfit s (length events) h line why → IsWhy before rest why
+why_unfit before rest s events h line behind unfit.NoLine told reached next one is = absurd is
+why_unfit before rest s events h line behind unfit.NoSetting told reached next one is = absurd is
+why_unfit before rest s events h line behind unfit.Behind told reached next one is = absurd is
+why_unfit before rest s events h line behind unfit.NoEvent told reached next one is =
+    record { setting = s; events = events; holdings = h; told = told; reached = reached; line = line; behind = behind; next = next; one = one; is_unfit = is }
+why_unfit before rest s events h line behind unfit.TooMany told reached next one is =
+    record { setting = s; events = events; holdings = h; told = told; reached = reached; line = line; behind = behind; next = next; one = one; is_unfit = is }
+why_unfit before rest s events h line behind unfit.Held told reached next one is =
+    record { setting = s; events = events; holdings = h; told = told; reached = reached; line = line; behind = behind; next = next; one = one; is_unfit = is }
+why_unfit before rest s events h line behind (unfit.Event e l) told reached next one is =
+    record { setting = s; events = events; holdings = h; told = told; reached = reached; line = line; behind = behind; next = next; one = one; is_unfit = is }
+
+-- the line that comes is unfit
+pub unfit_line : (s : Setting) (start rest later : List ℕ) (h : Holdings) (count : ℕ) (line : Text) (why : Unfit) → HasCome s start rest h count
+    → rest ≡ (line ++ 10 ∷ []) ++ later → IsOneLine line → IsUnfit s count h line why → Judges (behind_first s start) (No (count + 2) why)
+unfit_line s start rest later h count line why come took one is =
+    let here : IsUnfit s (length come.events) h line why = subst (λ n. IsUnfit s n h line why) (sym come.number) is in
+    let next : rest ≡ line ++ 10 ∷ later = took ∙ append_assoc line (10 ∷ []) later in
+    subst (λ n. Judges (behind_first s start) (No (n + 2) why)) come.number
+    (bad_line s come.events h (behind_first s start) rest come.far (first_then s (map line_of come.events) rest start come.text)
+    (λ other behind same other_one may.
+    let lines = same_line other line behind later other_one one (sym same ∙ next) in
+    unfit_follows s come.events h line why here come.far (subst (MayFollow s come.events h) lines.0 may))
+    why (why_unfit (run_line s ∷ map line_of come.events) rest s come.events h line later why refl come.far.reached next one here))
 
 -- it is a last line that may come: what is said goes by whether something follows
 legal_here : (s : Setting) (events : List Event) (h : Holdings) (whole : Bool) → IsLegalSoFar s events h → (IsTrue whole → (b : ℕ) → h b ≡ [])
@@ -129,9 +144,9 @@ told_whole s start rest h count whole come none took =
 
 pub told_more : (s : Setting) (start rest later : List ℕ) (h : Holdings) (count : ℕ) (whole : Bool) → HasCome s start rest h count
     → (IsTrue whole → (b : ℕ) → h b ≡ []) → rest ≡ (last_line whole ++ 10 ∷ []) ++ later → (later ≡ [] → ⊥)
-    → Judges (behind_first s start) (No (count + 3))
+    → Judges (behind_first s start) (No (count + 3) unfit.Behind)
 told_more s start rest later h count whole come none took some =
-    subst (λ n. Judges (behind_first s start) (No (n + 3))) come.number
+    subst (λ n. Judges (behind_first s start) (No (n + 3) unfit.Behind)) come.number
     (more_behind s come.events h whole (behind_first s start) later come.far (legal_here s come.events h whole come.far none)
     (first_then s (map line_of come.events) rest start come.text
     ∙ ap (λ t. text_of_lines (run_line s ∷ map line_of come.events) ++ t) (took ∙ append_assoc (last_line whole) (10 ∷ []) later)) some)
@@ -163,8 +178,8 @@ first_run = (
 
 -- the first line isn't one that a run may have
 pub bad_first : (bytes : List ℕ) → ((line : Text) (behind : List ℕ) → bytes ≡ line ++ 10 ∷ behind → IsOneLine line
-    → (s : Setting) → IsSetting s → line ≡ run_line s → ⊥) → Judges bytes (No 1)
-bad_first bytes bad =
+    → (s : Setting) → IsSetting s → line ≡ run_line s → ⊥) → (why : Unfit) → IsWhy [] bytes why → Judges bytes (No 1 why)
+bad_first bytes bad why is_why =
     let ends : (line : Text) (behind : List ℕ) → bytes ≡ line ++ 10 ∷ behind → IsOneLine line → BeginARun ([] ++ line ∷ []) → ⊥ =
     λ line behind same one begun. let run = begun.1 in
     let told : line ∷ begun.0 ≡ run_line run.setting ∷ (map line_of run.events ++ last_line run.whole ∷ []) = run.told in
@@ -177,6 +192,7 @@ bad_first bytes bad =
         counted = refl;
         begun = first_run;
         ends = ends;
+        cause = is_why;
       },
       no_run [] bytes bytes tt refl ends (λ nothing run. let told : [] ≡ run_line run.setting ∷ (map line_of run.events ++ last_line run.whole ∷ []) = run.told in cc),
     )

@@ -5,7 +5,7 @@ use Rattle.std.{specs.{Bool.{MatchBool}, List.{AllWithin, HoldsAt}}, proofs.lemm
 use Rattle.run_records.specs.{declared.{holding.Holding.{Holding}, event.Event.{Event}}, Setting.{IsSetting, Setting, total_buffers}}
 use Rattle.run_records.specs.{Holders.{Holdings, after, buffer_of, changed, has_counts, is_in_range, only_if, with_holders}, EventFields.{bytes_of}}
 use Rattle.run_records.specs.declared.event.Event.TheVariants as event
-use Rattle.run_check.{specs.Holding.{Changes, HasChanged, HasSmallApp, SameHolders, SameHoldings, holdings_of, weight}, proofs.{Areas.{size_most}, Alike.{counts-same}}}
+use Rattle.run_check.{specs.Holding.{HasSmallApp, SameHolders, SameHoldings, holdings_of, weight}, proofs.Areas.{size_most}}
 
 -- ---- the holders of all buffers
 
@@ -32,7 +32,7 @@ pub none_from_cases : (r : Bool) (buffers : List (List Holding))
 none_from_cases true buffers h = (λ t. all_none buffers h, λ none. refl)
 none_from_cases false buffers h = (λ t. cc, λ none. absurd (some_held buffers h.0 h.1 h.2 none))
 
-holdings_set : (buffers : List (List Holding)) (buffer : ℕ) (now other : List Holding) → SameHolders other now → buffer < length buffers
+pub holdings_set : (buffers : List (List Holding)) (buffer : ℕ) (now other : List Holding) → SameHolders other now → buffer < length buffers
     → SameHoldings (with_holders (holdings_of buffers) buffer other) (holdings_of (set buffers buffer now))
 holdings_set buffers buffer now other alike lt = λ b. ⊎_elim
     (λ (same : b ≡ buffer). rw (eq-eqb b buffer same)
@@ -85,17 +85,6 @@ buffer_below s (event.Stray a) at ranged is = cc
 pub held_here : (buffers : List (List Holding)) (b : ℕ) (held : List Holding) → held ≡ get_or buffers b held → b < length buffers
     → holdings_of buffers b ≡ held
 held_here buffers b held is lt = get_or_default buffers b [] held lt ∙ sym is
-
-pub finished : (s : Setting) (buffers : List (List Holding)) (e : Event) (b : ℕ) (now : List Holding) (counts : Bool) → is_in_range s e ≡ true
-    → Some b ≡ buffer_of e → b < length buffers → Changes (changed s (holdings_of buffers b) e) now true → counts ≡ has_counts now e
-    → HasChanged s (holdings_of buffers) e (holdings_of (set buffers b now)) counts
-finished s buffers e b now true ranged at lt (other, fit, alike) counted = (
-  with_holders (holdings_of buffers) b other,
-  after_fit s (holdings_of buffers) e b other true ranged at fit (counts-same other now e alike ∙ sym counted),
-  holdings_set buffers b now other alike lt,
-)
-finished s buffers e b now false ranged at lt (other, fit, alike) counted =
-    after_fit s (holdings_of buffers) e b other false ranged at fit (counts-same other now e alike ∙ sym counted)
 
 -- ---- the event's numbers
 

@@ -51,7 +51,7 @@ not_last e whole small same =
     let read : Some e ≡ None = sym (event_of-line_of e small) ∙ ap event_of same ∙ last_line-no_event whole in
     cc
 
-same_event : (e f : Event) → HasSmallNumbers e → HasSmallNumbers f → line_of e ≡ line_of f → e ≡ f
+pub same_event : (e f : Event) → HasSmallNumbers e → HasSmallNumbers f → line_of e ≡ line_of f → e ≡ f
 same_event e f small_e small_f same =
     let read : Some e ≡ Some f = sym (event_of-line_of e small_e) ∙ ap event_of same ∙ event_of-line_of f small_f in
     cc

@@ -3,7 +3,9 @@ use Rattle.std.proofs.Common.{◌≡◌, ◌∙◌, ℕ, ◌+◌, ◌++◌, List
 use Rattle.std.{proofs.{Common.{append_assoc, append-nil, length-append, suc}, lemmas.Bool.{eqb-false}}, specs.List.{AllByRecursion}}
 use Rattle.run_records.specs.{declared.event.Event.{Event}, Setting.{Setting}, Holders.{Holdings}, LegalRun.{HasSmallNumbers, IsLegalRun}}
 use Rattle.run_records.specs.RunText.{Text, last_line, line_of, lines_of, run_line, text_of_lines}
-use Rattle.run_check.specs.{declared.checking.Checked.TheVariants.{Yes, No}, Judged.{AreOfRun, BeginARun, IsRunText, Judges}, Coming.{IsOneLine}}
+use Rattle.run_check.specs.{declared.checking.Checked.TheVariants.{Yes, No}, Judged.{AreOfRun, BeginARun, IsRunText, IsWhy, Judges}, Coming.{IsOneLine}}
+use Rattle.run_check.specs.declared.unfit.Unfit.{Unfit}
+use Rattle.run_check.specs.declared.unfit.Unfit.TheVariants as unfit
 use Rattle.run_check.proofs.{Going.{IsLegalSoFar, MayFollow, followed, goes_on, not_last, nothing_follows}, LineText.{last_line-one, line_of-one}, Parting.{Lacks}}
 use Rattle.run_check.proofs.SettingText.{run_line-one}
 
@@ -115,8 +117,8 @@ lines_length (e ∷ events) = ap suc (lines_length events)
 pub bad_line : (s : Setting) (events : List Event) (h : Holdings) (bytes rest : List ℕ) → IsLegalSoFar s events h
     → bytes ≡ text_of_lines (run_line s ∷ map line_of events) ++ rest
     → ((line : Text) (behind : List ℕ) → rest ≡ line ++ 10 ∷ behind → IsOneLine line → MayFollow s events h line → ⊥)
-    → Judges bytes (No (length events + 2))
-bad_line s events h bytes rest far parted bad =
+    → (why : Unfit) → IsWhy (run_line s ∷ map line_of events) rest why → Judges bytes (No (length events + 2) why)
+bad_line s events h bytes rest far parted bad why is_why =
     let ends : (line : Text) (behind : List ℕ) → rest ≡ line ++ 10 ∷ behind → IsOneLine line
     → BeginARun ((run_line s ∷ map line_of events) ++ line ∷ []) → ⊥ =
     λ line behind same one begun. bad line behind same one (followed s events h line far begun) in (
@@ -127,6 +129,7 @@ bad_line s events h bytes rest far parted bad =
         counted = omega (arith, lines_length events);
         begun = goes_on s events h far;
         ends = ends;
+        cause = is_why;
       },
       no_run (run_line s ∷ map line_of events) rest bytes (before_one s events h far) parted ends
           (λ nothing run.
@@ -162,7 +165,7 @@ whole_run s events whole bytes legal parted = record {
 -- something follows the last line
 pub more_behind : (s : Setting) (events : List Event) (h : Holdings) (whole : Bool) (bytes rest : List ℕ) → IsLegalSoFar s events h
     → IsLegalRun s events whole → bytes ≡ text_of_lines (run_line s ∷ map line_of events) ++ (last_line whole ++ 10 ∷ rest) → (rest ≡ [] → ⊥)
-    → Judges bytes (No (length events + 3))
+    → Judges bytes (No (length events + 3) unfit.Behind)
 more_behind s events h whole bytes rest far legal parted some =
     let run : AreOfRun (lines_of s events whole) = record { setting = s; events = events; whole = whole; legal = legal; told = refl } in
     let ends : (line : Text) (behind : List ℕ) → rest ≡ line ++ 10 ∷ behind → IsOneLine line → BeginARun (lines_of s events whole ++ line ∷ []) → ⊥ =
@@ -174,6 +177,7 @@ more_behind s events h whole bytes rest far legal parted some =
         counted = omega (arith, lines_count s events whole);
         begun = ([], subst AreOfRun (sym (append-nil (lines_of s events whole))) run);
         ends = ends;
+        cause = (run, some);
       },
       no_run (lines_of s events whole) rest bytes (run_one (lines_of s events whole) run) (whole_text s events whole bytes rest parted) ends
           (λ nothing other. some nothing),

@@ -11,9 +11,11 @@ pub mod LineText
 pub mod SettingText
 pub mod Going
 pub mod Judging
+mod Lacking
 pub mod Short
 pub mod Ending
 pub mod Telling
 pub mod Weighing
 pub mod Viewing
 pub mod Changing
+pub mod Fronting

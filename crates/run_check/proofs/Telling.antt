@@ -1,14 +1,15 @@
 -- The same where the source may tell its bytes or not.
-use Rattle.std.proofs.Common.{◌≡◌, ◌∙◌, ℕ, ◌+◌, ◌++◌, ◌≤◌, List, [], ◌∷◌, length, Bool, true, false, sym, ap, subst, arith, ◌⊎◌, ⊎_elim, inl, inr, Option, Some, None, Result, Ok, Err, IsTrue, IfSome, IfOk, rules}
+use Rattle.std.proofs.Common.{◌≡◌, ◌∙◌, ℕ, ◌+◌, ◌++◌, ◌≤◌, List, [], ◌∷◌, length, Bool, true, false, refl, sym, ap, subst, arith, ◌⊎◌, ⊎_elim, inl, inr, Option, Some, None, Result, Ok, Err, IsTrue, IfSome, IfOk, rules}
 use Rattle.std.{specs.{Str.{bytes_eq}, Prelude.{codes}, Io.KnownBytes.{Consumes}}, proofs.{lemmas.Slice.Eq.{bytes_eq-Decides}, Common.{append_assoc, append-nil}}}
 use Rattle.std.proofs.lemmas.List.{nil_from_length}
 use Rattle.run_records.specs.{declared.event.Event.{Event}, Setting.{most_events, IsSetting, Setting}, Holders.{Holdings, after, no_holdings}}
 use Rattle.run_records.specs.RunText.{Text, last_line, run_line}
 use Rattle.run_check.specs.{declared.checking.Checked.{Checked, TheVariants.{Yes, No}}, Coming.{HasNoLine, IsOneLine, ahead}}
-use Rattle.run_check.{specs.Holding.{EndsRecord, LineChanges, SameHoldings, weight}, proofs.Alike.{after_none, after_some}}
+use Rattle.run_check.{specs.{Holding.{EndsRecord, LineChanges, SameHoldings, weight}, Unfit.{IsUnfit}, declared.unfit.Unfit.{Unfit}}, proofs.Alike.{after_some}}
+use Rattle.run_check.specs.declared.unfit.Unfit.TheVariants as unfit
 use Rattle.run_check.{proofs.{Weighing.{length-same, same-sym, same-trans}, Judging.{same_line}}, specs.{Judged.{Judges}, Reading.{IsSettingOf, event_of, setting_of}}}
 use Rattle.run_check.proofs.{SettingText.{run_line-setting_of, setting_of-run_line}, Short.{run_line-short}}
-use Rattle.run_check.proofs.Ending.{HasCome, behind_first, bad_event, bad_first, come_first, come_more, early_end, no_line, told_more, told_whole}
+use Rattle.run_check.proofs.{Ending.{HasCome, behind_first, bad_first, come_first, come_more, no_line, told_more, told_whole, unfit_line}, Lacking.{none_alike, unfit_alike}}
 
 -- so many events were read of what came behind the first line
 abbrev pub ComesTo : Setting → Option (List ℕ) → Option (List ℕ) → Holdings → ℕ → Type 0
@@ -27,32 +28,19 @@ pub comes_first : (s : Setting) (start : Option (List ℕ)) (kept : Holdings) �
 comes_first s None kept sound none = (no_holdings, tt, λ b f. ap (weight f) (sym (none b)))
 comes_first s (Some start) kept sound none = (no_holdings, come_first s start sound, λ b f. ap (weight f) (sym (none b)))
 
--- none here is none there
-none_alike : (one other : Holdings) → SameHoldings one other → ((b : ℕ) → one b ≡ []) → (b : ℕ) → other b ≡ []
-none_alike one other same none b = nil_from_length (other b) (sym (length-same (one b) (other b) (same b)) ∙ ap length (none b))
-
 answers_no_line_at : (s : Setting) (start now : Option (List ℕ)) (h : Holdings) (count : ℕ) → ComesTo s start now h count → IfSome now HasNoLine
-    → AnswersFor s start (No (count + 2))
+    → AnswersFor s start (No (count + 2) unfit.NoLine)
 answers_no_line_at s None now h count come none = tt
 answers_no_line_at s (Some start) None h count come none = absurd come
 answers_no_line_at s (Some start) (Some rest) h count come none = no_line s start rest h count come none
 
-answers_early_at : (s : Setting) (start now later : Option (List ℕ)) (h : Holdings) (count : ℕ) (line : Text) → ComesTo s start now h count
-    → Consumes now later (line ++ 10 ∷ []) → IsOneLine line → line ≡ codes "end" → (((b : ℕ) → h b ≡ []) → ⊥) → AnswersFor s start (No (count + 2))
-answers_early_at s None now later h count line come took one end some = tt
-answers_early_at s (Some start) None later h count line come took one end some = absurd come
-answers_early_at s (Some start) (Some rest) None h count line come took one end some = absurd took
-answers_early_at s (Some start) (Some rest) (Some later) h count line come took one end some =
-    early_end s start rest later h count come (took ∙ ap (λ l. (l ++ 10 ∷ []) ++ later) end) (subst IsOneLine end one) some
-
-answers_bad_at : (s : Setting) (start now later : Option (List ℕ)) (h : Holdings) (count : ℕ) (line : Text) → ComesTo s start now h count
-    → Consumes now later (line ++ 10 ∷ []) → IsOneLine line → (line ≡ codes "end" → ⊥) → (line ≡ codes "more" → ⊥)
-    → ((e : Event) → event_of line ≡ Some e → after s h e ≡ None) ⊎ (most_events ≤ count) → AnswersFor s start (No (count + 2))
-answers_bad_at s None now later h count line come took one no_end no_more why = tt
-answers_bad_at s (Some start) None later h count line come took one no_end no_more why = absurd come
-answers_bad_at s (Some start) (Some rest) None h count line come took one no_end no_more why = absurd took
-answers_bad_at s (Some start) (Some rest) (Some later) h count line come took one no_end no_more why =
-    bad_event s start rest later h count line come took one no_end no_more why
+answers_unfit_at : (s : Setting) (start now later : Option (List ℕ)) (h : Holdings) (count : ℕ) (line : Text) (why : Unfit)
+    → ComesTo s start now h count → Consumes now later (line ++ 10 ∷ []) → IsOneLine line → IsUnfit s count h line why
+    → AnswersFor s start (No (count + 2) why)
+answers_unfit_at s None now later h count line why come took one is = tt
+answers_unfit_at s (Some start) None later h count line why come took one is = absurd come
+answers_unfit_at s (Some start) (Some rest) None h count line why come took one is = absurd took
+answers_unfit_at s (Some start) (Some rest) (Some later) h count line why come took one is = unfit_line s start rest later h count line why come took one is
 
 answers_last : (s : Setting) (start now later : Option (List ℕ)) (h : Holdings) (count : ℕ) (line : Text) (whole : Bool) (answer : Checked)
     → ComesTo s start now h count → Consumes now later (line ++ 10 ∷ []) → line ≡ last_line whole → (IsTrue whole → (b : ℕ) → h b ≡ [])
@@ -63,31 +51,26 @@ answers_last s (Some start) (Some rest) None h count line whole answer come took
 answers_last s (Some start) (Some rest) (Some later) h count line whole (Yes lines) come took last none ends =
     subst (λ n. Judges (behind_first s start) (Yes n)) (sym ends.0)
     (told_whole s start rest h count whole come none (took ∙ ap (λ l. (l ++ 10 ∷ []) ++ later) last ∙ ap (λ r. (last_line whole ++ 10 ∷ []) ++ r) ends.1))
-answers_last s (Some start) (Some rest) (Some later) h count line whole (No bad) come took last none ends =
-    subst (λ n. Judges (behind_first s start) (No n)) (sym (ends.0 ∙ three))
-    (told_more s start rest later h count whole come none (took ∙ ap (λ l. (l ++ 10 ∷ []) ++ later) last) ends.1)
+answers_last s (Some start) (Some rest) (Some later) h count line whole (No bad why) come took last none ends =
+    subst (λ w. Judges (behind_first s start) (No bad w)) (sym ends.1)
+    (subst (λ n. Judges (behind_first s start) (No n unfit.Behind)) (sym (ends.0 ∙ three))
+    (told_more s start rest later h count whole come none (took ∙ ap (λ l. (l ++ 10 ∷ []) ++ later) last) ends.2))
   where
     three : count + 2 + 1 ≡ count + 3
     three = omega arith
 
 pub answers_no_line : (s : Setting) (start now : Option (List ℕ)) (kept : Holdings) (count : ℕ) → ComesWith s start now kept count → IfSome now HasNoLine
-    → AnswersFor s start (No (count + 2))
+    → AnswersFor s start (No (count + 2) unfit.NoLine)
 answers_no_line s start now kept count (h, come, same) none = answers_no_line_at s start now h count come none
 
-pub answers_early : (s : Setting) (start now later : Option (List ℕ)) (kept : Holdings) (count : ℕ) (line : Text) → ComesWith s start now kept count
-    → Consumes now later (line ++ 10 ∷ []) → IsOneLine line → line ≡ codes "end" → (((b : ℕ) → kept b ≡ []) → ⊥) → AnswersFor s start (No (count + 2))
-answers_early s start now later kept count line (h, come, same) took one end some =
-    answers_early_at s start now later h count line come took one end (λ none. some (none_alike h kept same none))
-
-pub answers_bad : (s : Setting) (start now later : Option (List ℕ)) (kept : Holdings) (count : ℕ) (line : Text) → ComesWith s start now kept count
-    → Consumes now later (line ++ 10 ∷ []) → IsOneLine line → (line ≡ codes "end" → ⊥) → (line ≡ codes "more" → ⊥)
-    → ((e : Event) → event_of line ≡ Some e → after s kept e ≡ None) ⊎ (most_events ≤ count) → AnswersFor s start (No (count + 2))
-answers_bad s start now later kept count line (h, come, same) took one no_end no_more why =
-    answers_bad_at s start now later h count line come took one no_end no_more
-    (⊎_elim (λ unfit. inl (λ e read. after_none s h kept e same (unfit e read))) (λ full. inr full) why)
+pub answers_unfit : (s : Setting) (start now later : Option (List ℕ)) (kept : Holdings) (count : ℕ) (line : Text) (why : Unfit)
+    → ComesWith s start now kept count → Consumes now later (line ++ 10 ∷ []) → IsOneLine line → IsUnfit s count kept line why
+    → AnswersFor s start (No (count + 2) why)
+answers_unfit s start now later kept count line why (h, come, same) took one is =
+    answers_unfit_at s start now later h count line why come took one (unfit_alike s count h kept line why same is)
 
 pub comes_more : (s : Setting) (start now later : Option (List ℕ)) (kept new : Holdings) (count : ℕ) (line : Text) → ComesWith s start now kept count
-    → Consumes now later (line ++ 10 ∷ []) → count + 1 ≤ most_events → LineChanges s kept line new true → ComesWith s start later new (count + 1)
+    → Consumes now later (line ++ 10 ∷ []) → count + 1 ≤ most_events → LineChanges s kept line new None → ComesWith s start later new (count + 1)
 comes_more s start now later kept new count line (h, come, same) took room (e, read, (held, follows, alike)) =
     let found = after_some s h kept held e same follows in (
       found.0,
@@ -128,22 +111,27 @@ not_text name other differ same = search (rules, bytes_eq-Decides)
 -- ---- the first line
 
 pub no_first_line : (waiting : List ℕ) (left : Option (List ℕ)) → waiting ≡ [] → IfSome (ahead waiting left) HasNoLine
-    → IfSome left (λ bytes. Judges bytes (No 1))
+    → IfSome left (λ bytes. Judges bytes (No 1 unfit.NoLine))
 no_first_line waiting None fresh none = tt
 no_first_line waiting (Some bytes) fresh none =
     let here : HasNoLine bytes = subst (λ w. HasNoLine (w ++ bytes)) fresh none in
     bad_first bytes (λ line behind same one s sound first.
     let long = here line behind same one in absurd (omega (arith, long, run_line-short s sound, ap length first)))
+    unfit.NoLine here
 
 pub no_first_setting : (waiting : List ℕ) (left later : Option (List ℕ)) (line : Text) → waiting ≡ []
-    → Consumes (ahead waiting left) later (line ++ 10 ∷ []) → IsOneLine line → IsSettingOf line None → IfSome left (λ bytes. Judges bytes (No 1))
+    → Consumes (ahead waiting left) later (line ++ 10 ∷ []) → IsOneLine line → IsSettingOf line None
+    → IfSome left (λ bytes. Judges bytes (No 1 unfit.NoSetting))
 no_first_setting waiting None later line fresh took one none = tt
 no_first_setting waiting (Some bytes) None line fresh took one none = absurd took
 no_first_setting waiting (Some bytes) (Some rest) line fresh took one none =
     let here : bytes ≡ (line ++ 10 ∷ []) ++ rest = subst (λ w. w ++ bytes ≡ (line ++ 10 ∷ []) ++ rest) fresh took in
+    let next : bytes ≡ line ++ 10 ∷ rest = here ∙ append_assoc line (10 ∷ []) rest in
+    let unsaid : (s : Setting) → IsSetting s → line ≡ run_line s → ⊥ = λ s sound first. none s (ap setting_of first ∙ setting_of-run_line s sound) sound in
     bad_first bytes (λ other behind same other_one s sound first.
-    let lines = same_line other line behind rest other_one one (sym same ∙ here ∙ append_assoc line (10 ∷ []) rest) in
-    none s (ap setting_of (sym lines.0 ∙ first) ∙ setting_of-run_line s sound) sound)
+    let lines = same_line other line behind rest other_one one (sym same ∙ next) in
+    unsaid s sound (sym lines.0 ∙ first))
+    unfit.NoSetting (refl, record { line = line; behind = rest; next = next; one = one; none = unsaid })
 
 pub first_behind : (E : Type 0) (waiting : List ℕ) (left later : Option (List ℕ)) (line : Text) (s : Setting) (result : Result Checked E) → waiting ≡ []
     → Consumes (ahead waiting left) later (line ++ 10 ∷ []) → setting_of line ≡ Some s → AnswersIfOk s later result

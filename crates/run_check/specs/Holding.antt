@@ -5,7 +5,8 @@ use Rattle.run_records.specs.{declared.{event.Event.{Event}, holding.Holding.{Ho
 use Rattle.run_records.specs.Holders.{Holdings, after, is_apart, is_same}
 use Rattle.run_records.specs.declared.event.Event.TheVariants as event
 use Rattle.run_records.specs.declared.holding.Holding.TheVariants as holding
-use Rattle.run_check.specs.{Reading.{event_of}, declared.checking.Checked.{Checked, TheVariants.{Yes, No}}}
+use Rattle.run_check.specs.{Reading.{event_of}, Unfit.{IsLack, IsUnfitEvent}, declared.{checking.Checked.{Checked, TheVariants.{Yes, No}}, unfit.{Lack.{Lack}, Unfit.{Unfit}}}}
+use Rattle.run_check.specs.declared.unfit.Unfit.TheVariants as unfit
 pub use Rattle.run_records.specs.Holders.{weight}
 
 -- the holders of each buffer, of which a number past the last has none
@@ -24,9 +25,9 @@ abbrev pub Changes : Option (List Holding) → List Holding → Bool → Type 0
 Changes becoming now true = (then : List Holding) × (becoming ≡ Some then) × SameHolders then now
 Changes becoming now false = becoming ≡ None
 
-abbrev pub HasChanged : Setting → Holdings → Event → Holdings → Bool → Type 0
-HasChanged setting old e new true = (then : Holdings) × (after setting old e ≡ Some then) × SameHoldings then new
-HasChanged setting old e new false = after setting old e ≡ None
+abbrev pub HasChanged : Setting → Holdings → Event → Holdings → Option Lack → Type 0
+HasChanged setting old e new None = (then : Holdings) × (after setting old e ≡ Some then) × SameHoldings then new
+HasChanged setting old e new (Some lack) = IsLack setting old e lack
 
 abbrev pub can_place : List Holding → ℕ → ℕ → Bool
 can_place held offset len = list_any (is_same holding.Own) held && nat_lt 0 len && (offset % 64 == 0) && list_all (is_apart offset len) held
@@ -40,12 +41,12 @@ HasSmallApp (event.Own a b l p u) = a < 8
 HasSmallApp (event.Scrub a b p u) = a < 8
 HasSmallApp other = Unit {0}
 
--- `true`: the line says an event that changes the holders; `false`: it says none that may come
-abbrev pub LineChanges : Setting → Holdings → Text → Holdings → Bool → Type 0
-LineChanges setting old line new true = (e : Event) × (event_of line ≡ Some e) × HasChanged setting old e new true
-LineChanges setting old line new false = (e : Event) → event_of line ≡ Some e → after setting old e ≡ None
+-- `None`: the line says an event that changes the holders; `Some`: why it says none that may come
+abbrev pub LineChanges : Setting → Holdings → Text → Holdings → Option Unfit → Type 0
+LineChanges setting old line new None = (e : Event) × (event_of line ≡ Some e) × HasChanged setting old e new None
+LineChanges setting old line new (Some why) = IsUnfitEvent setting old line why
 
 -- what is said behind a last line: whether nothing is left
 abbrev pub EndsRecord : Option (List ℕ) → ℕ → Checked → Type 0
 EndsRecord old line (Yes lines) = (lines ≡ line) × IsAtEnd old
-EndsRecord old line (No bad) = (bad ≡ line + 1) × IfSome old (λ bytes. bytes ≡ [] → ⊥)
+EndsRecord old line (No bad why) = (bad ≡ line + 1) × (why ≡ unfit.Behind) × IfSome old (λ bytes. bytes ≡ [] → ⊥)

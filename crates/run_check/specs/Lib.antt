@@ -4,3 +4,5 @@ pub mod Reading
 pub mod Coming
 pub mod Holding
 pub mod Places
+pub mod Unfit
+pub mod Fronts

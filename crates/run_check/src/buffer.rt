@@ -1,7 +1,7 @@
 //! The holders of one buffer.
-ghost use Rattle.std.specs.{Prelude.{◌≡◌, ◌==◌, ◌&&◌, ◌<◌, ◌+◌, ◌-◌, ◌^◌, IfOk, [], ◌∷◌, ◌++◌, length, nat_lt, Some, not, filter}, List.{list_any}};
+ghost use Rattle.std.specs.{Prelude.{◌≡◌, ◌==◌, ◌&&◌, ◌<◌, ◌+◌, ◌-◌, ◌^◌, IfOk, [], ◌∷◌, ◌++◌, length, nat_lt, Some, not, filter, count_by}, List.{list_any}};
 ghost use Rattle.run_records.specs.declared.holding.Holding.TheVariants as holding;
-ghost use Rattle.run_records.specs.Holders.{becomes, is_pool_count, is_same, is_user_count, only_if};
+ghost use Rattle.run_records.specs.Holders.{becomes, is_pool_count, is_same, is_user, is_user_count, only_if};
 ghost use Rattle.run_check.specs.{Holding.{Changes, can_place}, Places.{IsNoLoan, held_by}, Buffer.{kept_by}};
 
 use crate::places::{Hand, OwnedPlace, are_apart, is_there};
@@ -72,6 +72,21 @@ impl Buffer {
         ensures { result ≡ (length self.now == 0) }
     {
         self.count == 0
+    }
+
+    /// How many holders it has.
+    pub(crate) fn pool_count(&self) -> u32
+        ensures { result ≡ length self.now }
+    {
+        self.count
+    }
+
+    /// How many loans of the application it has.
+    pub(crate) fn user_count(&self, app: u32) -> u32
+        requires { app < 8 }
+        ensures { result ≡ count_by (is_user app) self.now }
+    {
+        self.users[app as usize]
     }
 
     pub(crate) fn is_pool_count(&self, pool: u32) -> bool

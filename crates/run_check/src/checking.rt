@@ -6,6 +6,7 @@ ghost use Rattle.run_check.specs.{Coming.{ahead}, Holding.{EndsRecord, LineChang
 use crate::holders::Holders;
 use crate::lines::Lines;
 use crate::setting::RunSetting;
+use crate::unfit::Unfit;
 use crate::words::{event_of, is_word};
 use std::alloc::Global;
 use zr_io::Source;
@@ -19,8 +20,8 @@ const MOST_EVENTS: u32 = 1_000_000;
 pub enum Checked {
     /// It is the record of a legal run, and has this many lines.
     Yes { lines: u32 },
-    /// No legal run with the lines before it has the line with this number, from 1; or this line is missing.
-    No { line: u32 },
+    /// No legal run with the lines before it has the line with this number, from 1; or this line is missing. `why` says why not.
+    No { line: u32, why: Unfit },
 }
 
 /// Reads a record to its end, or to the first line that isn't as in a legal run: what is read behind that line isn't said.
@@ -34,11 +35,17 @@ pub fn check<S: Source>(alloc: Global, source: &mut S) -> Result<Checked, Fault>
         return Err(Fault::Memory);
     };
     if !lines.read(source)? {
-        return Ok(Checked::No { line: 1 });
+        return Ok(Checked::No {
+            line: 1,
+            why: Unfit::NoLine,
+        });
     }
     match RunSetting::of(alloc, lines.line()) {
         Err(_) => Err(Fault::Memory),
-        Ok(None) => Ok(Checked::No { line: 1 }),
+        Ok(None) => Ok(Checked::No {
+            line: 1,
+            why: Unfit::NoSetting,
+        }),
         Ok(Some(setting)) => check_events(alloc, &setting, &mut lines, source),
     }
 }
@@ -61,11 +68,13 @@ fn check_events<S: Source>(
     for events in 0..=MOST_EVENTS {
         let line = events + 2;
         if !lines.read(source)? {
-            return Ok(Checked::No { line });
+            let why = Unfit::NoLine;
+            return Ok(Checked::No { line, why });
         }
         if is_word(lines.line(), "end") {
             if !holders.are_none() {
-                return Ok(Checked::No { line });
+                let why = Unfit::Held;
+                return Ok(Checked::No { line, why });
             }
             return check_end(line, lines, source);
         }
@@ -73,24 +82,26 @@ fn check_events<S: Source>(
             return check_end(line, lines, source);
         }
         if events == MOST_EVENTS {
-            return Ok(Checked::No { line });
+            let why = Unfit::TooMany;
+            return Ok(Checked::No { line, why });
         }
-        if !change(alloc, setting, &mut holders, lines.line())? {
-            return Ok(Checked::No { line });
+        if let Some(why) = change(alloc, setting, &mut holders, lines.line())? {
+            return Ok(Checked::No { line, why });
         }
     }
     Ok(Checked::No {
         line: MOST_EVENTS + 2,
+        why: Unfit::TooMany,
     })
 }
 
-/// Changes the holders as the line says, and answers whether it is an event that may come here.
+/// Changes the holders as the line says, or answers why its event can't come here.
 fn change(
     alloc: Global,
     setting: &RunSetting,
     holders: &mut Holders,
     line: &[u8],
-) -> Result<bool, Fault>
+) -> Result<Option<Unfit>, Fault>
     requires total { length holders.old.buffers.items ≡ total_buffers setting.now }
     requires few { (buffer : ℕ) → length (holdings_of holders.old.buffers.items buffer) + 1 < 2 ^ 32 }
     ensures changes { IfOk result (LineChanges setting.now (holdings_of holders.old.buffers.items) line.now (holdings_of holders.new.buffers.items)) }
@@ -99,8 +110,12 @@ fn change(
 {
     match event_of(alloc, line) {
         Err(_) => Err(Fault::Memory),
-        Ok(None) => Ok(false),
-        Ok(Some(event)) => holders.change(setting, event).map_err(|_| Fault::Memory),
+        Ok(None) => Ok(Some(Unfit::NoEvent)),
+        Ok(Some(event)) => match holders.change(setting, event) {
+            Err(_) => Err(Fault::Memory),
+            Ok(None) => Ok(None),
+            Ok(Some(lack)) => Ok(Some(Unfit::Event { event, lack })),
+        },
     }
 }
 
@@ -114,6 +129,9 @@ fn check_end<S: Source>(line: u32, lines: &mut Lines, source: &mut S) -> Result<
     if lines.is_over(source)? {
         Ok(Checked::Yes { lines: line })
     } else {
-        Ok(Checked::No { line: line + 1 })
+        Ok(Checked::No {
+            line: line + 1,
+            why: Unfit::Behind,
+        })
     }
 }

@@ -1,11 +1,13 @@
 //! The holders of a run's buffers.
 ghost use Rattle.std.specs.Prelude.{◌≡◌, ◌<◌, ◌+◌, ◌^◌, ℕ, [], IfOk, length, IsTrue, ◌↔◌};
 ghost use Rattle.run_records.specs.{Setting.{IsSetting, total_buffers}, Holders.{buffer_of, changed, has_counts, is_in_range}};
-ghost use Rattle.run_check.specs.Holding.{Changes, HasChanged, HasSmallApp, holdings_of};
+ghost use Rattle.run_check.specs.{Holding.{Changes, HasChanged, HasSmallApp, holdings_of}, Unfit.{user_count}};
+ghost use Rattle.run_check.specs.declared.unfit.Lack.TheVariants as lack;
 
 use crate::buffer::Buffer;
 use crate::places::Hand;
 use crate::setting::RunSetting;
+use crate::unfit::Lack;
 use run_records::Event;
 use std::alloc::{AllocError, Global};
 
@@ -35,25 +37,32 @@ impl Holders {
         self.buffers.iter().all(|buffer| buffer.is_empty())
     }
 
-    /// Changes the holders as the event does. `false`: its numbers are out of range, the holders aren't what it needs, or
-    /// its counts aren't those behind it; then the holders are any.
-    pub(crate) fn change(&mut self, setting: &RunSetting, event: Event) -> Result<bool, AllocError>
+    /// Changes the holders as the event does. `Some`: this it lacks, and the holders are any.
+    pub(crate) fn change(
+        &mut self,
+        setting: &RunSetting,
+        event: Event,
+    ) -> Result<Option<Lack>, AllocError>
         requires total { length self.old.buffers.items ≡ total_buffers setting.now }
         requires few { (buffer : ℕ) → length (holdings_of self.old.buffers.items buffer) + 1 < 2 ^ 32 }
         ensures changes { IfOk result (HasChanged setting.now (holdings_of self.old.buffers.items) event (holdings_of self.new.buffers.items)) }
         ensures count { IfOk result (λ _. length self.new.buffers.items ≡ total_buffers setting.now) }
     {
         if !is_in_range(setting, event) {
-            return Ok(false);
+            return Ok(Some(Lack::Range));
         }
         let Some(buffer) = buffer_of(event) else {
-            return Ok(true);
+            return Ok(None);
         };
         let held = &mut self.buffers[buffer as usize];
         if !change(setting, held, event)? {
-            return Ok(false);
+            return Ok(Some(Lack::Holders));
         }
-        Ok(has_counts(held, event))
+        if has_counts(held, event) {
+            Ok(None)
+        } else {
+            Ok(Some(counts_of(held, event)))
+        }
     }
 }
 
@@ -170,5 +179,39 @@ fn has_counts(held: &Buffer, event: Event) -> bool
         } => held.are_counts(app, pool, user),
         Event::Back { app, user, .. } => held.is_user_count(app, user),
         Event::Sent { .. } | Event::Held { .. } | Event::Stray { .. } => true,
+    }
+}
+
+/// The user count of the event's application, where the event says one.
+fn user_count(held: &Buffer, event: Event) -> u32
+    requires { HasSmallApp event }
+    ensures { result ≡ user_count held.now event }
+{
+    match event {
+        Event::Lend { app, .. }
+        | Event::Back { app, .. }
+        | Event::Honour { app, .. }
+        | Event::Own { app, .. }
+        | Event::Scrub { app, .. } => held.user_count(app),
+        Event::Take { .. }
+        | Event::Place { .. }
+        | Event::Sent { .. }
+        | Event::Held { .. }
+        | Event::Cut { .. }
+        | Event::Stray { .. }
+        | Event::Free { .. }
+        | Event::Spare { .. }
+        | Event::Shut { .. } => 0,
+    }
+}
+
+/// The counts that the event should have said.
+fn counts_of(held: &Buffer, event: Event) -> Lack
+    requires { HasSmallApp event }
+    ensures { result ≡ lack.Counts (length held.now) (user_count held.now event) }
+{
+    Lack::Counts {
+        pool: held.pool_count(),
+        user: user_count(held, event),
     }
 }

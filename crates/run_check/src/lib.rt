@@ -5,10 +5,14 @@
 mod buffer;
 mod bytes;
 mod checking;
+mod fronts;
 mod holders;
 mod lines;
 mod places;
 mod setting;
+mod unfit;
 mod words;
 
 pub use checking::{Checked, check};
+pub use fronts::fronts_have_counts;
+pub use unfit::{Lack, Unfit};

@@ -121,7 +121,7 @@ pub fn free_buffers(card: Card) -> Option<Vec<u32>>
     requires { IsClosed card }
 {
     match card {
-        Card::Blank => None,
+        Card::Blank | Card::Found(_) => None,
         card => Some(card.free().free),
     }
 }

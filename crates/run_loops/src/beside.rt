@@ -11,7 +11,7 @@ use std::sync::atomic::{AtomicBool, AtomicU64, Ordering};
 pub const IDLE: u32 = 100_000;
 
 /// How many looks in a row a loop waits for others to begin: half a second at least.
-const BEGINNING: u32 = 10_000;
+const BEGINNING: u32 = 200;
 
 /// How many applications a board has at most.
 pub const MOST_APPS: usize = 8;
@@ -21,6 +21,15 @@ const CARD_PATIENCE: u32 = 100;
 
 /// Behind so many an application does, and then finds some notes at once.
 const LANE_PATIENCE: u32 = 10;
+
+/// Behind so many the reading does, whose ring is full.
+const READING_PATIENCE: u32 = 10;
+
+/// How long a short nap of the card and of an application is, in microseconds.
+const NAP: u64 = 50;
+
+/// How long one of the reading is: the card takes longer to take what the ring holds.
+const READING_NAP: u64 = 20;
 
 /// The loops of a run.
 #[derive(Drop)]
@@ -43,6 +52,8 @@ pub struct Loops {
     card_loop: Sleeper,
     /// Those of the applications, by their numbers.
     lanes: [Sleeper; MOST_APPS],
+    /// That of the reading.
+    reading_loop: Sleeper,
 }
 
 impl Loops {
@@ -56,18 +67,40 @@ impl Loops {
             halted: AtomicBool::new(false),
             asked: AtomicU64::new(0),
             answers: array::from_fn(|_| AtomicU64::new(0)),
-            card_loop: Sleeper::new(CARD_PATIENCE),
-            lanes: array::from_fn(|_| Sleeper::new(LANE_PATIENCE)),
+            card_loop: Sleeper::new(CARD_PATIENCE, NAP),
+            lanes: array::from_fn(|_| Sleeper::new(LANE_PATIENCE, NAP)),
+            reading_loop: Sleeper::new(READING_PATIENCE, READING_NAP),
         }
     }
 
-    /// A rest of the card, behind so many idle turns.
+    /// A rest of the card, behind so many idle turns. Before it naps it wakes those that sleep for long: it may have something for
+    /// them.
     pub fn rest_card<R: Wait>(&self, rt: &R, idle: u32, backoff: &Backoff) {
+        if idle == CARD_PATIENCE {
+            for lane in &self.lanes {
+                lane.stir();
+            }
+            self.reading_loop.stir();
+        }
         self.card_loop.rest(rt, idle, backoff);
     }
 
-    /// A rest of an application that may nap, behind so many idle looks or turns.
+    /// A rest of the reading, whose ring is full, behind so many looks. Where the card takes turns it naps soon, and leaves the
+    /// processor to others.
+    pub fn rest_reading<R: Wait>(&self, rt: &R, idle: u32, backoff: &Backoff) {
+        if self.card_runs() {
+            self.reading_loop.rest(rt, idle, backoff);
+        } else {
+            backoff.snooze();
+        }
+    }
+
+    /// A rest of an application that may nap, behind so many idle looks or turns. Before it does it wakes the card, if that sleeps
+    /// for long.
     fn nap_lane<R: Wait>(&self, rt: &R, app: u32, idle: u32, backoff: &Backoff) {
+        if idle == LANE_PATIENCE {
+            self.stir_card();
+        }
         match self.lanes.get(app as usize) {
             Some(lane) => lane.rest(rt, idle, backoff),
             None => backoff.snooze(),
@@ -86,6 +119,11 @@ impl Loops {
     /// There may be something for the card to do.
     pub fn wake_card(&self) {
         self.card_loop.wake();
+    }
+
+    /// There may be something for the card to do. Where its naps are short it will see that soon.
+    pub fn stir_card(&self) {
+        self.card_loop.stir();
     }
 
     /// There may be something for an application to do.
@@ -146,6 +184,7 @@ impl Loops {
     /// The card wants no more of the capture.
     pub fn stop_reading(&self) {
         self.enough.store(true, Ordering::SeqCst);
+        self.reading_loop.wake();
     }
 
     /// Whether no more of the capture is wanted.

@@ -8,4 +8,3 @@ mod sleeping;
 
 pub use beside::{IDLE, Loops, MOST_APPS};
 pub use gate::{Gate, NoGate};
-pub use sleeping::rest_reading;

@@ -15,10 +15,10 @@ pub const ACK: u8 = 16;
 pub const PSH_ACK: u8 = 24;
 
 /// The first port of the flows.
-pub const SPORT: u16 = 40000;
+const SPORT: u16 = 40000;
 
 /// The port that most are sent to.
-pub const PORT: u16 = 9000;
+const PORT: u16 = 9000;
 
 /// Ethernet, IPv4 and TCP without options, from 10.0.0.1 to 10.0.0.2. The total length, the ports, the sequence
 /// number and the flags are 0.
@@ -42,7 +42,7 @@ pub const FILE_HEADER: [u8; 24] = [
 ];
 
 /// A segment to make a frame of.
-#[derive(Clone, Copy, Debug)]
+#[derive(Clone, Copy)]
 pub struct Sent<'a> {
     pub sport: u16,
     pub dport: u16,

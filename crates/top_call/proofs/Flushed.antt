@@ -3,7 +3,7 @@ use Rattle.std.proofs.Common.{◌≡◌, ◌≢◌, ℕ, ◌+◌, ◌<◌, ◌�
 use Rattle.std.{specs.{List.{slice_get}, Io.KnownBytes.{Keeps}}, proofs.KnownBytes.{Keeps-refl, Keeps-trans}}
 use Rattle.std.proofs.lemmas.{Bool.{cases_eq, or_cases}, Grind.{drop_more_same}, List.{drop-set-lt, length-set, set-get_or}, Option.{get_or_from_slice_get}}
 use Rattle.zr_kinds.specs.declared.outcome.AppLine.{AppLine}
-use Rattle.zr_io.specs.Moved.{Rose}
+use Rattle.zr_io.specs.Moved.{Rose, ShelfCounts}
 use Rattle.card_feed.specs.Account.{kept_in}
 use Rattle.run_account.{specs.Running.{losses_in}, proofs.AppLines.{one-value}}
 use Rattle.run_account.proofs.Places.{get-set_same, get-set_other, get-within, kept-here, kept-there, losses-here, losses-there}
@@ -24,7 +24,7 @@ went-well : (losses losses_now : ℕ) (line line_now : AppLine) (failed : Bool) 
 went-well losses losses_now line line_now true flushed is = absurd (cc)
 went-well losses losses_now line line_now false flushed is = flushed
 
-pub flushes-none : {T : Type 0} (kept : T → ℕ → Option (List ℕ)) (losses : T → ℕ) (shelves : List T) (lines : List AppLine)
+pub flushes-none : {T : Type 0} (kept : T → ℕ → Option (List ℕ)) (losses : T → ShelfCounts) (shelves : List T) (lines : List AppLine)
     → Flushes kept losses 0 shelves shelves lines lines false
 flushes-none kept losses shelves lines = record {
   keeps = λ app flow. Keeps-refl (kept_in kept shelves app flow);
@@ -37,14 +37,16 @@ flushes-none kept losses shelves lines = record {
   failed_at = λ is. cc;
   still = λ none app. refl;
   as_before = λ none. refl;
+  appended = λ app. refl;
 }
 
-module _ {T : Type 0} (kept : T → ℕ → Option (List ℕ)) (losses : T → ℕ) (app : ℕ) (shelves now : List T) (lines lines_now : List AppLine)
+module _ {T : Type 0} (kept : T → ℕ → Option (List ℕ)) (losses : T → ShelfCounts) (app : ℕ) (shelves now : List T) (lines lines_now : List AppLine)
     (lost failed : Bool) (shelf shelf_now : T) (line line_now : AppLine)
     (so_far : Flushes kept losses app shelves now lines lines_now lost)
     (shelf_at : slice_get now app ≡ Some shelf) (line_at : slice_get lines_now app ≡ Some line)
     (keeps : (flow : ℕ) → Keeps (kept shelf flow) (kept shelf_now flow))
-    (later : losses shelf ≤ losses shelf_now) (flushed : HasFlushed (losses shelf) (losses shelf_now) line line_now failed) where
+    (later : (losses shelf).faults ≤ (losses shelf_now).faults) (took : (losses shelf_now).appended ≡ (losses shelf).appended)
+    (flushed : HasFlushed (losses shelf).faults (losses shelf_now).faults line line_now failed) where
   within : app < length now
   within = get-within now app shelf shelf_at
 
@@ -60,14 +62,14 @@ module _ {T : Type 0} (kept : T → ℕ → Option (List ℕ)) (losses : T → �
   kept-now : kept_in kept (set now app shelf_now) app ≡ kept shelf_now
   kept-now = kept-here kept (set now app shelf_now) app shelf_now (get-set_same now app shelf_now within)
 
-  lost-now : losses_in losses (set now app shelf_now) app ≡ losses shelf_now
-  lost-now = losses-here losses (set now app shelf_now) app shelf_now (get-set_same now app shelf_now within)
+  lost-now : (losses_in losses (set now app shelf_now) app).faults ≡ (losses shelf_now).faults
+  lost-now = ap (λ (c : ShelfCounts). c.faults) (losses-here losses (set now app shelf_now) app shelf_now (get-set_same now app shelf_now within))
 
-  lost-first : losses_in losses shelves app ≡ losses shelf
-  lost-first = losses-here losses shelves app shelf (sym same-shelf ∙ shelf_at)
+  lost-first : (losses_in losses shelves app).faults ≡ (losses shelf).faults
+  lost-first = ap (λ (c : ShelfCounts). c.faults) (losses-here losses shelves app shelf (sym same-shelf ∙ shelf_at))
 
-  lost-other : (a : ℕ) → a ≢ app → losses_in losses (set now app shelf_now) a ≡ losses_in losses now a
-  lost-other a other = losses-there losses now (set now app shelf_now) a (get-set_other now app a shelf_now other)
+  lost-other : (a : ℕ) → a ≢ app → (losses_in losses (set now app shelf_now) a).faults ≡ (losses_in losses now a).faults
+  lost-other a other = ap (λ (c : ShelfCounts). c.faults) (losses-there losses now (set now app shelf_now) a (get-set_other now app a shelf_now other))
 
   keeps-one : (a flow : ℕ) → Keeps (kept_in kept shelves a flow) (kept_in kept (set now app shelf_now) a flow)
   keeps-one a flow = ⊎_elim
@@ -82,7 +84,7 @@ module _ {T : Type 0} (kept : T → ℕ → Option (List ℕ)) (losses : T → �
 
   HasLine : ℕ → AppLine → Type 0
   HasLine a was = (f : Bool) × (l : AppLine) × (slice_get (set lines_now app line_now) a ≡ Some l)
-      × HasFlushed (losses_in losses shelves a) (losses_in losses (set now app shelf_now) a) was l f
+      × HasFlushed (losses_in losses shelves a).faults (losses_in losses (set now app shelf_now) a).faults was l f
 
   line-own : (was : AppLine) → slice_get lines app ≡ Some was → HasLine app was
   unfolding HasLine
@@ -91,9 +93,9 @@ module _ {T : Type 0} (kept : T → ℕ → Option (List ℕ)) (losses : T → �
         failed,
         line_now,
         get-set_same lines_now app line_now within_lines,
-        subst (λ n. HasFlushed n (losses_in losses (set now app shelf_now) app) was line_now failed) (sym lost-first)
-            (subst (λ n. HasFlushed (losses shelf) n was line_now failed) (sym lost-now)
-            (subst (λ l. HasFlushed (losses shelf) (losses shelf_now) l line_now failed) same flushed)),
+        subst (λ n. HasFlushed n (losses_in losses (set now app shelf_now) app).faults was line_now failed) (sym lost-first)
+            (subst (λ n. HasFlushed (losses shelf).faults n was line_now failed) (sym lost-now)
+            (subst (λ l. HasFlushed (losses shelf).faults (losses shelf_now).faults l line_now failed) same flushed)),
       )
 
   line-one : (a : ℕ) (was : AppLine) → a < app + 1 → slice_get lines a ≡ Some was → HasLine a was
@@ -102,42 +104,51 @@ module _ {T : Type 0} (kept : T → ℕ → Option (List ℕ)) (losses : T → �
       (λ (own : a ≡ app). subst (λ b. HasLine b was) (sym own) (line-own was (ap (slice_get lines) (sym own) ∙ at)))
       (λ (other : a ≢ app).
       let (f, l, there, so) = so_far.line a was (omega arith) at in
-      (f, l, get-set_other lines_now app a line_now other ∙ there, subst (λ n. HasFlushed (losses_in losses shelves a) n was l f) (sym (lost-other a other)) so))
+      (f, l, get-set_other lines_now app a line_now other ∙ there, subst (λ n. HasFlushed (losses_in losses shelves a).faults n was l f) (sym (lost-other a other)) so))
       (cases_eq a app)
 
-  later-one : (a : ℕ) → losses_in losses shelves a ≤ losses_in losses (set now app shelf_now) a
+  later-one : (a : ℕ) → (losses_in losses shelves a).faults ≤ (losses_in losses (set now app shelf_now) a).faults
   later-one a = ⊎_elim
-      (λ (own : a ≡ app). subst (λ b. losses_in losses shelves b ≤ losses_in losses (set now app shelf_now) b) (sym own)
+      (λ (own : a ≡ app). subst (λ b. (losses_in losses shelves b).faults ≤ (losses_in losses (set now app shelf_now) b).faults) (sym own)
       (omega (arith, lost-first, lost-now, later)))
       (λ (other : a ≢ app). omega (arith, lost-other a other, so_far.later a)) (cases_eq a app)
+
+  appended-one : (a : ℕ) → (losses_in losses (set now app shelf_now) a).appended ≡ (losses_in losses shelves a).appended
+  appended-one a = ⊎_elim
+      (λ (own : a ≡ app). subst (λ b. (losses_in losses (set now app shelf_now) b).appended ≡ (losses_in losses shelves b).appended) (sym own)
+      (ap (λ (c : ShelfCounts). c.appended) (losses-here losses (set now app shelf_now) app shelf_now (get-set_same now app shelf_now within)) ∙ took
+      ∙ sym (ap (λ (c : ShelfCounts). c.appended) (losses-here losses shelves app shelf (sym same-shelf ∙ shelf_at)))))
+      (λ (other : a ≢ app).
+      ap (λ (c : ShelfCounts). c.appended) (losses-there losses now (set now app shelf_now) a (get-set_other now app a shelf_now other))
+      ∙ so_far.appended a) (cases_eq a app)
 
   lost-one : (lost || failed) ≡ true → HasLost losses shelves (set now app shelf_now) (app + 1)
   lost-one is = ⊎_elim
       (λ before.
       let (a, below, rose) = so_far.failed_at before in
       let other : a ≢ app = omega (arith, below) in
-      (a, omega (arith, below), subst (Rose (losses_in losses shelves a)) (sym (lost-other a other)) rose))
+      (a, omega (arith, below), subst (Rose (losses_in losses shelves a).faults) (sym (lost-other a other)) rose))
       (λ own. (
         app,
         omega arith,
-        subst (λ n. Rose n (losses_in losses (set now app shelf_now) app)) (sym lost-first)
-            (subst (Rose (losses shelf)) (sym lost-now) (rose-at (losses shelf) (losses shelf_now) line line_now failed flushed own)),
+        subst (λ n. Rose n (losses_in losses (set now app shelf_now) app).faults) (sym lost-first)
+            (subst (Rose (losses shelf).faults) (sym lost-now) (rose-at (losses shelf).faults (losses shelf_now).faults line line_now failed flushed own)),
       ))
       (or_cases lost failed is)
 
-  still-one : (lost || failed) ≡ false → (a : ℕ) → losses_in losses (set now app shelf_now) a ≡ losses_in losses shelves a
+  still-one : (lost || failed) ≡ false → (a : ℕ) → (losses_in losses (set now app shelf_now) a).faults ≡ (losses_in losses shelves a).faults
   still-one none a =
       let (before, own) = or-false lost failed none in
       ⊎_elim
-      (λ (same : a ≡ app). subst (λ b. losses_in losses (set now app shelf_now) b ≡ losses_in losses shelves b) (sym same)
-      (lost-now ∙ (went-well (losses shelf) (losses shelf_now) line line_now failed flushed own).0 ∙ sym lost-first))
+      (λ (same : a ≡ app). subst (λ b. (losses_in losses (set now app shelf_now) b).faults ≡ (losses_in losses shelves b).faults) (sym same)
+      (lost-now ∙ (went-well (losses shelf).faults (losses shelf_now).faults line line_now failed flushed own).0 ∙ sym lost-first))
       (λ (other : a ≢ app). lost-other a other ∙ so_far.still before a) (cases_eq a app)
 
   as-before : (lost || failed) ≡ false → set lines_now app line_now ≡ lines
   as-before none =
       let (before, own) = or-false lost failed none in
       let same : line_now ≡ get_or lines_now app line_now =
-      (went-well (losses shelf) (losses shelf_now) line line_now failed flushed own).1 ∙ sym (get_or_from_slice_get lines_now app line line_now line_at) in
+      (went-well (losses shelf).faults (losses shelf_now).faults line line_now failed flushed own).1 ∙ sym (get_or_from_slice_get lines_now app line line_now line_at) in
       ap (set lines_now app) same ∙ set-get_or lines_now app line_now ∙ so_far.as_before before
 
   pub flushes-one : Flushes kept losses (app + 1) shelves (set now app shelf_now) lines (set lines_now app line_now) (lost || failed)
@@ -153,4 +164,5 @@ module _ {T : Type 0} (kept : T → ℕ → Option (List ℕ)) (losses : T → �
     failed_at = lost-one;
     still = still-one;
     as_before = as-before;
+    appended = appended-one;
   }

@@ -4,3 +4,4 @@ pub mod Recording
 pub mod Behind
 pub mod ToldLines
 pub mod Statuses
+pub mod Alone

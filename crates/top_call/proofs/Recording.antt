@@ -5,7 +5,7 @@ use Rattle.std.{specs.{Prelude.{◌==◌, All, sum_by, if◌then◌else◌}, Lis
 use Rattle.std.{proofs.lemmas.List.{length-take-le, take_all, Sums.{count_by-le-length, sum_by-cons}}, specs.Io.KnownBytes.{Appends}}
 use Rattle.run_records.specs.{Setting.{most_events}, declared.{event.Event.{Event}, holding.Holding.{Holding}}, Holders.{all_after, no_holdings}}
 use Rattle.run_records.{specs.LegalRun.{HasSmallNumbers, IsLegalRun}, proofs.Weighing.{weight-length}}
-use Rattle.zr_io.specs.Moved.{Gained}
+use Rattle.zr_io.specs.Moved.{Gained, ShelfCounts}
 use Rattle.zr_kinds.specs.declared.{behaviour.Behaviour.{Behaviour}, outcome.AppLine.{AppLine}}
 use Rattle.area_layout.specs.Layout.{IsLayout, MakeLayout, shape_of_areas}
 use Rattle.run_records.specs.declared.event.Event.TheVariants as event
@@ -221,7 +221,7 @@ of-app : (P : AppSide → Type 0) (apps : List AppSide) (a : ℕ) (app : AppSide
 of-app P apps a app at all = subst P at.is (all a app at.there)
 
 -- the record of a board that is over, where it is asked for
-pub board-records : {S T : Type 0} (left : S → Option (List ℕ)) (faults : S → ℕ) (kept : T → ℕ → Option (List ℕ)) (losses : T → ℕ)
+pub board-records : {S T : Type 0} (left : S → Option (List ℕ)) (faults : S → ℕ) (kept : T → ℕ → Option (List ℕ)) (losses : T → ShelfCounts)
     (source source_now : S) (shelves shelves_now : List T) (plan : Plan) (outcome : Told) (board : Board)
     → IsPlan plan → Ran left faults kept losses source source_now shelves shelves_now plan outcome board.nic board.apps
     → IsSound (stand_of board) → IsRecorded (sides_of board) board.log → board.log.room ≡ room_of plan

@@ -2,12 +2,11 @@
 use Rattle.std.proofs.Common.{◌≡◌, ◌≢◌, nat_eq, ℕ, suc, List, [], ◌∷◌, ◌++◌, take, drop, length, ◌<◌, Bool, true, false, ◌||◌, Option, None, Some}
 use Rattle.std.proofs.{Common.{refl, sym, ap, subst, ◌∙◌, ◌⊎◌, ⊎_elim, inl, inr, arith, get_or, ◌≤◌, option_map}, lemmas.List.Folds.{list_any_at}}
 use Rattle.std.{proofs.lemmas.Option.{get_or_from_slice_get}, specs.{Prelude.{IfSome, OnOk, Result, Ok, Err, ◌==◌, if◌then◌else◌, is_some}, List.{slice_get}}}
-use Rattle.std.proofs.Math.Seq.{take-append_seam}
-use Rattle.std.proofs.lemmas.Bool.{cases_Bool, cases_eq, cases_lt, or_cases, Decides.{nat_tests}}
+use Rattle.std.proofs.{Math.Seq.{take-append_seam}, lemmas.Bool.{cases_Bool, cases_eq, cases_lt, or_cases, Decides.{nat_tests}}}
 use Rattle.zr_kinds.specs.declared.fault.Fault.{Fault, TheVariants.{Memory, Usage, NotPcap, Version, LinkType, Cut, LongRecord, Read, Write, TooManyFlows}}
 use Rattle.zr_kinds.specs.declared.{fault.Fault.TheVariants.{TooManyFrames, BadBlock, BadRun}, behaviour.Stopped.{Stopped}, outcome.AppLine.{AppLine}}
 use Rattle.zr_kinds.specs.declared.behaviour.Stopped.TheVariants as stop
-use Rattle.zr_io.{specs.Moved.{Rose, Took}, proofs.Moved.{Rose-earlier, Took-then, Took-weaker}}
+use Rattle.zr_io.{specs.Moved.{Rose, ShelfCounts, Took}, proofs.Moved.{Rose-earlier, Took-then, Took-weaker}}
 use Rattle.frames_read.{specs.{Ending.{Ending, ended_of, steered_in}, Reading.{ShowsEnding, BreaksOff, TakenEnds, IsEnding, IsReadToEnd}}, proofs.Endings.{some-weaker}}
 use Rattle.board_face.specs.declared.views.{nic.NicSide.{NicSide}, app.AppSide.{AppSide}}
 use Rattle.card_feed.specs.{Need.{buffers_of, need_in}, Offered.{offers_of, WantsRoom}, declared.plan.Plan.{Plan}, Plan.{how_of, plain_behaviour}}
@@ -16,7 +15,7 @@ use Rattle.run_account.{specs.{Running.{losses_in, losses_or}, Ran.{HasReadOn, H
 use Rattle.run_account.proofs.{AppLines.{found-there, one-value}, Places.{get-within}}
 use Rattle.command_words.specs.{Options.{AreInRange}, Words.{ReplayShown}}
 use Rattle.top_call.{specs.{Planned.{IsPlanOf}, Records.{HasRecord, record_in}, declared.card.Card.{Card}}, proofs.{Behind.{ended_of-behind}, Found.{get-same_rest}}}
-use Rattle.top_call.{specs.Flushing.{Flushes, HasLost}, proofs.ToldLines.{record-told, rose-or-same, told-flow, told-others, told-streams}}
+use Rattle.top_call.{specs.Flushing.{Flushes, HasLost}, proofs.ToldLines.{record-told, rose-or-same, told-appended, told-flow, told-others, told-streams}}
 use Rattle.top_call.specs.Status.{is_memory, is_write, any_stopped, end_number, status_from, status_of}
 use Rattle.top_call.specs.StreamTheorem.{Finishes, IsStatusOf, IsStatus, IsBrokenOff, RanWith, Replays}
 use Rattle.run_report.specs.{Report.{Reports, answer_of}, declared.report.Unreported.{Unreported}}
@@ -219,7 +218,7 @@ module _ (wanting lost : Bool) (end : Option Fault) {answer refusals refusals_no
 
 -- ---- the parts of what a replay leaves
 
-module _ {S T : Type 0} {left : S → Option (List ℕ)} {failed : S → ℕ} {kept : T → ℕ → Option (List ℕ)} {losses : T → ℕ}
+module _ {S T : Type 0} {left : S → Option (List ℕ)} {failed : S → ℕ} {kept : T → ℕ → Option (List ℕ)} {losses : T → ShelfCounts}
     {source at source_now : S} {shelves shelves_run shelves_now : List T} {plan : Plan} {outcome : Told} {lines : List AppLine} {flush_failed : Bool}
     {nic : NicSide} {apps : List AppSide} {answer refusals refusals_now : ℕ}
     (replayed : Ran left failed kept losses source at shelves shelves_run plan outcome nic apps)
@@ -331,18 +330,18 @@ module _ {S T : Type 0} {left : S → Option (List ℕ)} {failed : S → ℕ} {k
       let (line, line_at, is_line) = found-there (slice_get outcome.apps number) _ (replayed.app number port port_is) in
       (line, line_at, (port, is_line))
 
-  later-run : (number : ℕ) → number < length plan.ports.items → losses_in losses shelves number ≤ losses_in losses shelves_run number
+  later-run : (number : ℕ) → number < length plan.ports.items → (losses_in losses shelves number).faults ≤ (losses_in losses shelves_run number).faults
   unfolding IsRunLine
   later-run number own = (run-line number own).2.1.later
 
   -- where a line that is told says `write`, a call of its shelf failed in the run, or its flush
   written-lost : (number : ℕ) (app : AppLine) → number < length plan.ports.items → slice_get lines number ≡ Some app → app.stopped ≡ stop.Write
-      → Rose (losses_in losses shelves number) (losses_in losses shelves_now number)
+      → Rose (losses_in losses shelves number).faults (losses_in losses shelves_now number).faults
   unfolding IsRunLine
   written-lost number app own at write =
-      let before = losses_in losses shelves number in
-      let run = losses_in losses shelves_run number in
-      let now = losses_in losses shelves_now number in
+      let before = (losses_in losses shelves number).faults in
+      let run = (losses_in losses shelves_run number).faults in
+      let now = (losses_in losses shelves_now number).faults in
       let (was, was_at, is_line) = run-line number own in
       let (fails, told, told_at, flushed) = flushes.line number was own was_at in
       let same : told ≡ app = one-value (sym told_at ∙ at) in
@@ -363,7 +362,7 @@ module _ {S T : Type 0} {left : S → Option (List ℕ)} {failed : S → ℕ} {k
       let (app, own, rose) = flushes.failed_at flush in (
         app,
         own,
-        Rose-earlier (losses_in losses shelves app) (losses_in losses shelves_run app) (losses_in losses shelves_now app)
+        Rose-earlier (losses_in losses shelves app).faults (losses_in losses shelves_run app).faults (losses_in losses shelves_now app).faults
             (later-run app own) rose,
       ))
       (or_cases (any_stopped is_write lines) flush_failed some)
@@ -413,7 +412,7 @@ module _ {S T : Type 0} {left : S → Option (List ℕ)} {failed : S → ℕ} {k
   all-flushed : answer ≢ 1 → answer ≢ 9 → flush_failed ≡ false
   all-flushed not_1 not_9 = ⊎_elim (λ failed_one. absurd (⊎_elim not_1 not_9 (unflushed-of failed_one))) (λ none. none) (cases_Bool flush_failed)
 
-  kept_well : answer ≢ 1 → answer ≢ 9 → (app : ℕ) → losses_in losses shelves_now app ≡ losses_in losses shelves app
+  kept_well : answer ≢ 1 → answer ≢ 9 → (app : ℕ) → (losses_in losses shelves_now app).faults ≡ (losses_in losses shelves app).faults
   kept_well not_1 not_9 app =
       let none = all-flushed not_1 not_9 in
       flushes.still none app ∙ ⊎_elim
@@ -421,7 +420,7 @@ module _ {S T : Type 0} {left : S → Option (List ℕ)} {failed : S → ℕ} {k
       let (port, port_is) = there plan.ports.items app within in
       let (line, line_is, was) = found-there (slice_get outcome.apps app) _ (replayed.app app port port_is) in
       was.still (λ write. ⊎_elim not_1 not_9 (failing-of app line (ap (λ ls. slice_get ls app) (flushes.as_before none) ∙ line_is) write)))
-      (λ (past : length plan.ports.items ≤ app). ap (λ s. losses_or (option_map losses s))
+      (λ (past : length plan.ports.items ≤ app). ap (λ s. (losses_or (option_map losses s)).faults)
       (get-same_rest (length plan.ports.items) shelves shelves_run app replayed.beyond past))
       (cases_lt app (length plan.ports.items))
 
@@ -491,7 +490,7 @@ told_well refusals refusals_now said answer (Err unreported.Memory) still is not
 told_well refusals refusals_now said answer (Err unreported.Write) still is not_1 not_9 =
     ⊎_elim (λ one. absurd (not_1 one)) (λ nine. absurd (not_9 nine.0)) (chosen said answer is)
 
-module _ {S T O : Type 0} {left : S → Option (List ℕ)} {failed : S → ℕ} {kept : T → ℕ → Option (List ℕ)} {losses : T → ℕ}
+module _ {S T O : Type 0} {left : S → Option (List ℕ)} {failed : S → ℕ} {kept : T → ℕ → Option (List ℕ)} {losses : T → ShelfCounts}
     (sent : O → Option (List ℕ)) (refusals : O → ℕ) {source source_now : S} {shelves shelves_run shelves_now : List T} (out out_now : O)
     {plan : Plan} {outcome : Told} {answer : ℕ} where
   replays-so : (told : ReplayShown) (card_now : Card) → AreInRange told.options → IsPlanOf told plan
@@ -522,6 +521,7 @@ module _ {S T O : Type 0} {left : S → Option (List ℕ)} {failed : S → ℕ} 
         flushes = rw (← same) flushes;
         told_is = refl;
         flow = rw (← same) (told-flow ran flushes);
+        appended = told-appended ran flushes;
         others = rw (← same) (told-others ran flushes);
         reported = tells.reported;
         report = tells.report;
@@ -545,6 +545,7 @@ module _ {S T O : Type 0} {left : S → Option (List ℕ)} {failed : S → ℕ} 
         sound_reads = read_well ran ahead flushes is;
         sound_shelves = kept_well ran ahead flushes is;
         sound_sink = told_well (refusals out) (refusals out_now) (status_of outcome_now finishes.lost) answer tells.reported tells.still tells.answered;
+        sound_report = tells.still;
       }
 
   pub replays : (told : ReplayShown) (card_now : Card) → AreInRange told.options → IsPlanOf told plan

@@ -3,13 +3,13 @@ use Rattle.std.proofs.Common.{◌≡◌, ◌≢◌, ℕ, ◌<◌, Bool, true, fa
 use Rattle.std.{specs.{Prelude.{option_map}, List.{slice_get}, Io.KnownBytes.{Keeps}}, proofs.KnownBytes.{Keeps-trans}}
 use Rattle.zr_kinds.specs.declared.{behaviour.Stopped.{Stopped}, outcome.AppLine.{AppLine}}
 use Rattle.zr_kinds.specs.declared.behaviour.Stopped.TheVariants as stop
-use Rattle.zr_io.{specs.Moved.{Gained, Rose}, proofs.Moved.{Gained-weaker}}
+use Rattle.zr_io.{specs.Moved.{Gained, Rose, ShelfCounts, raised_by}, proofs.Moved.{Gained-weaker}}
 use Rattle.run_records.specs.declared.event.Event.{Event}
 use Rattle.flow_table.specs.{Flows.{Flow, flows_of}, Stream.{stream_of}}
 use Rattle.frames_read.specs.Ending.{steered_in}
 use Rattle.board_face.specs.declared.views.{nic.NicSide.{NicSide}, app.AppSide.{AppSide}}
 use Rattle.card_feed.{specs.{Account.{kept_in}, declared.plan.Plan.{Plan}}, proofs.OfFlow.{there}}
-use Rattle.run_account.specs.Ran.{HaveWholeStreams, IsLineOf, IsStreamed, Ran, There, Told}
+use Rattle.run_account.specs.{Ran.{HaveWholeStreams, IsLineOf, IsStreamed, Ran, There, Told}, Running.{losses_in}}
 use Rattle.run_account.proofs.{AppLines.{found-there, is-there, one-value}, Places.{get-within}}
 use Rattle.top_call.specs.{Flushing.{Flushes, HasFlushed, stopped_or_lost}, declared.card.Card.{Card}}
 use Rattle.top_call.specs.Records.{HasRecord, IsReportOf, IsLineOf as IsRecordedLine}
@@ -31,6 +31,10 @@ module _ (losses losses_now : ℕ) (line told : AppLine) where
   told-no : (failed : Bool) → HasFlushed losses losses_now line told failed → told.stopped ≡ stop.No → line.stopped ≡ stop.No
   told-no false flushed is = ap (λ (l : AppLine). l.stopped) (sym flushed.1) ∙ is
   told-no true flushed is = absurd (not-no line.stopped (ap (λ (l : AppLine). l.stopped) (sym flushed.1) ∙ is))
+
+  told-written : (failed : Bool) → HasFlushed losses losses_now line told failed → told.written ≡ line.written
+  told-written false flushed = ap (λ (l : AppLine). l.written) flushed.1
+  told-written true flushed = ap (λ (l : AppLine). l.written) flushed.1
 
   told-other : (failed : Bool) → HasFlushed losses losses_now line told failed → told.stopped ≢ stop.Write → line.stopped ≢ stop.Write
   told-other false flushed other = λ write. other (ap (λ (l : AppLine). l.stopped) flushed.1 ∙ write)
@@ -58,7 +62,7 @@ module _ (losses losses_now : ℕ) (line told : AppLine) where
 
 -- ---- the record
 
-module _ {T : Type 0} {kept : T → ℕ → Option (List ℕ)} {losses : T → ℕ} {many : ℕ} {shelves shelves_now : List T} (outcome : Told)
+module _ {T : Type 0} {kept : T → ℕ → Option (List ℕ)} {losses : T → ShelfCounts} {many : ℕ} {shelves shelves_now : List T} (outcome : Told)
     {lines : List AppLine} {lost : Bool} (flushes : Flushes kept losses many shelves shelves_now outcome.apps lines lost)
     (many_is : length outcome.apps ≡ many) where
   report-told : (count : ℕ → ℕ) (events : List Event) → IsReportOf count outcome events → IsReportOf count (record outcome { apps = lines }) events
@@ -73,6 +77,7 @@ module _ {T : Type 0} {kept : T → ℕ → Option (List ℕ)} {losses : T → �
 
   pub record-told : (plan : Plan) (card : Card) → HasRecord plan outcome card → HasRecord plan (record outcome { apps = lines }) card
   record-told plan Card.Blank recorded = tt
+  record-told plan (Card.Found found) recorded = tt
   record-told plan (Card.Plain board) recorded = λ asked.
       let tells = recorded asked in
       record {
@@ -98,7 +103,7 @@ Gained-kept (Some xs) None c P gained keeps = absurd gained
 Gained-kept (Some xs) (Some ys) None P gained keeps = absurd keeps
 Gained-kept (Some xs) (Some ys) (Some zs) P (bytes, is, holds) keeps = (bytes, keeps ∙ is, holds)
 
-module _ {S T : Type 0} {left : S → Option (List ℕ)} {failed : S → ℕ} {kept : T → ℕ → Option (List ℕ)} {losses : T → ℕ}
+module _ {S T : Type 0} {left : S → Option (List ℕ)} {failed : S → ℕ} {kept : T → ℕ → Option (List ℕ)} {losses : T → ShelfCounts}
     {source at : S} {shelves shelves_run shelves_now : List T} {plan : Plan} {outcome : Told} {lines : List AppLine} {flush_failed : Bool}
     {nic : NicSide} {apps : List AppSide} (replayed : Ran left failed kept losses source at shelves shelves_run plan outcome nic apps)
     (flushes : Flushes kept losses (length plan.ports.items) shelves_run shelves_now outcome.apps lines flush_failed) where
@@ -124,6 +129,17 @@ module _ {S T : Type 0} {left : S → Option (List ℕ)} {failed : S → ℕ} {k
       → Keeps (kept_in kept shelves app number) (kept_in kept shelves_now app number)
   told-others app number other = Keeps-trans (kept_in kept shelves app number) (kept_in kept shelves_run app number) (kept_in kept shelves_now app number)
       (replayed.others app number other) (flushes.keeps app number)
+
+  pub told-appended : (app : ℕ) (line : AppLine) → slice_get lines app ≡ Some line
+      → (losses_in losses shelves_now app).appended ≡ raised_by (losses_in losses shelves app).appended line.written
+  told-appended app line at =
+      let own : app < length plan.ports.items = omega (arith, get-within lines app line at, flushes.many_lines, replayed.many_apps) in
+      let (port, port_at) = there plan.ports.items app own in
+      let (was, was_at, is_line) = found-there (slice_get outcome.apps app) _ (replayed.app app port port_at) in
+      let (fails, told, told_at, flushed) = flushes.line app was own was_at in
+      let written : line.written ≡ was.written =
+      ap (λ (l : AppLine). l.written) (one-value (sym at ∙ told_at)) ∙ told-written _ _ was told fails flushed in
+      flushes.appended app ∙ is_line.appended ∙ ap (raised_by (losses_in losses shelves app).appended) (sym written)
 
   -- whole streams stay so where no line changed
   pub told-streams : (quit : Option ℕ) → lines ≡ outcome.apps

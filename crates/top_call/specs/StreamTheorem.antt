@@ -2,20 +2,19 @@
 use Rattle.std.specs.Prelude.{◌≡◌, ◌≢◌, ℕ, ◌≤◌, List, [], ◌∷◌, ◌++◌, length, ◌==◌, Bool, true, Option, Some, None, Result, IfSome, OnOk, ◌⊎◌, ⊤, option_map}
 use Rattle.std.specs.{List.{list_any, slice_get}, Io.KnownBytes.{Keeps}}
 use Rattle.zr_kinds.specs.declared.{fault.Fault.{Fault, TheVariants.{Cut}}, outcome.AppLine.{AppLine}}
-use Rattle.zr_io.specs.Moved.{Gained, Rose, Took}
+use Rattle.zr_io.specs.Moved.{Gained, Rose, ShelfCounts, Took, raised_by}
 use Rattle.flow_table.specs.{Flows.{Flow, flows_of}, Stream.{stream_of}}
 use Rattle.board_face.specs.declared.views.{nic.NicSide.{NicSide}, app.AppSide.{AppSide}}
 use Rattle.command_words.specs.{Words.{ReplayShown, Shown, replay, make, check}, declared.options.Options.{Options}}
 use Rattle.frames_read.specs.{Ending.{ended_of, steered_in}, Reading.{IsReadToEnd}}
 use Rattle.zr_kinds.specs.declared.behaviour.Stopped.TheVariants as stop
-use Rattle.card_feed.specs.{declared.plan.Plan.{Plan}, Account.{kept_in}, Need.{buffers_of, need_in}, Offered.{offers_of}}
-use Rattle.run_account.specs.Running.{losses_in}
-use Rattle.run_account.specs.Ran.{HasReadOn, HaveWholeStreams, IsLineOf, IsStreamed, LacksMemory, LacksMemoryBeside, Ran, There, Told}
+use Rattle.card_feed.specs.{declared.plan.Plan.{Plan}, Account.{kept_in}, Counts.{sweeping_in, sweeps_in}, Need.{buffers_of, need_in}, Offered.{offers_of}}
+use Rattle.card_feed.specs.Plan.{TakesTurns}
+use Rattle.run_account.specs.{Running.{losses_in}, Ran.{HasReadOn, HaveWholeStreams, IsLineOf, IsStreamed, LacksMemory, LacksMemoryBeside, Ran, There, Told}}
 use Rattle.replay_turns.specs.Following.{RunsBy}
 use Rattle.run_report.specs.{Report.{report_of, Reports, answer_of}, declared.report.Unreported.{Unreported}}
-use Rattle.top_call.specs.{Cards.{HasOver, HasSides, IsClosed, IsOfWay}, Flushing.{Flushes, HasLost}, Planned.{IsPlanOf}, Records.{HasRecord, record_in}}
-use Rattle.top_call.specs.Status.{end_number, status_of}
-use Rattle.top_call.specs.{Making.{Makes}, Checking.{Checks}, declared.card.Card.{Card}}
+use Rattle.top_call.specs.{Cards.{HasOver, HasSides, IsClosed, IsOfWay, IsUncounted}, Flushing.{Flushes, HasLost}, Planned.{IsPlanOf}, Records.{HasRecord, record_in}}
+use Rattle.top_call.specs.{Status.{end_number, status_of}, Making.{Makes}, Checking.{Checks}, declared.card.Card.{Card}}
 
 -- Want of memory, a failed read and a lost shelf show in no byte. Any other status is that of what ended the reading.
 abbrev pub IsStatusOf : ℕ → Option Fault → Type 0
@@ -34,17 +33,20 @@ abbrev pub text_of : Told → Bool → List ℕ
 text_of outcome lost =
     report_of outcome.tally outcome.apps outcome.flows outcome.refused outcome.pool (status_of outcome lost)
 
--- With a text of turns the run's turns are those of the text, one a letter, and then whole rounds.
-abbrev pub IsPlayed : {S T : Type 0} → (S → Option (List ℕ)) → (S → ℕ) → (T → ℕ → Option (List ℕ)) → (T → ℕ) → S → S
+-- With a text of turns the run's turns are those of the text, one a letter, and then whole rounds. Without one it is over the board for one
+-- thread only where applications take turns of their own. By what turns the roles came to what is told, `ran` says of each.
+abbrev pub IsPlayed : {S T : Type 0} → (S → Option (List ℕ)) → (S → ℕ) → (T → ℕ → Option (List ℕ)) → (T → ShelfCounts) → S → S
     → List T → List T → Plan → Told → Option (List ℕ) → Card → Type 0
 IsPlayed left failed kept losses source source_now shelves shelves_now plan outcome (Some turns) (Card.Plain board) =
     RunsBy left failed kept losses source source_now shelves shelves_now plan turns outcome board
 IsPlayed left failed kept losses source source_now shelves shelves_now plan outcome (Some turns) card = ⊥
-IsPlayed left failed kept losses source source_now shelves shelves_now plan outcome None card = ⊤
+IsPlayed left failed kept losses source source_now shelves shelves_now plan outcome None (Card.Plain board) = TakesTurns plan
+IsPlayed left failed kept losses source source_now shelves shelves_now plan outcome None (Card.Words board desk) = ⊤
+IsPlayed left failed kept losses source source_now shelves shelves_now plan outcome None card = ⊥
 
--- What a run leaves, by turns or by threads: the streams, what its outcome says, and in the card the board of the run, which accounts for
--- it and may be finished. By threads the capture may be read beside the card.
-pub record RanWith {S T : Type 0} (left : S → Option (List ℕ)) (failed : S → ℕ) (kept : T → ℕ → Option (List ℕ)) (losses : T → ℕ)
+-- What a run leaves, with a text of turns or without one: the streams, what its outcome says, and in the card the board of the run, which
+-- accounts for it, has no count any more and may be finished. Without one the capture may be read beside the card.
+pub record RanWith {S T : Type 0} (left : S → Option (List ℕ)) (failed : S → ℕ) (kept : T → ℕ → Option (List ℕ)) (losses : T → ShelfCounts)
     (source source_now : S) (shelves shelves_now : List T) (card_now : Card) (turns : Option (List ℕ)) (plan : Plan) (outcome : Told) : Type 0 where
   -- the source as the ending of the reading left it; by turns it stands there still
   pub at : S
@@ -53,14 +55,17 @@ pub record RanWith {S T : Type 0} (left : S → Option (List ℕ)) (failed : S �
   pub nic : NicSide
   pub apps : List AppSide
   pub ran : Ran left failed kept losses source at shelves shelves_now plan outcome nic apps
+  -- by turns each sweep of the free list was made by a search that is counted as one that swept it
+  pub sweeps : turns ≢ None → sweeping_in outcome.pool ≡ sweeps_in nic.view
   pub sides : HasSides card_now nic apps
   pub over : HasOver card_now
+  pub uncounted : IsUncounted card_now
   pub way : IsOfWay turns card_now
   pub played : IsPlayed left failed kept losses source source_now shelves shelves_now plan outcome turns card_now
 
 -- What a replay leaves of its source, its shelves and its sink, which board is in the card, and what its answer says. `ran.at` is the
 -- source as the ending of the reading left it.
-pub record Replays {S T O : Type 0} (left : S → Option (List ℕ)) (failed : S → ℕ) (kept : T → ℕ → Option (List ℕ)) (losses : T → ℕ)
+pub record Replays {S T O : Type 0} (left : S → Option (List ℕ)) (failed : S → ℕ) (kept : T → ℕ → Option (List ℕ)) (losses : T → ShelfCounts)
     (sent : O → Option (List ℕ)) (refusals : O → ℕ)
     (source source_now : S) (shelves shelves_now : List T) (out out_now : O) (card_now : Card) (told : ReplayShown) (answer : ℕ) : Type 0 where
   pub plan : Plan
@@ -84,6 +89,9 @@ pub record Replays {S T O : Type 0} (left : S → Option (List ℕ)) (failed : S
   pub others : (app number : ℕ)
       → option_map (λ (flow : Flow). flow.app) (slice_get (flows_of (steered_in told.ports ran.ran.before)) number) ≢ Some app
       → Keeps (kept_in kept shelves app number) (kept_in kept shelves_now app number)
+  -- What the lines say was written is what the appends took that went well, and nothing else.
+  pub appended : (app : ℕ) (line : AppLine) → slice_get outcome.apps app ≡ Some line
+      → (losses_in losses shelves_now app).appended ≡ raised_by (losses_in losses shelves app).appended line.written
   -- The report, with the status of that outcome, went out whole, and the record behind it where one is asked for; or not, and then the
   -- answer says so.
   pub reported : Result (Unit {0}) Unreported
@@ -128,8 +136,10 @@ pub record Replays {S T O : Type 0} (left : S → Option (List ℕ)) (failed : S
   -- No read failed before the ending where the answer is none of 1, 8 and 9, and no call of a shelf or of the sink where it is neither
   -- 1 nor 9.
   pub sound_reads : answer ≢ 1 → answer ≢ 8 → answer ≢ 9 → failed ran.at ≡ failed source
-  pub sound_shelves : answer ≢ 1 → answer ≢ 9 → (app : ℕ) → losses_in losses shelves_now app ≡ losses_in losses shelves app
+  pub sound_shelves : answer ≢ 1 → answer ≢ 9 → (app : ℕ) → (losses_in losses shelves_now app).faults ≡ (losses_in losses shelves app).faults
   pub sound_sink : answer ≢ 1 → answer ≢ 9 → refusals out_now ≡ refusals out
+  -- Nor one of the sink where the report went out whole, whatever the answer.
+  pub sound_report : OnOk reported (refusals out_now ≡ refusals out)
 
 -- There was no memory before anything was read or written.
 pub record IsUntouched {S T O : Type 0} (source source_now : S) (shelves shelves_now : List T) (out out_now : O) : Type 0 where
@@ -138,7 +148,7 @@ pub record IsUntouched {S T O : Type 0} (source source_now : S) (shelves shelves
   pub out_is : out_now ≡ out
 
 -- There was no memory for a run by these turns, or for one by threads.
-abbrev pub LacksMemoryBy : {S T : Type 0} → (S → Option (List ℕ)) → (S → ℕ) → (T → ℕ → Option (List ℕ)) → (T → ℕ) → S → S
+abbrev pub LacksMemoryBy : {S T : Type 0} → (S → Option (List ℕ)) → (S → ℕ) → (T → ℕ → Option (List ℕ)) → (T → ShelfCounts) → S → S
     → List T → List T → Option (List ℕ) → Plan → Type 0
 LacksMemoryBy left failed kept losses source source_now shelves shelves_now (Some turns) plan =
     LacksMemory left failed kept losses source source_now shelves shelves_now plan
@@ -146,7 +156,7 @@ LacksMemoryBy left failed kept losses source source_now shelves shelves_now None
     LacksMemoryBeside left failed kept losses source source_now shelves shelves_now plan
 
 -- There was no memory: before the first turn, and nothing was touched; or for the outcome behind the last turn. No shelf was flushed.
-pub record Lacks {S T O : Type 0} (left : S → Option (List ℕ)) (failed : S → ℕ) (kept : T → ℕ → Option (List ℕ)) (losses : T → ℕ)
+pub record Lacks {S T O : Type 0} (left : S → Option (List ℕ)) (failed : S → ℕ) (kept : T → ℕ → Option (List ℕ)) (losses : T → ShelfCounts)
     (source source_now : S) (shelves shelves_now : List T) (out out_now : O) (card_now : Card) (told : ReplayShown) (answer : ℕ) : Type 0 where
   pub answer_is : answer ≡ 1
   pub card_is : card_now ≡ Card.Blank
@@ -160,7 +170,7 @@ abbrev pub asked_by : List ℕ → List (ℕ × ℕ) → Options → Option (Lis
 asked_by ports areas options turns = record { ports = ports; areas = areas; options = options; turns = turns }
 
 -- what a replay leaves, with memory or without
-abbrev pub RepliesTo : {S T O : Type 0} → (S → Option (List ℕ)) → (S → ℕ) → (T → ℕ → Option (List ℕ)) → (T → ℕ)
+abbrev pub RepliesTo : {S T O : Type 0} → (S → Option (List ℕ)) → (S → ℕ) → (T → ℕ → Option (List ℕ)) → (T → ShelfCounts)
     → (O → Option (List ℕ)) → (O → ℕ)
     → S → S → List T → List T → O → O → Card → ReplayShown → ℕ → Type 0
 RepliesTo left failed kept losses sent refusals source source_now shelves shelves_now out out_now card_now told answer =
@@ -168,7 +178,7 @@ RepliesTo left failed kept losses sent refusals source source_now shelves shelve
     ⊎ Lacks left failed kept losses source source_now shelves shelves_now out out_now card_now told answer
 
 -- what a command leaves
-abbrev pub Commands : {S T O : Type 0} → (S → Option (List ℕ)) → (S → ℕ) → (T → ℕ → Option (List ℕ)) → (T → ℕ)
+abbrev pub Commands : {S T O : Type 0} → (S → Option (List ℕ)) → (S → ℕ) → (T → ℕ → Option (List ℕ)) → (T → ShelfCounts)
     → (O → Option (List ℕ)) → (O → ℕ)
     → S → S → List T → List T → O → O → Card → ℕ → Shown → Type 0
 Commands left failed kept losses sent refusals source source_now shelves shelves_now out out_now card_now answer (replay told) =
@@ -178,10 +188,10 @@ Commands left failed kept losses sent refusals source source_now shelves shelves
 Commands left failed kept losses sent refusals source source_now shelves shelves_now out out_now card_now answer (make told) =
     Makes sent refusals source source_now shelves shelves_now out out_now told.seed told.frames answer × (card_now ≡ Card.Blank)
 Commands left failed kept losses sent refusals source source_now shelves shelves_now out out_now card_now answer check =
-    Checks left failed sent refusals source source_now out out_now answer × (shelves_now ≡ shelves) × (card_now ≡ Card.Blank)
+    Checks left failed sent refusals source source_now out out_now card_now answer × (shelves_now ≡ shelves)
 
 -- What words leave, whatever they ask for.
-pub record Answers {S T O : Type 0} (left : S → Option (List ℕ)) (failed : S → ℕ) (kept : T → ℕ → Option (List ℕ)) (losses : T → ℕ)
+pub record Answers {S T O : Type 0} (left : S → Option (List ℕ)) (failed : S → ℕ) (kept : T → ℕ → Option (List ℕ)) (losses : T → ShelfCounts)
     (sent : O → Option (List ℕ)) (refusals : O → ℕ)
     (source source_now : S) (shelves shelves_now : List T) (out out_now : O) (card_now : Card) (reading : Option Shown) (answer : ℕ) : Type 0 where
   -- Words without a reading are answered by 2, or by 1 where there was no memory to read them; and no other words by 2.
@@ -209,7 +219,7 @@ pub record Tells (sent now : Option (List ℕ)) (refusals refusals_now : ℕ) (o
   pub answered : answer ≡ answer_of (status_of outcome lost) reported
 
 -- The shelves of an outcome's applications are flushed, and then it is told.
-pub record Finishes {T : Type 0} (kept : T → ℕ → Option (List ℕ)) (losses : T → ℕ) (shelves shelves_now : List T)
+pub record Finishes {T : Type 0} (kept : T → ℕ → Option (List ℕ)) (losses : T → ShelfCounts) (shelves shelves_now : List T)
     (sent now : Option (List ℕ)) (refusals refusals_now : ℕ) (outcome : Told) (record_text : List ℕ) (answer : ℕ) : Type 0 where
   pub lines : List AppLine
   pub lost : Bool

@@ -1,14 +1,17 @@
-//! The board of a run, as it stands behind the run.
+//! What a command leaves beside its answer: the board of a run, or what a check found.
 
 use plain_board::PlainBoard;
+use run_check::Checked;
 use word_board::{Desk, WordBoard};
 use zr_kinds::Ended;
 
-/// The board of a run, once it is over.
+/// What a command left: the board of a run, once it is over, or what a check found.
 #[derive(Drop)]
 pub enum Card {
-    /// There was no run.
+    /// Nothing.
     Blank,
+    /// What a check found.
+    Found(Checked),
     /// The board for one thread.
     Plain(PlainBoard),
     /// The board on words, and its desk with all that its roles did.
@@ -24,7 +27,7 @@ impl Card {
         ensures { HasFreed self result.free.items }
     {
         match self {
-            Card::Blank => unreachable!(),
+            Card::Blank | Card::Found(_) => unreachable!(),
             Card::Plain(board) => board.finish(),
             Card::Words(board, desk) => board.finish(desk),
         }

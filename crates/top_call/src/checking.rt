@@ -1,7 +1,8 @@
 //! The command `check`.
 ghost use Rattle.std.specs.Prelude.{◌≡◌, Some};
-ghost use Rattle.top_call.specs.Checking.{Checks, check_line, check_status};
+ghost use Rattle.top_call.specs.{Cards.{IsClosed}, Checking.{Checks, check_line, check_status}};
 
+use crate::card::Card;
 use run_check::{Checked, check};
 use std::alloc::Global;
 use std::fmt;
@@ -18,7 +19,7 @@ impl fmt::Display for CheckLine {
     fn fmt<W: fmt::Write>(&self, f: &mut fmt::Formatter<W>) -> fmt::Result {
         match self.0 {
             Checked::Yes { lines } => writeln!(f, "checked {lines}"),
-            Checked::No { line } => writeln!(f, "bad {line}"),
+            Checked::No { line, .. } => writeln!(f, "bad {line}"),
         }
     }
 }
@@ -32,9 +33,16 @@ fn check_status(found: Checked) -> u8
     }
 }
 
-/// Reads the record of a run, and writes whether it is that of a legal one: the answer.
-pub(crate) fn check_record<S: Source, O: Sink>(alloc: Global, source: &mut S, out: &mut O) -> u8
-    ensures { Checks S.left S.faults O.sent O.faults source.old source.new out.old out.new result }
+/// Reads the record of a run, and writes whether it is that of a legal one: the answer. What was found and written is left in the card.
+pub(crate) fn check_record<S: Source, O: Sink>(
+    alloc: Global,
+    source: &mut S,
+    out: &mut O,
+    card: &mut Card,
+) -> u8
+    requires { card.old ≡ Card.Blank }
+    ensures checks { Checks S.left S.faults O.sent O.faults source.old source.new out.old out.new card.new result }
+    ensures closed { IsClosed card.new }
 {
     let found = match check(alloc, source) {
         Ok(found) => found,
@@ -45,7 +53,10 @@ pub(crate) fn check_record<S: Source, O: Sink>(alloc: Global, source: &mut S, ou
         return Fault::Memory.number();
     };
     match out.write_all(text.as_bytes()) {
-        Ok(()) => check_status(found),
+        Ok(()) => {
+            *card = Card::Found(found);
+            check_status(found)
+        }
         Err(Failed) => Fault::Write.number(),
     }
 }

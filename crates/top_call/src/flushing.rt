@@ -1,6 +1,6 @@
 //! The flush of the shelves, once all roles have left.
 
-ghost use Rattle.std.specs.{Prelude.{ℕ, ◌≤◌, length}, Io.KnownBytes.{Keeps}};
+ghost use Rattle.std.specs.{Prelude.{◌≡◌, ℕ, ◌≤◌, length}, Io.KnownBytes.{Keeps}};
 ghost use Rattle.top_call.specs.Flushing.{Flushes, HasFlushed};
 
 use zr_io::{Failed, Shelf};
@@ -10,8 +10,9 @@ use zr_kinds::{AppLine, Stopped};
 /// says that it failed.
 fn flush_shelf<T: Shelf>(shelf: &mut T, line: &mut AppLine) -> bool
     ensures keeps { (flow : ℕ) → Keeps (T.kept shelf.old flow) (T.kept shelf.new flow) }
-    ensures later { T.faults shelf.old ≤ T.faults shelf.new }
-    ensures flushed { HasFlushed (T.faults shelf.old) (T.faults shelf.new) line.old line.new result }
+    ensures later { (T.counts shelf.old).faults ≤ (T.counts shelf.new).faults }
+    ensures flushed { HasFlushed (T.counts shelf.old).faults (T.counts shelf.new).faults line.old line.new result }
+    ensures appended { (T.counts shelf.new).appended ≡ (T.counts shelf.old).appended }
 {
     match shelf.flush() {
         Ok(()) => false,
@@ -28,7 +29,7 @@ fn flush_shelf<T: Shelf>(shelf: &mut T, line: &mut AppLine) -> bool
 /// failed at one.
 pub(crate) fn flush_shelves<T: Shelf>(shelves: &mut [T], lines: &mut [AppLine]) -> bool
     requires { length lines.old ≤ length shelves.old }
-    ensures { Flushes T.kept T.faults (length lines.old) shelves.old shelves.new lines.old lines.new result }
+    ensures { Flushes T.kept T.counts (length lines.old) shelves.old shelves.new lines.old lines.new result }
 {
     let mut lost = false;
     for app in 0..lines.len() {

@@ -1,6 +1,6 @@
 //! The top call: a command's words, a source, eight shelves and a sink.
 
-ghost use Rattle.std.specs.{Prelude.{◌≡◌, ℕ, ◌≤◌, ◌<◌, ◌⊎◌, List, Option, None, Some, IfSome, IfOk, IfErr, OnErr, OnOk, Ok, ◌++◌, map, length, take, vec_len}, Io.KnownBytes.{Appends}};
+ghost use Rattle.std.specs.{Prelude.{◌≡◌, ℕ, ◌≤◌, ◌<◌, ◌⊎◌, true, List, Option, None, Some, IfSome, IfOk, IfErr, OnErr, OnOk, Ok, ◌++◌, map, length, take, vec_len}, Io.KnownBytes.{Appends}};
 ghost use Rattle.zr_io.specs.Moved.{AddsPiece, HasCause, Rose};
 ghost use Rattle.area_layout.specs.Layout.{MakeLayout};
 ghost use Rattle.cap_make.specs.GeneratedCapture.{generated_capture};
@@ -18,8 +18,8 @@ use crate::status::status_of;
 use cap_make::make;
 use card_feed::{Outcome, Plan};
 use command_words::{Command, Options, Replay, read_words};
-use replay_threads::{Gate, run_threads};
-use replay_turns::run_turns;
+use replay_threads::{Gate, processors, run_threads};
+use replay_turns::{run_rounds, run_turns};
 use run_report::{Report, Unreported, answer, write_record, write_report};
 use std::alloc::{AllocError, Global};
 use std::collections::hash_map::RandomState;
@@ -99,7 +99,7 @@ fn finish<T: Shelf, O: Sink>(
 ) -> u8
     requires plan { IsPlan plan.now }
     requires shelves { length outcome.apps.items ≤ length shelves.old }
-    ensures { Finishes T.kept T.faults shelves.old shelves.new (O.sent out.old) (O.sent out.new) (O.faults out.old) (O.faults out.new)
+    ensures { Finishes T.kept T.counts shelves.old shelves.new (O.sent out.old) (O.sent out.new) (O.faults out.old) (O.faults out.new)
         (told_of outcome) (record_in plan.now card.now) result }
 {
     let lost = flush_shelves(shelves, &mut outcome.apps);
@@ -152,10 +152,10 @@ fn play_turns<S: Source, T: Shelf>(
     requires shelves { length plan.now.ports.items ≤ vec_len shelves.old }
     requires turns { AreTurns (length plan.now.ports.items) turns.now }
     ensures many { vec_len shelves.new ≡ vec_len shelves.old }
-    ensures ran { IfOk result (λ outcome. RanWith S.left S.faults T.kept T.faults source.old source.new shelves.old.items shelves.new.items card.new
+    ensures ran { IfOk result (λ outcome. RanWith S.left S.faults T.kept T.counts source.old source.new shelves.old.items shelves.new.items card.new
         (Some turns.now) plan.now (told_of outcome)) }
     ensures recorded { IfOk result (λ outcome. HasRecord plan.now (told_of outcome) card.new) }
-    ensures lacks { OnErr result (LacksMemoryBy S.left S.faults T.kept T.faults source.old source.new shelves.old.items shelves.new.items
+    ensures lacks { OnErr result (LacksMemoryBy S.left S.faults T.kept T.counts source.old source.new shelves.old.items shelves.new.items
         (Some turns.now) plan.now × (card.new ≡ card.old)) }
 {
     let (outcome, board) = run_turns(alloc, random, source, shelves, plan, turns)?;
@@ -177,15 +177,76 @@ fn play_beside<S: Source + Send, T: Shelf + Send, G: Gate + Sync, R: Threads + W
     requires plan { IsPlan plan.now }
     requires shelves { length plan.now.ports.items ≤ vec_len shelves.old }
     ensures many { vec_len shelves.new ≡ vec_len shelves.old }
-    ensures ran { IfOk result (λ outcome. RanWith S.left S.faults T.kept T.faults source.old source.new shelves.old.items shelves.new.items card.new
+    ensures ran { IfOk result (λ outcome. RanWith S.left S.faults T.kept T.counts source.old source.new shelves.old.items shelves.new.items card.new
         None plan.now (told_of outcome)) }
     ensures recorded { IfOk result (λ outcome. HasRecord plan.now (told_of outcome) card.new) }
-    ensures lacks { OnErr result (LacksMemoryBy S.left S.faults T.kept T.faults source.old source.new shelves.old.items shelves.new.items
+    ensures lacks { OnErr result (LacksMemoryBy S.left S.faults T.kept T.counts source.old source.new shelves.old.items shelves.new.items
         None plan.now × (card.new ≡ card.old)) }
 {
     let (outcome, board, desk) = run_threads(rt, alloc, random, source, shelves, plan, gate)?;
+    board.uncounted(&desk);
     *card = Card::Words(board, desk);
     Ok(outcome)
+}
+
+/// Runs the plan by rounds, on this thread, over the board for one. The board is left in the card.
+fn play_rounds<S: Source, T: Shelf, G: Gate>(
+    alloc: Global,
+    random: RandomState,
+    source: &mut S,
+    shelves: &mut Vec<T>,
+    plan: &Plan,
+    gate: &G,
+    card: &mut Card,
+) -> Result<Outcome, AllocError>
+    requires plan { IsPlan plan.now }
+    requires turns_only { TakesTurns plan.now }
+    requires shelves { length plan.now.ports.items ≤ vec_len shelves.old }
+    ensures many { vec_len shelves.new ≡ vec_len shelves.old }
+    ensures ran { IfOk result (λ outcome. RanWith S.left S.faults T.kept T.counts source.old source.new shelves.old.items shelves.new.items card.new
+        None plan.now (told_of outcome)) }
+    ensures recorded { IfOk result (λ outcome. HasRecord plan.now (told_of outcome) card.new) }
+    ensures lacks { OnErr result (LacksMemoryBy S.left S.faults T.kept T.counts source.old source.new shelves.old.items shelves.new.items
+        None plan.now × (card.new ≡ card.old)) }
+{
+    let (outcome, plain) = run_rounds(alloc, random, source, shelves, plan, gate)?;
+    *card = Card::Plain(plain);
+    Ok(outcome)
+}
+
+/// Whether the plan's applications take turns of their own.
+fn takes_turns(plan: &Plan) -> bool
+    ensures { result ≡ true → TakesTurns plan.now }
+{
+    !plan.polled && plan.forward.is_none()
+}
+
+/// Runs the plan without a text of turns: by threads, or where there is one processor and its applications take turns of their own, by
+/// rounds. The board is left in the card.
+fn play_freely<S: Source + Send, T: Shelf + Send, G: Gate + Sync, R: Threads + Wait + Sync>(
+    rt: &R,
+    alloc: Global,
+    random: RandomState,
+    source: &mut S,
+    shelves: &mut Vec<T>,
+    plan: &Plan,
+    gate: &G,
+    card: &mut Card,
+) -> Result<Outcome, AllocError>
+    requires plan { IsPlan plan.now }
+    requires shelves { length plan.now.ports.items ≤ vec_len shelves.old }
+    ensures many { vec_len shelves.new ≡ vec_len shelves.old }
+    ensures ran { IfOk result (λ outcome. RanWith S.left S.faults T.kept T.counts source.old source.new shelves.old.items shelves.new.items card.new
+        None plan.now (told_of outcome)) }
+    ensures recorded { IfOk result (λ outcome. HasRecord plan.now (told_of outcome) card.new) }
+    ensures lacks { OnErr result (LacksMemoryBy S.left S.faults T.kept T.counts source.old source.new shelves.old.items shelves.new.items
+        None plan.now × (card.new ≡ card.old)) }
+{
+    if takes_turns(plan) && processors(rt, gate) == 1 {
+        play_rounds(alloc, random, source, shelves, plan, gate, card)
+    } else {
+        play_beside(rt, alloc, random, source, shelves, plan, gate, card)
+    }
 }
 
 /// What a replay is asked for, but its turns.
@@ -214,7 +275,7 @@ fn replay_alone<S: Source, T: Shelf, O: Sink>(
     requires turns { AreTurns (length command.ports.items) turns.now }
     requires shelves { vec_len shelves.old ≡ 8 }
     requires blank { card.old ≡ Card.Blank }
-    ensures replays { RepliesTo S.left S.faults T.kept T.faults O.sent O.faults source.old source.new shelves.old.items shelves.new.items out.old out.new
+    ensures replays { RepliesTo S.left S.faults T.kept T.counts O.sent O.faults source.old source.new shelves.old.items shelves.new.items out.old out.new
         card.new (asked_by command.ports.items command.areas.items command.options (Some turns.now)) result }
 {
     let plan = plan_of(command);
@@ -224,7 +285,7 @@ fn replay_alone<S: Source, T: Shelf, O: Sink>(
     }
 }
 
-/// Replays a capture by threads, flushes the shelves, and writes the report.
+/// Replays a capture without a text of turns, flushes the shelves, and writes the report.
 fn replay<S: Source + Send, T: Shelf + Send, O: Sink, G: Gate + Sync, R: Threads + Wait + Sync>(
     rt: &R,
     alloc: Global,
@@ -241,11 +302,11 @@ fn replay<S: Source + Send, T: Shelf + Send, O: Sink, G: Gate + Sync, R: Threads
     requires options { AreInRange command.options }
     requires shelves { vec_len shelves.old ≡ 8 }
     requires blank { card.old ≡ Card.Blank }
-    ensures replays { RepliesTo S.left S.faults T.kept T.faults O.sent O.faults source.old source.new shelves.old.items shelves.new.items out.old out.new
+    ensures replays { RepliesTo S.left S.faults T.kept T.counts O.sent O.faults source.old source.new shelves.old.items shelves.new.items out.old out.new
         card.new (asked_by command.ports.items command.areas.items command.options None) result }
 {
     let plan = plan_of(command);
-    match play_beside(rt, alloc, random, source, shelves, &plan, gate, card) {
+    match play_freely(rt, alloc, random, source, shelves, &plan, gate, card) {
         Ok(outcome) => finish(alloc, outcome, &plan, card, shelves, out),
         Err(_) => Fault::Memory.number(),
     }
@@ -283,7 +344,7 @@ fn run_alone<S: Source, T: Shelf, O: Sink>(
 ) -> Result<u8, Threaded>
     requires shelves { vec_len shelves.old ≡ 8 }
     requires blank { card.old ≡ Card.Blank }
-    ensures answers { IfOk result (Answers S.left S.faults T.kept T.faults O.sent O.faults source.old source.new shelves.old.items shelves.new.items
+    ensures answers { IfOk result (Answers S.left S.faults T.kept T.counts O.sent O.faults source.old source.new shelves.old.items shelves.new.items
         out.old out.new card.new (reading_of (map (λ w. w.now) words.now))) }
     ensures alone { IfOk result (λ answer. IsThreaded (reading_of (map (λ w. w.now) words.now)) → answer ≡ 1) }
     ensures asks { IfErr result (λ t. reading_of (map (λ w. w.now) words.now) ≡ Some (replay (asked_by t.command.ports.items t.command.areas.items t.command.options None))) }
@@ -318,7 +379,7 @@ fn run_alone<S: Source, T: Shelf, O: Sink>(
             }
         }
         Ok(Some(Command::Make(command))) => Ok(write_capture(command.seed, command.frames, out)),
-        Ok(Some(Command::Check)) => Ok(check_record(alloc, source, out)),
+        Ok(Some(Command::Check)) => Ok(check_record(alloc, source, out, card)),
         Ok(None) => Ok(Fault::Usage.number()),
         Err(_) => Ok(Fault::Memory.number()),
     }
@@ -337,7 +398,7 @@ pub fn zcrx_alone<S: Source, T: Shelf, O: Sink>(
 ) -> Option<u8>
     requires shelves { vec_len shelves.old ≡ 8 }
     requires blank { card.old ≡ Card.Blank }
-    ensures answers { IfSome result (Answers S.left S.faults T.kept T.faults O.sent O.faults source.old source.new shelves.old.items shelves.new.items
+    ensures answers { IfSome result (Answers S.left S.faults T.kept T.counts O.sent O.faults source.old source.new shelves.old.items shelves.new.items
         out.old out.new card.new (reading_of (map (λ w. w.now) words.now))) }
     // It is `None` only for a replay by threads; such a one is answered by `None`, or by 1 where there was no memory to read the words.
     ensures none { result ≡ None → IsThreaded (reading_of (map (λ w. w.now) words.now)) }
@@ -350,9 +411,9 @@ pub fn zcrx_alone<S: Source, T: Shelf, O: Sink>(
 /// Runs the command that `words`, the words after the program's name, ask for. To replay a capture shelf `a` takes the
 /// flows to the port of place `a` among the ports, and `random` keys the table of flows; to make one neither source nor
 /// shelves are needed, and to check the record of a run no shelves. With a text of turns a replay goes by these on one thread.
-/// Without one the reading, the card and each application have a thread of their own, and `gate` is asked before each turn of
-/// the card and of an application. The board of a run is left in `card`. Answers the status: 0, or the number of the fault that
-/// comes first.
+/// Without one the reading, the card and each application have a thread of their own; where there is one processor, or `gate` names
+/// one, they go round in this one. `gate` is told of each turn of the card and of an application before that. The board of a run is
+/// left in `card`, or what a check found. Answers the status: 0, or the number of the fault that comes first.
 pub fn zcrx<S: Source + Send, T: Shelf + Send, O: Sink, G: Gate + Sync, R: Threads + Wait + Sync>(
     rt: &R,
     alloc: Global,
@@ -376,7 +437,7 @@ pub fn zcrx<S: Source + Send, T: Shelf + Send, O: Sink, G: Gate + Sync, R: Threa
 
     // To replay: the stream theorem, what the status and the report say, and the board. To make: the capture. To check: what was found.
     ensures replays { IfSome (reading_of (map (λ w. w.now) words.now))
-        (Commands S.left S.faults T.kept T.faults O.sent O.faults source.old source.new shelves.old.items shelves.new.items out.old out.new
+        (Commands S.left S.faults T.kept T.counts O.sent O.faults source.old source.new shelves.old.items shelves.new.items out.old out.new
         card.new result) }
     // A board that is left may be finished.
     ensures closed { IsClosed card.new }

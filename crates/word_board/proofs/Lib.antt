@@ -23,3 +23,4 @@ mod AppKept
 mod HeldPlaces
 mod RolesBack
 mod AtDesk
+mod WordsClosed

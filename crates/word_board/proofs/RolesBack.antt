@@ -7,9 +7,10 @@ use lib.ListN.{get_elem?}
 use Rattle.atomic_table.{specs.Table.{State, Me, keeps, Allows}, proofs.Lists.{at_index, set_again}}
 use Rattle.area_layout.specs.Layout.{pool_buffers}
 use Rattle.board_face.specs.{Counts.{is_user}, Ended.{IsServed}, Holders.{nic_holders, app_holders, holders_of}, Opened.{new_app}, Relay.{IsProper}, Sides.{IsApp}}
-use Rattle.board_face.specs.declared.views.{parts.Setting.{Setting}, nic.NicSide.{NicSide}, app.AppSide.{AppSide}}
-use Rattle.ref_words.{specs.{declared.view.View.{View}, Seated.{Seated, times_in}, Words.{listed_in}, Over.{CardIsOver, AppIsOver, OverLaw}}, proofs.Seating.{taken-at}}
-use Rattle.word_board.specs.{Board.{IsBoard, card_of, first_nic}, Desk.{AreOver, AreOfBoard, AreServed, AllAreBack, HasNoHolders}}
+use Rattle.board_face.{proofs.SideLemmas.{IsApp-at}, specs.declared.views.{parts.Setting.{Setting}, nic.NicSide.{NicSide}, app.AppSide.{AppSide}}}
+use Rattle.ref_words.specs.{declared.view.View.{View}, Seated.{Seated, times_in}, Words.{listed_in}, Over.{CardIsOver, AppIsOver, OverLaw}}
+use Rattle.ref_words.proofs.{Seating.{taken-at}, Laying.{pool-word, user-word}}
+use Rattle.word_board.specs.{Board.{IsBoard, card_of, first_nic}, Desk.{AreOver, AreOfBoard, AreServed, AllAreBack, HasNoHolders, HaveNoCounts}}
 
 -- A load that changes nothing tells what the rule says of each table under it.
 pub lesson : (setting : Setting) (slots id i : ℕ) (told : ℕ → Type 0) (me : Me (Unit {0}) View)
@@ -133,6 +134,23 @@ module _ (law : OverLaw) (setting : Setting) (s : State (Unit {0}) View) (board 
       pool = λ b. ap length (holders-none b);
       users = λ a b. ap (count_by (is_user a)) (holders-none b);
     }
+
+    board-unheld : (b : ℕ) → holders_of b board.nic board.apps ≡ []
+    board-unheld b =
+        let apps : All (λ app. app_holders b board.nic app ≡ []) board.apps = λ k d there.
+        law.app setting board.words board.nic board.apps k (get_or board.apps k d) b board.rule
+        (IsApp-at board.apps k d board.rule.refs.sides.set.numbers there) (apps-over k d there) in
+        ap (λ ks. ks ++ flat_map (app_holders b board.nic) board.apps)
+        (law.card setting board.words board.nic board.apps b board.rule card-over)
+        ∙ flat-none (app_holders b board.nic) board.apps apps
+
+    pub uncounted-there : HaveNoCounts setting s.words
+    uncounted-there = subst (HaveNoCounts setting) (sym board.laid) (record {
+      pool = λ b within. pool-word setting board.words board.rule.refs.sizes b (omega (arith, within, board.rule.refs.sizes.pool))
+          ∙ (board.rule.refs.pool b within ∙ ap length (board-unheld b));
+      users = λ a b few within. user-word setting board.words board.rule.refs.sizes a b (omega (arith, few, board.rule.refs.sizes.users)) within
+          ∙ (board.rule.refs.users a b few within ∙ ap (count_by (is_user a)) (board-unheld b));
+    })
 
     pub free-there : (b : ℕ) → b < pool_buffers setting.layout
         → count_by (nat_eq b) (card_of v).view.cache + (if listed_in board.words b then 1 else 0) ≡ 1

@@ -19,5 +19,6 @@ mod steps;
 pub use app_seat::AppSeat;
 pub use board::WordBoard;
 pub use desk::Desk;
+pub use finish::ClosedWords;
 pub use nic_seat::NicSeat;
 pub use rule::{After, Deal, Deals, Together, Turns, WordRule};

@@ -30,6 +30,7 @@ pub(crate) struct SharedWords {
     pub(crate) map: WordMap,
     ghost keyed: { map ≡ table.shared.key },
     ghost wide: { table_words table.shared.key ≤ table.shared.table_id.words },
+    ghost slotless: { table.shared.table_id.slots ≡ 0 },
 }
 
 /// The view of a seat after a step, and what the seat is told of it by the rule, both by the number that the step found.

@@ -9,6 +9,7 @@ use Rattle.zc_poll.{specs.{Standing.{Desk, StreamStands}, Items.{HasGiven}, Pour
 use Rattle.zc_poll.proofs.{PourTurns.{same-counts}, Pours.{is-no}}
 use Rattle.zc_forward.specs.{Tags.{Tags}, Sending.{AreLoans, OutboxState, of_one, of_sent, tags_of, without_uncarried}, Forwarding.{ForwardStands}}
 use Rattle.zc_forward.proofs.{Out.{none_out}, Live.{IsOut, at-itself, at_place, counted-out, has-out, no-loans, went, went-places, went-many, went-lent}}
+use Rattle.zr_io.specs.Moved.{ShelfCounts}
 
 -- the loan that wasn't carried is out
 pub aside-out : (w : OutboxState) (loans : List LentPiece) (loan : Place) → AreLoans w loans → w.uncarried ≡ Some loan → IsOut loan loans
@@ -20,7 +21,7 @@ pub may-give-up : (w : OutboxState) (v : AppView) → AreLoans w v.loans → (as
 may-give-up w v are None is = tt
 may-give-up w v are (Some loan) is = has-out v loan (aside-out w v.loans loan are is)
 
-module _ (first got : ℕ → Option (List ℕ)) (losses now_losses : ℕ) (w : OutboxState) (st now : Desk) (tags : Tags) (v z : AppView)
+module _ (first got : ℕ → Option (List ℕ)) (losses now_losses : ShelfCounts) (w : OutboxState) (st now : Desk) (tags : Tags) (v z : AppView)
     (before : ForwardStands first losses w st tags got now_losses v) (out : w.out ≡ []) (due : w.tally.due ≡ None) (stands : StreamStands now z)
     (desk : now ≡ st) where
   -- nothing is out
@@ -44,6 +45,7 @@ module _ (first got : ℕ → Option (List ℕ)) (losses now_losses : ℕ) (w : 
         later = before.later;
         cause = before.cause;
         still = before.still;
+        appended = before.appended;
       }))
 
   -- the loan that wasn't carried was given up
@@ -93,6 +95,7 @@ module _ (first got : ℕ → Option (List ℕ)) (losses now_losses : ℕ) (w : 
         later = before.later;
         cause = before.cause;
         still = before.still;
+        appended = before.appended;
       }
 
   pub ends-pours : (aside : Option Place) → w.uncarried ≡ aside → z ≡ without_uncarried aside v → PourStands first losses w.tally now got now_losses z
@@ -100,7 +103,7 @@ module _ (first got : ℕ → Option (List ℕ)) (losses now_losses : ℕ) (w : 
   ends-pours (Some loan) is view = given-up loan view is
 
 -- and goes on as it was, where the face can't leave
-pub waits-forwards : (first got : ℕ → Option (List ℕ)) (losses now : ℕ) (w : OutboxState) (st : Desk) (tags : Tags) (v : AppView)
+pub waits-forwards : (first got : ℕ → Option (List ℕ)) (losses now : ShelfCounts) (w : OutboxState) (st : Desk) (tags : Tags) (v : AppView)
     → PourStands first losses w.tally st got now v → w.out ≡ [] → tags ≡ [] → w.uncarried ≡ None → w.tally.due ≡ None
     → (st.ended ≡ true → w.pressed ≡ true) → ForwardStands first losses w st tags got now v
 waits-forwards first got losses now w st tags v before out told aside due pressed =
@@ -113,7 +116,10 @@ waits-forwards first got losses now w st tags v before out told aside due presse
       poured = before.poured;
       sent = told ∙ sym (ap tags_of out);
       once = subst (λ (ts : Tags). IsDistinct nat_eq (keys_of ts)) (sym told) (none_out 0 (omega arith)).each;
-      few = omega (arith, ap length out);
+      few =
+          let d : of_one (λ _. 1) w.tally.due ≡ 0 = ap (of_one (λ _. 1)) due in
+          let a : of_one (λ _. 1) w.uncarried ≡ 0 = ap (of_one (λ _. 1)) aside in
+          omega (arith, ap length out, d, a);
       loans = λ f. (
           let l : total (λ (p : LentPiece). f p.place) v.loans ≡ 0 = ap (total (λ (p : LentPiece). f p.place)) none in
           let d : of_one f w.tally.due ≡ 0 = ap (of_one f) due in
@@ -132,10 +138,11 @@ waits-forwards first got losses now w st tags v before out told aside due presse
       later = before.later;
       cause = before.cause;
       still = before.still;
+      appended = before.appended;
     }
 
 -- it was never stopped exactly where the stream wasn't
-pub stops : (first got : ℕ → Option (List ℕ)) (losses now : ℕ) (w : OutboxState) (st : Desk) (tags : Tags) (v : AppView)
+pub stops : (first got : ℕ → Option (List ℕ)) (losses now : ShelfCounts) (w : OutboxState) (st : Desk) (tags : Tags) (v : AppView)
     → ForwardStands first losses w st tags got now v → (w.tally.stopped ≡ stop.No) ↔ (st.stopped ≡ false)
 stops first got losses now w st tags v before = (
   before.going,

@@ -3,14 +3,14 @@ use Rattle.std.proofs.Common.{◌≡◌, ◌≢◌, ℕ, ◌+◌, ◌≤◌, tru
 use Rattle.std.specs.{Prelude.{IfNone, nat_eq}, List.{IsDistinct}, Map.{keys_of, remove_entry}}
 use Rattle.zr_kinds.specs.declared.place.Place.{Place}
 use Rattle.zr_kinds.specs.declared.behaviour.Stopped.TheVariants as stop
-use Rattle.zr_io.{specs.Moved.{Rose}, proofs.Moved.{Gained-then, Gained-nothing}}
+use Rattle.zr_io.{specs.Moved.{Rose, ShelfCounts, raised_by}, proofs.Moved.{Gained-then, Gained-nothing}}
 use Rattle.board_face.specs.{AppEvents.{app_saw, gave, entry_of}, declared.views.app.{AppLook.{AppLook}, LentPiece.{LentPiece}, AppView.{AppView}}}
 use Rattle.flow_queues.{specs.{Core.{total, IsIn}, Totals.{lent_len, loan_entries}, Ends.{bytes_in}}, proofs.Tokens.{in-total}}
 use Rattle.zc_poll.specs.{declared.to_shelf.PollTurn.{PollTurn, TheVariants.{Did, Idle, Ended}}, Counting.{TallyState}, Standing.{Desk, StreamStands}}
 use Rattle.zc_poll.specs.{Items.{Given, HasGiven, marks_given}, Steps.{OnlySteps, Unlent}, Pouring.{IsPoured, HasPoured}}
 use Rattle.zc_poll.proofs.{ItemPoured.{SameCounts, poured-moved, poured-all, same-kept}, EntriesFirst.{first-same, first-gave}, PouredOn.{sees-still}}
 use Rattle.zc_poll.proofs.{PourTurns.{same-counts}, Pours.{is-no, no-write}}
-use Rattle.zc_forward.specs.{declared.sent.Sent.{Sent}, Tags.{FlowsKeep, Tags, TakesTag}, Sending.{AreLoans, OutboxState, of_one, of_sent, tags_of}}
+use Rattle.zc_forward.specs.{declared.sent.Sent.{Sent}, Tags.{FlowsKeep, Tags, TakesTag}, Sending.{AreLoans, OutboxState, of_one, of_sent, tags_of, many_out, most_out}}
 use Rattle.zc_forward.specs.{Forwarding.{ForwardStands}, Turns.{GivesBack, GoesBack, with_due}}
 use Rattle.zc_forward.proofs.{Live.{IsOut, counted-out, at_place, at-itself, went, went-places, went-many, went-lent, gave-entry, gave-returned}, Sents.{still-once}}
 
@@ -41,7 +41,7 @@ poured-kept P first kept later w st v items torn missing poured keeps =
           (poured.shelved n) (Gained-nothing (kept n) (later n) (λ more. more ≡ []) (keeps n) refl);
     }
 
-pub kept-forwards : (first got later : ℕ → Option (List ℕ)) (losses now after : ℕ) (w : OutboxState) (st : Desk) (tags : Tags) (v : AppView)
+pub kept-forwards : (first got later : ℕ → Option (List ℕ)) (losses now after : ShelfCounts) (w : OutboxState) (st : Desk) (tags : Tags) (v : AppView)
     → ForwardStands first losses w st tags got now v → FlowsKeep got later → after ≡ now → ForwardStands first losses w st tags later after v
 kept-forwards first got later losses now after w st tags v before keeps same = record {
   items = before.items;
@@ -62,9 +62,10 @@ kept-forwards first got later losses now after w st tags v before keeps same = r
   failed = before.failed;
   pressed = before.pressed;
   no_quit = before.no_quit;
-  later = omega (arith, before.later, same);
-  cause = λ write. subst (Rose losses) (sym same) (before.cause write);
-  still = λ not. same ∙ before.still not;
+  later = omega (arith, before.later, ap (λ (c : ShelfCounts). c.faults) same);
+  cause = λ write. subst (Rose losses.faults) (sym (ap (λ (c : ShelfCounts). c.faults) same)) (before.cause write);
+  still = λ not. ap (λ (c : ShelfCounts). c.faults) same ∙ before.still not;
+  appended = ap (λ (c : ShelfCounts). c.appended) same ∙ before.appended;
 }
 
 -- of what is due and what stopped it nothing was poured
@@ -74,9 +75,9 @@ poured-as P Q first kept u w st v items torn missing poured work implies =
     poured-moved P Q first kept u w st st v v items torn missing poured work poured.given (sees-still v) refl refl refl poured.back refl implies
 
 -- the tag of a loan was told, which is due from now on
-pub told-forwards : (first got : ℕ → Option (List ℕ)) (losses now : ℕ) (w z : OutboxState) (st : Desk) (was tags : Tags) (tag : ℕ) (loan : Place) (v : AppView)
+pub told-forwards : (first got : ℕ → Option (List ℕ)) (losses now : ShelfCounts) (w z : OutboxState) (st : Desk) (was tags : Tags) (tag : ℕ) (loan : Place) (v : AppView)
     → ForwardStands first losses w st was got now v → TakesTag was tags (Some tag) → w.tally.due ≡ None → tags_of z.out ≡ remove_entry (nat_eq tag) (tags_of w.out)
-    → ((f : Place → ℕ) → f loan + of_sent f z.out ≡ of_sent f w.out) → length z.out ≤ length w.out → z ≡ record w { out = z.out }
+    → ((f : Place → ℕ) → f loan + of_sent f z.out ≡ of_sent f w.out) → length z.out + 1 ≡ length w.out → z ≡ record w { out = z.out }
     → ForwardStands first losses (with_due z (Some loan)) st tags got now v
 told-forwards first got losses now w z st was tags tag loan v before took due gone sums few same =
     let tally : z.tally ≡ w.tally = ap (λ (o : OutboxState). o.tally) same in
@@ -101,7 +102,10 @@ told-forwards first got losses now w z st was tags tag loan v before took due go
           (λ write. stopped ∙ write);
       sent = took.1 ∙ ap (remove_entry (nat_eq tag)) before.sent ∙ sym gone;
       once = subst (λ (ts : Tags). IsDistinct nat_eq (keys_of ts)) (sym took.1) (still-once tag was before.once);
-      few = omega (arith, few, before.few);
+      few =
+          let none : of_one (λ _. 1) w.tally.due ≡ 0 = ap (of_one (λ _. 1)) due in
+          let rest : of_one (λ _. 1) z.uncarried ≡ of_one (λ _. 1) w.uncarried = ap (of_one (λ _. 1)) aside in
+          omega (arith, few, before.few, none, rest);
       loans = λ f.
           let sum = sums f in
           let all = before.loans f in
@@ -120,11 +124,12 @@ told-forwards first got losses now w z st was tags tag loan v before took due go
       later = before.later;
       cause = λ write. before.cause (sym stopped ∙ write);
       still = λ not. before.still (λ write. not (stopped ∙ write));
+      appended = before.appended ∙ ap (λ (t : TallyState). raised_by losses.appended t.written) (sym tally);
     }
 
 -- ---- a look, and the loan that is due
 
-pub saw-forwards : (first got : ℕ → Option (List ℕ)) (losses now_losses : ℕ) (w : OutboxState) (st now : Desk) (tags : Tags) (v z : AppView) (look : AppLook)
+pub saw-forwards : (first got : ℕ → Option (List ℕ)) (losses now_losses : ShelfCounts) (w : OutboxState) (st now : Desk) (tags : Tags) (v z : AppView) (look : AppLook)
     → ForwardStands first losses w st tags got now_losses v → z ≡ app_saw v look → StreamStands now z → now ≡ st
     → ForwardStands first losses w now tags got now_losses z
 saw-forwards first got losses now_losses w st now tags v z look before view stands desk =
@@ -155,6 +160,7 @@ saw-forwards first got losses now_losses w st now tags v z look before view stan
       later = before.later;
       cause = before.cause;
       still = before.still;
+      appended = before.appended;
     })
 
 -- the loan that is due is out
@@ -163,7 +169,7 @@ due-out w loans loan are due =
     let here : of_one (at_place loan) w.tally.due ≡ 1 = ap (of_one (at_place loan)) due ∙ at-itself loan in
     counted-out loan loans (omega (arith, are (at_place loan), here))
 
-module _ (first got : ℕ → Option (List ℕ)) (losses now_losses : ℕ) (w : OutboxState) (st now : Desk) (tags : Tags) (v z : AppView) (loan : Place)
+module _ (first got : ℕ → Option (List ℕ)) (losses now_losses : ShelfCounts) (w : OutboxState) (st now : Desk) (tags : Tags) (v z : AppView) (loan : Place)
     (before : ForwardStands first losses (with_due w (Some loan)) st tags got now_losses v) (due : w.tally.due ≡ None) (view : z ≡ gave v loan)
     (stands : StreamStands now z) (desk : now ≡ st) where
   out : IsOut loan v.loans
@@ -211,7 +217,7 @@ module _ (first got : ℕ → Option (List ℕ)) (losses now_losses : ℕ) (w : 
             (λ write. some-out (before.failed write));
         sent = before.sent;
         once = before.once;
-        few = before.few;
+        few = (let none : of_one (λ _. 1) w.tally.due ≡ 0 = ap (of_one (λ _. 1)) due in omega (arith, before.few, none));
         loans = λ f.
             let gone_sum : total (λ (l : LentPiece). f l.place) z.loans + f loan ≡ total (λ (l : LentPiece). f l.place) v.loans =
             subst (λ (k : AppView). total (λ (l : LentPiece). f l.place) k.loans + f loan ≡ total (λ (l : LentPiece). f l.place) v.loans) (sym view)
@@ -231,11 +237,12 @@ module _ (first got : ℕ → Option (List ℕ)) (losses now_losses : ℕ) (w : 
         later = before.later;
         cause = before.cause;
         still = before.still;
+        appended = before.appended;
       }
 
 -- ---- a step that gave no item
 
-module _ (first got : ℕ → Option (List ℕ)) (losses now_losses : ℕ) (u w : OutboxState) (st now : Desk) (tags : Tags) (v z : AppView)
+module _ (first got : ℕ → Option (List ℕ)) (losses now_losses : ShelfCounts) (u w : OutboxState) (st now : Desk) (tags : Tags) (v z : AppView)
     (before : ForwardStands first losses u st tags got now_losses v) (unlent : Unlent st now v z) (only : OnlySteps v z) (stands : StreamStands now z)
     (work : SameCounts u.tally w.tally) (due : w.tally.due ≡ u.tally.due) (sent : w.out ≡ u.out) (aside : w.uncarried ≡ u.uncarried)
     (pressed : now.ended ≡ true → w.pressed ≡ true) where
@@ -266,6 +273,12 @@ module _ (first got : ℕ → Option (List ℕ)) (losses now_losses : ℕ) (u w 
       let s = ap (of_sent f) sent in
       omega (arith, l, d, a, s, before.loans f)
 
+  still-few : many_out w ≤ most_out
+  still-few =
+      let d = ap (of_one (λ _. 1)) due in
+      let a = ap (of_one (λ _. 1)) aside in
+      omega (arith, before.few, ap length sent, d, a)
+
   still-giving : (z.loans ≡ []) ⊎ ((loan_entries z ≡ length z.returned) × (before.missing ≤ of_one (λ p. p.len) w.uncarried))
   still-giving = ⊎_elim (λ (none : v.loans ≡ []). inl (unlent.loans ∙ none))
       (λ (is : (loan_entries v ≡ length v.returned) × (before.missing ≤ of_one (λ p. p.len) u.uncarried)).
@@ -282,7 +295,7 @@ module _ (first got : ℕ → Option (List ℕ)) (losses now_losses : ℕ) (u w 
     poured = poured-still (w.tally.stopped ≡ stop.Write) (λ is. same ∙ is);
     sent = before.sent ∙ sym (ap tags_of sent);
     once = before.once;
-    few = omega (arith, before.few, ap length sent);
+    few = still-few;
     loans = still-loans;
     giving = still-giving;
     whole = λ is. before.whole (sym same ∙ is);
@@ -296,6 +309,7 @@ module _ (first got : ℕ → Option (List ℕ)) (losses now_losses : ℕ) (u w 
     later = before.later;
     cause = λ is. before.cause (sym same ∙ is);
     still = λ is. before.still (λ e. is (same ∙ e));
+    appended = before.appended ∙ ap (raised_by losses.appended) (sym work.written);
   }
 
   -- there was no memory
@@ -311,7 +325,7 @@ module _ (first got : ℕ → Option (List ℕ)) (losses now_losses : ℕ) (u w 
         poured = poured-still (w.tally.stopped ≡ stop.Write) (λ write. absurd (no-write u.tally.stopped nothing write));
         sent = before.sent ∙ sym (ap tags_of sent);
         once = before.once;
-        few = omega (arith, before.few, ap length sent);
+        few = still-few;
         loans = still-loans;
         giving = still-giving;
         whole = λ no. (let clash : stop.Memory ≡ stop.No = sym same ∙ no in absurd (cc));
@@ -325,6 +339,7 @@ module _ (first got : ℕ → Option (List ℕ)) (losses now_losses : ℕ) (u w 
         later = before.later;
         cause = λ write. (let clash : stop.Memory ≡ stop.Write = sym same ∙ write in absurd (cc));
         still = λ _. before.still (no-write u.tally.stopped nothing);
+        appended = before.appended ∙ ap (raised_by losses.appended) (sym work.written);
       }
 
 -- a loan whose tag is out is out
@@ -340,3 +355,8 @@ goes-back loan w z old new (Ended poured) back none = absurd back
 
 pub if-none : (told : Option ℕ) (P : Type 0) → IfNone told P → told ≡ None → P
 if-none told P holds is = subst (λ o. IfNone o P) is holds
+
+pub back-pressed : (loan : Place) (w z : OutboxState) (old new : AppView) (ran : PollTurn) → GivesBack loan w z old new ran → z.pressed ≡ w.pressed
+back-pressed loan w z old new Did back = ap (λ (o : OutboxState). o.pressed) back.0
+back-pressed loan w z old new (Idle why) back = ap (λ (o : OutboxState). o.pressed) back.1
+back-pressed loan w z old new (Ended poured) back = absurd back

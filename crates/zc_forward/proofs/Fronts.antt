@@ -1,14 +1,14 @@
 -- What the carrier got is a front of each flow's bytes, and the loans of the tags that are out are out.
 use Rattle.std.proofs.{Common.{◌≡◌, ℕ, List, [], ◌∷◌, ◌++◌, length, take, drop, Option, refl, sym, ap, ◌∙◌, append_assoc, inl, inr}, lemmas.List.{take-append-drop}}
 use Rattle.zr_kinds.specs.declared.behaviour.Stopped.TheVariants as stop
-use Rattle.zr_io.proofs.Moved.{Gained-weaker}
+use Rattle.zr_io.{specs.Moved.{ShelfCounts}, proofs.Moved.{Gained-weaker}}
 use Rattle.board_face.specs.{AppCalls.{HasLoan}, declared.views.app.AppView.{AppView}}
 use Rattle.flow_queues.specs.{Marks.{Mark, FramesStandTogether, marks_of}, Core.{Each, IsIn}, Streams.{HasFronts, IsFront}, Ends.{bytes_in}}
 use Rattle.zc_poll.{specs.{Standing.{Desk}, Items.{marks_given}, Pouring.{IsPoured}}, proofs.Whole.{items-front}}
 use Rattle.zc_forward.{specs.{declared.sent.Sent.{Sent}, Tags.{Tags}, Sending.{AreLoans, OutboxState}, Forwarding.{ForwardStands}}, proofs.Live.{has-out}}
 use Rattle.zc_forward.proofs.Forwards.{sent-out}
 
-pub front-of : (first got : ℕ → Option (List ℕ)) (losses now : ℕ) (w : OutboxState) (st : Desk) (tags : Tags) (v : AppView)
+pub front-of : (first got : ℕ → Option (List ℕ)) (losses now : ShelfCounts) (w : OutboxState) (st : Desk) (tags : Tags) (v : AppView)
     → ForwardStands first losses w st tags got now v → FramesStandTogether v.taken → HasFronts first got v
 front-of first got losses now w st tags v before whole n =
     let marks : List Mark = marks_given n before.items in

@@ -3,7 +3,7 @@ use Rattle.std.proofs.Common.{◌≡◌, ◌≢◌, ℕ, ◌+◌, ◌-◌, ◌^�
 use Rattle.std.{proofs.Math.Seq.{drop-append_seam}, specs.{Prelude.{nat_eq}, Io.KnownBytes.{Keeps}, Map.{lookup}}}
 use Rattle.zr_kinds.specs.declared.place.Place.{Place}
 use Rattle.zr_kinds.specs.declared.behaviour.Stopped.TheVariants as stop
-use Rattle.zr_io.{specs.Moved.{Gained, Rose}, proofs.Moved.{Rose-earlier}}
+use Rattle.zr_io.{specs.Moved.{Gained, Rose, ShelfCounts, raised_by}, proofs.Moved.{Rose-earlier}}
 use Rattle.board_face.specs.declared.views.app.{LentPiece.{LentPiece}, AppView.{AppView}}
 use Rattle.flow_queues.specs.{Marks.{Mark}, declared.queues.Lending.{Lending}, Core.{total, IsIn, lent_piece, OnlyReads, IsReadOf}, Totals.{lent_len, loan_entries}}
 use Rattle.flow_queues.{specs.{Shelves.{AreOfOneLoan, kept_loans}, Ends.{bytes_in}}, proofs.Tokens.{loan-some, total-append}}
@@ -70,7 +70,7 @@ module _ (y x : AppView) (up : GaveUp y x) (none : x.loans ≡ []) (all : loan_e
 
 -- ---- an item came
 
-module _ (first kept : ℕ → Option (List ℕ)) (losses losses_now : ℕ) (u : OutboxState) (st now : Desk) (tags : Tags) (v x : AppView)
+module _ (first kept : ℕ → Option (List ℕ)) (losses losses_now : ShelfCounts) (u : OutboxState) (st now : Desk) (tags : Tags) (v x : AppView)
     (before : ForwardStands first losses u st tags kept losses_now v) (due : u.tally.due ≡ None) (lent : Lent) (item : IsItem st now v x lent) (only : OnlySteps v x)
     (stands : StreamStands now x) where
   pub nothing : u.tally.stopped ≡ stop.No
@@ -118,8 +118,9 @@ module _ (first kept : ℕ → Option (List ℕ)) (losses losses_now : ℕ) (u :
         → ((items : List Given) → HasGiven items now.flows x.taken → HasGiven items later.flows z.taken) → StreamStands later z
         → later.stopped ≡ true → later.ended ≡ now.ended
         → k.tally ≡ record w { stopped = stop.Memory } → k.out ≡ u.out → k.uncarried ≡ Some lent.loan
+        → length u.out < most_out
         → ForwardStands first losses k later tags kept losses_now z
-    wants z later k view goes on stopped ended tally out aside =
+    wants z later k view goes on stopped ended tally out aside room =
         let why : k.tally.stopped ≡ stop.Memory = ap (λ (t : TallyState). t.stopped) tally in
         let none : k.tally.due ≡ None = ap (λ (t : TallyState). t.due) tally ∙ ap (λ (t : TallyState). t.due) roomy.same ∙ due in
         record {
@@ -153,7 +154,10 @@ module _ (first kept : ℕ → Option (List ℕ)) (losses losses_now : ℕ) (u :
               (λ write. absurd (no-write u.tally.stopped nothing write));
           sent = before.sent ∙ sym (ap tags_of out);
           once = before.once;
-          few = omega (arith, before.few, ap length out);
+          few =
+              let d : of_one (λ _. 1) k.tally.due ≡ 0 = ap (of_one (λ _. 1)) none in
+              let a : of_one (λ _. 1) k.uncarried ≡ 1 = ap (of_one (λ _. 1)) aside in
+              omega (arith, room, ap length out, d, a);
           loans = λ f.
               let now_out : total (λ (l : LentPiece). f l.place) z.loans ≡ f lent.loan + of_sent f u.out =
               ap (λ (q : AppView). total (λ (l : LentPiece). f l.place) q.loans) view ∙ out-now f in
@@ -176,6 +180,8 @@ module _ (first kept : ℕ → Option (List ℕ)) (losses losses_now : ℕ) (u :
           later = before.later;
           cause = λ write. (let e : stop.Memory ≡ stop.Write = sym why ∙ write in absurd (cc));
           still = λ _. before.still (no-write u.tally.stopped nothing);
+          appended = before.appended ∙ ap (raised_by losses.appended)
+              (sym (ap (λ (t : TallyState). t.written) tally ∙ ap (λ (t : TallyState). t.written) roomy.same));
         }
 
     module _ (after : ℕ → Option (List ℕ)) (y : AppView) (k : TallyState) (done : ℕ) (reads : OnlyReads x y) (counted_to : done ≤ lent.loan.len)
@@ -216,13 +222,16 @@ module _ (first kept : ℕ → Option (List ℕ)) (losses losses_now : ℕ) (u :
       work-no : k.stopped ≡ stop.No
       work-no = ap (λ (q : TallyState). q.stopped) same ∙ ap (λ (q : TallyState). q.stopped) roomy.same ∙ nothing
 
+      all-took : (faults : ShelfCounts) → faults.appended ≡ raised_by losses_now.appended done → faults.appended ≡ raised_by losses.appended k.written
+      all-took faults took = omega (arith, took, before.appended, ap (λ (q : TallyState). q.written) same, ap (λ (q : TallyState). q.written) roomy.same)
+
       -- the carrier failed, and all is given up
-      pub fails : (end : ℕ → Option (List ℕ)) (faults : ℕ) (mid z : AppView) (later : Desk) (m : OutboxState) → FlowsKeep after end → GaveUp y mid → z ≡ record mid { helds = [] } → z.loans ≡ []
+      pub fails : (end : ℕ → Option (List ℕ)) (faults : ShelfCounts) (mid z : AppView) (later : Desk) (m : OutboxState) → FlowsKeep after end → GaveUp y mid → z ≡ record mid { helds = [] } → z.loans ≡ []
           → ((items : List Given) → HasGiven items now.flows y.taken → HasGiven items later.flows z.taken) → StreamStands later z → later.stopped ≡ true
           → m.tally ≡ record k { stopped = stop.Write } → m.out ≡ [] → m.uncarried ≡ u.uncarried → (later.ended ≡ true → m.pressed ≡ true)
-          → losses_now ≤ faults → Rose losses_now faults
+          → losses_now.faults ≤ faults.faults → Rose losses_now.faults faults.faults → faults.appended ≡ raised_by losses_now.appended done
           → ForwardStands first losses m later [] end faults z
-      fails end faults mid z later m keeps up view none goes on stopped tally out aside pressed grows rose =
+      fails end faults mid z later m keeps up view none goes on stopped tally out aside pressed grows rose took =
           let why : m.tally.stopped ≡ stop.Write = ap (λ (t : TallyState). t.stopped) tally in
           let mid_none : mid.loans ≡ [] = sym (ap (λ (q : AppView). q.loans) view) ∙ none in
           let mid_given : HasGiven all_items now.flows mid.taken =
@@ -263,7 +272,10 @@ module _ (first kept : ℕ → Option (List ℕ)) (losses losses_now : ℕ) (u :
                 keeps;
             sent = sym (ap tags_of out);
             once = (none_out 0 (omega arith)).each;
-            few = omega (arith, ap length out);
+            few =
+                let d : of_one (λ _. 1) m.tally.due ≡ 0 = ap (of_one (λ _. 1)) (ap (λ (t : TallyState). t.due) tally ∙ work-due) in
+                let a : of_one (λ _. 1) m.uncarried ≡ 0 = ap (of_one (λ _. 1)) (aside ∙ before.carried nothing) in
+                omega (arith, ap length out, d, a);
             loans = λ f.
                 let l : total (λ (p : LentPiece). f p.place) z.loans ≡ 0 = ap (total (λ (p : LentPiece). f p.place)) none in
                 let d : of_one f m.tally.due ≡ 0 = ap (of_one f) (ap (λ (t : TallyState). t.due) tally ∙ work-due) in
@@ -280,15 +292,17 @@ module _ (first kept : ℕ → Option (List ℕ)) (losses losses_now : ℕ) (u :
             pressed = pressed;
             no_quit = λ quit. (let e : stop.Write ≡ stop.Quit = sym why ∙ quit in absurd (cc));
             later = omega (arith, before.later, grows);
-            cause = λ _. Rose-earlier losses losses_now faults before.later rose;
+            cause = λ _. Rose-earlier losses.faults losses_now.faults faults.faults before.later rose;
             still = λ not. absurd (not why);
+            appended = all-took faults took ∙ ap (raised_by losses.appended) (sym (ap (λ (t : TallyState). t.written) tally));
           }
 
       -- all was carried
-      pub carries : (faults tag : ℕ) (m : OutboxState) → m.tally ≡ k → m.out ≡ u.out ++ record { tag = tag; flow = lent.flow; loan = lent.loan } ∷ []
-          → m.uncarried ≡ u.uncarried → lookup (nat_eq tag) tags ≡ None → length u.out < most_out → done ≡ lent.loan.len → StreamStands now y → faults ≡ losses_now
+      pub carries : (faults : ShelfCounts) (tag : ℕ) (m : OutboxState) → m.tally ≡ k → m.out ≡ u.out ++ record { tag = tag; flow = lent.flow; loan = lent.loan } ∷ []
+          → m.uncarried ≡ u.uncarried → lookup (nat_eq tag) tags ≡ None → length u.out < most_out → done ≡ lent.loan.len → StreamStands now y
+          → faults.faults ≡ losses_now.faults → faults.appended ≡ raised_by losses_now.appended done
           → ForwardStands first losses m now (tags ++ (tag, lent.flow) ∷ []) after faults y
-      carries faults tag m tally out aside free room full on same_faults =
+      carries faults tag m tally out aside free room full on same_faults took =
           let stopped_is : m.tally.stopped ≡ stop.No = ap (λ (q : TallyState). q.stopped) tally ∙ work-no in
           let none : item.lending.loan.len - done ≡ 0 = omega (arith, full, len_is) in
           let sent : Sent = record { tag = tag; flow = lent.flow; loan = lent.loan } in
@@ -305,7 +319,10 @@ module _ (first kept : ℕ → Option (List ℕ)) (losses losses_now : ℕ) (u :
                 (λ less. absurd (omega (arith, less, full, len_is))));
             sent = ap (λ ts. ts ++ (tag, lent.flow) ∷ []) before.sent ∙ sym (ap tags_of out ∙ tags-push u.out sent);
             once = (one_more 0 tag lent.flow tags (record { small = omega arith; each = before.once }) free).each;
-            few = omega (arith, ap length out, length-append u.out (sent ∷ []), room);
+            few =
+                let d : of_one (λ _. 1) m.tally.due ≡ 0 = ap (of_one (λ _. 1)) (ap (λ (t : TallyState). t.due) tally ∙ work-due) in
+                let a : of_one (λ _. 1) m.uncarried ≡ 0 = ap (of_one (λ _. 1)) (aside ∙ before.carried nothing) in
+                omega (arith, ap length out, length-append u.out (sent ∷ []), room, d, a);
             loans = λ f.
                 let now_out : total (λ (l : LentPiece). f l.place) y.loans ≡ f lent.loan + of_sent f u.out =
                 ap (λ (q : AppView). total (λ (l : LentPiece). f l.place) q.loans) reads.view ∙ out-now f in
@@ -326,6 +343,7 @@ module _ (first kept : ℕ → Option (List ℕ)) (losses losses_now : ℕ) (u :
             later = omega (arith, before.later, same_faults);
             cause = λ write. absurd (no-write m.tally.stopped stopped_is write);
             still = λ _. same_faults ∙ before.still (no-write u.tally.stopped nothing);
+            appended = all-took faults took ∙ ap (raised_by losses.appended) (sym (ap (λ (t : TallyState). t.written) tally));
           }
 
 -- ---- from what is kept to plain data

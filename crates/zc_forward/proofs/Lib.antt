@@ -5,4 +5,6 @@ pub mod Forwards
 pub mod Items
 pub mod Ends
 pub mod Fronts
-pub mod Apps
+pub mod Scrubs
+pub mod AllGone
+pub mod Waiting

@@ -3,6 +3,7 @@ pub mod Tags
 pub mod Sending
 pub mod OutboxOf
 pub mod Forwarding
+pub mod Asking
 pub mod Turns
 pub mod GivenUp
-pub mod Asking
+pub mod Polls

@@ -21,13 +21,9 @@ pub record OutboxState : Type 0 where
   -- the stream waits for a buffer, or has ended
   pub pressed : Bool
 
--- how many loans may be out by their tags
+-- how many loans may be out
 abbrev pub most_out : ℕ
 most_out = 64
-
--- whether the next notice is wanted soon
-abbrev pub is_urgent : OutboxState → Bool
-is_urgent w = w.pressed || (length w.out == most_out)
 
 abbrev pub is_held : Waits → Bool
 is_held NoNote = false
@@ -40,6 +36,18 @@ of_one f (Some loan) = f loan
 
 abbrev pub of_sent : (Place → ℕ) → List Sent → ℕ
 of_sent f out = total (λ s. f s.loan) out
+
+-- how many loans are out by their tags, or weren't carried
+abbrev pub many_kept : OutboxState → ℕ
+many_kept w = of_one (λ _. 1) w.uncarried + length w.out
+
+-- how many loans are out
+abbrev pub many_out : OutboxState → ℕ
+many_out w = of_one (λ _. 1) w.tally.due + many_kept w
+
+-- whether the next notice is wanted soon
+abbrev pub is_urgent : OutboxState → Bool
+is_urgent w = w.pressed || (many_kept w == most_out)
 
 -- The loans that are out are those that are kept, each once: by their tags, and one that is due, and one that wasn't carried.
 abbrev pub AreLoans : OutboxState → List LentPiece → Type 0

@@ -1,5 +1,6 @@
 -- The tags that are out.
 use Rattle.std.specs.{Prelude.{◌≡◌, ℕ, List, Option, Some, None, IsSome, nat_eq}, Map.{lookup, remove_entry}, Io.KnownBytes.{Keeps}}
+use Rattle.futures.specs.declared.task.Poll.{Poll, TheVariants.{Ready, Pending}}
 
 -- each tag with its flow
 abbrev pub Tags : Type 0
@@ -9,6 +10,11 @@ Tags = List (ℕ × ℕ)
 abbrev pub TakesTag : Tags → Tags → Option ℕ → Type 0
 TakesTag old new None = new ≡ old
 TakesTag old new (Some tag) = IsSome (lookup (nat_eq tag) old) × (new ≡ remove_entry (nat_eq tag) old) × (lookup (nat_eq tag) new ≡ None)
+
+-- the tag that a poll gave
+abbrev pub polled : Poll ℕ → Option ℕ
+polled (Ready tag) = Some tag
+polled Pending = None
 
 -- no flow got anything
 abbrev pub FlowsKeep : (ℕ → Option (List ℕ)) → (ℕ → Option (List ℕ)) → Type 0

@@ -1,18 +1,19 @@
 -- What a turn of forwarding does, and what it ends with.
-use Rattle.std.specs.{Prelude.{◌≡◌, ◌≢◌, ◌<◌, ◌⊎◌, ◌↔◌, ℕ, true, false, List, [], ◌∷◌, ◌++◌, length, Option, Some, None, nat_eq}, Ordering.{nat_cmp}}
+use Rattle.std.specs.{Prelude.{◌≡◌, ◌≢◌, ◌<◌, ◌⊎◌, ◌↔◌, ℕ, true, false, List, [], ◌∷◌, ◌++◌, Option, Some, None, nat_eq, Bool, MatchOption}, Ordering.{nat_cmp}}
 use Rattle.std.specs.{Map.{keys_of, lookup}, List.Sorted.{IsStrictlySortedBy}}
 use Rattle.zr_kinds.specs.declared.{place.Place.{Place}, behaviour.Behaviour.{Behaviour}}
 use Rattle.zr_kinds.specs.declared.behaviour.Stopped.TheVariants as stop
-use Rattle.zr_io.specs.Moved.{Rose}
+use Rattle.zr_io.specs.Moved.{Rose, ShelfCounts}
 use Rattle.futures.specs.declared.task.Poll.{Poll, TheVariants.{Ready, Pending}}
 use Rattle.board_face.specs.{AppCalls.{AppOnlySaw}, AppEvents.{gave}, NotNow.{HasWritten, HasWrittenRingful}, declared.views.app.AppLook.{AppLook}}
 use Rattle.board_face.specs.declared.views.app.{AppLook.TheVariants.{RefillInUse, NotQuiet as not_quiet}, AppView.{AppView}}
 use Rattle.flow_queues.specs.{Core.{Each, IsIn, OnlyReads}, Ends.{HasLeft}, Returned.{HasReturned}}
 use Rattle.zc_poll.specs.declared.{step.Lent.{Lent}, to_shelf.Rests.{Rests, TheVariants.{Stream, RefillFull, NotQuiet, NoNotice}}}
 use Rattle.zc_poll.specs.declared.{step.Step.TheVariants.{Waiting, Memory, Ended as stream_ended}, to_shelf.{Poured.{Poured}, PollTurn.{PollTurn}}}
-use Rattle.zc_poll.specs.{declared.to_shelf.PollTurn.TheVariants.{Did, Idle, Ended}, Fresh.{has_left}, Standing.{Desk}, Steps.{OnlySteps, Steps, IsItem}}
+use Rattle.zc_poll.specs.{declared.to_shelf.PollTurn.TheVariants.{Did, Idle, Ended}, Fresh.{has_left}, Standing.{Desk}, Steps.{OnlySteps, Scrubs, Steps, IsItem}}
 use Rattle.zc_poll.specs.PourTurns.{IsTold, pour_end}
-use Rattle.zc_forward.specs.{declared.sent.Sent.{Sent}, Tags.{Tags, TakesTag}, Sending.{OutboxState, is_held, most_out, without_uncarried}, Forwarding.{ForwardStands}}
+use Rattle.zc_forward.specs.{declared.sent.Sent.{Sent}, Tags.{Tags, TakesTag}, Sending.{OutboxState, is_held, most_out, without_uncarried, many_kept}}
+use Rattle.zc_forward.specs.{Forwarding.{ForwardStands}, Asking.{AskedBy}}
 
 -- what a turn looks at: what is kept, the stream's desk, the tags that are out, how often the carrier had no notice, and the view
 pub record Stage : Type 0 where
@@ -45,6 +46,7 @@ pub record Told (was now : Stage) : Type 0 where
   pub took : TakesTag was.tags now.tags (Some sent.tag)
   pub back : GoesBack sent.loan now.work was.view now.view
   pub desk : now.desk ≡ was.desk
+  pub pressed : now.work.pressed ≡ was.work.pressed
 
 -- An item's bytes were read. Its tag went out with its loan; or there was no memory to count them, and the stream stopped; or
 -- the carrier failed, and then no tag and no loan is out, none was given back, and the stream stopped.
@@ -54,6 +56,7 @@ pub record CarriedItem (was now : Stage) : Type 0 where
   pub lent : Lent
   pub item : IsItem was.desk desk was.view view lent
   pub only : OnlySteps was.view view
+  pub pressed : now.work.pressed ≡ false
   pub read : AppView
   pub reads : OnlyReads view read
   pub went : ((now.desk ≡ desk) × (now.view ≡ read) × (tag : ℕ) × (lookup (nat_eq tag) was.tags ≡ None)
@@ -63,26 +66,62 @@ pub record CarriedItem (was now : Stage) : Type 0 where
       × (((now.view ≡ record view { helds = [] }) × (now.work.uncarried ≡ Some lent.loan) × (now.tags ≡ was.tags))
       ⊎ ((now.tags ≡ []) × (now.view ≡ record read { helds = []; loans = []; returned = now.view.returned }))))
 
--- A notice came, or the loan that was due was given back, or the stream gave an item, had no memory, or was told for the first time
--- that no note comes any more.
+-- The stream was stopped, and no tag is out. The loan that wasn't carried was given up, and the user counts were scrubbed, or a
+-- refill slot was seen in use.
+pub record Scrubbed (was now : Stage) : Type 0 where
+  pub stopped : was.desk.stopped ≡ true
+  pub out : was.work.out ≡ []
+  pub work : now.work ≡ record was.work { uncarried = None }
+  pub done : Bool
+  pub scrubs : Scrubs was.desk now.desk (without_uncarried was.work.uncarried was.view) now.view done
+  pub tags : now.tags ≡ was.tags
+  pub looks : now.looks ≡ was.looks
+
+abbrev pub ScrubsFirst : Stage → Stage → Type 0
+ScrubsFirst was now = (now ≡ was) ⊎ Scrubbed was now
+
+-- The stream gave an item, had no memory, or was told for the first time that no note comes any more; or it waits.
+abbrev pub StepDoes : Stage → Stage → PollTurn → Type 0
+StepDoes was now Did = (was.desk.ended ≡ false) × (CarriedItem was now
+    ⊎ ((now.tags ≡ was.tags) × OnlySteps was.view now.view × ((Steps was.desk now.desk was.view now.view Memory × (now.work.pressed ≡ false))
+    ⊎ (Steps was.desk now.desk was.view now.view stream_ended × (now.work.pressed ≡ true)))))
+StepDoes was now (Idle (Stream why)) = (now.tags ≡ was.tags) × OnlySteps was.view now.view × Steps was.desk now.desk was.view now.view (Waiting why)
+    × (now.work.pressed ≡ is_held why)
+StepDoes was now other = ⊥
+
+-- so it took a step, once it had scrubbed where it should
+pub record TookStep (was now : Stage) (ran : PollTurn) : Type 0 where
+  pub stage : Stage
+  pub first : ScrubsFirst was stage
+  pub does : StepDoes stage now ran
+
+-- A notice came, or the loan that was due was given back, or a step was taken.
 abbrev pub Does : Stage → Stage → Type 0
 Does was now = Told was now
-    ⊎ (((loan : Place) × (was.work.tally.due ≡ Some loan) × (now.work.tally.due ≡ None) × (now.view ≡ gave was.view loan) × (now.tags ≡ was.tags))
-    ⊎ ((was.desk.ended ≡ false) × (CarriedItem was now
-    ⊎ ((now.tags ≡ was.tags) × OnlySteps was.view now.view × (Steps was.desk now.desk was.view now.view Memory
-    ⊎ (Steps was.desk now.desk was.view now.view stream_ended × (now.work.pressed ≡ true)))))))
+    ⊎ (((loan : Place) × (was.work.tally.due ≡ Some loan) × (now.work.tally.due ≡ None) × (now.view ≡ gave was.view loan) × (now.tags ≡ was.tags)
+    × (now.work.pressed ≡ was.work.pressed))
+    ⊎ TookStep was now Did)
 
 -- The stream waits; or the carrier had no notice while no more loans may go out, or no note comes any more; or a refill slot was seen
 -- in use, that of the loan that is due, or any one as it was to leave.
 abbrev pub Idles : Rests → Stage → Stage → Type 0
-Idles (Stream why) was now = (was.work.tally.due ≡ None) × (now.tags ≡ was.tags) × OnlySteps was.view now.view
-    × Steps was.desk now.desk was.view now.view (Waiting why) × (now.work.pressed ≡ is_held why)
+Idles (Stream why) was now = (was.work.tally.due ≡ None) × TookStep was now (Idle (Stream why))
 Idles NoNotice was now = (was.work.tally.due ≡ None) × (now.tags ≡ was.tags) × (now.view ≡ was.view) × Rose was.looks now.looks
-    × ((length was.work.out ≡ most_out) ⊎ (was.desk.ended ≡ true))
+    × ((many_kept was.work ≡ most_out) ⊎ ((was.desk.ended ≡ true) × (was.work.out ≢ []))) × (now.work.pressed ≡ was.work.pressed)
 Idles RefillFull was now = (was.work.tally.due ≢ None) × (now.tags ≡ was.tags) × AppOnlySaw RefillInUse was.view now.view × HasWrittenRingful was.view
+    × (now.work.pressed ≡ was.work.pressed)
 Idles NotQuiet was now = (was.work.tally.due ≡ None) × (was.tags ≡ []) × (was.desk.ended ≡ true)
     × AppOnlySaw not_quiet (without_uncarried was.work.uncarried was.view) now.view
-    × HasWritten (without_uncarried was.work.uncarried was.view)
+    × HasWritten (without_uncarried was.work.uncarried was.view) × (now.work.pressed ≡ was.work.pressed)
+
+-- The carrier was asked for a notice as it should, and told of the loan that went back; or it had none, and then it is as that left it
+-- but for an item that was carried.
+pub record Asks {C : Type 0} (answers : Bool → C → C → Option ℕ → Type 0) (tags_at : C → Tags) (was now : Stage) (old new : C) : Type 0 where
+  pub asked : C
+  pub told : Option ℕ
+  pub by : AskedBy answers was.work old asked told
+  pub took : TakesTag (tags_at old) (tags_at asked) told
+  pub rest : MatchOption told ((new ≡ asked) ⊎ CarriedItem was now) (λ tag. (new ≡ asked) × Told was now)
 
 abbrev pub TurnDoes : Stage → Stage → PollTurn → Type 0
 TurnDoes was now Did = Does was now
@@ -93,7 +132,8 @@ TurnDoes was now (Ended poured) = (was.work.tally.due ≡ None) × (was.tags ≡
     × Each (λ f. 0 < f.1) poured.flows.items
 
 -- It goes on, or has left with what any application owes that isn't to quit, and keeps no loan and writes no raw entry.
-abbrev pub ForwardGives : (ℕ → Option (List ℕ)) → ℕ → OutboxState → Desk → Tags → (ℕ → Option (List ℕ)) → ℕ → AppView → PollTurn → Type 0
+abbrev pub ForwardGives : (ℕ → Option (List ℕ)) → ShelfCounts → OutboxState → Desk → Tags → (ℕ → Option (List ℕ)) → ShelfCounts → AppView
+    → PollTurn → Type 0
 ForwardGives first losses w st tags got losses_now v (Ended poured) =
     (how : Behaviour) → (how.quit ≡ None → HasLeft how first got losses losses_now v (pour_end poured))
     × (how.leak ≡ 0 → how.stray ≡ 0 → HasReturned how poured.stopped poured.written v)
@@ -108,7 +148,8 @@ pub record ForwardView (F C : Type 0) : Type 0 where
   pub work : OutboxState
 
 -- what a poll gives and does is what one turn gives and does
-abbrev pub PollForwards : (ℕ → Option (List ℕ)) → ℕ → OutboxState → Desk → Tags → (ℕ → Option (List ℕ)) → ℕ → AppView → Poll Poured → Type 0
+abbrev pub PollForwards : (ℕ → Option (List ℕ)) → ShelfCounts → OutboxState → Desk → Tags → (ℕ → Option (List ℕ)) → ShelfCounts → AppView
+    → Poll Poured → Type 0
 PollForwards first losses w st tags got losses_now v (Ready poured) = ForwardGives first losses w st tags got losses_now v (Ended poured)
 PollForwards first losses w st tags got losses_now v Pending = ForwardStands first losses w st tags got losses_now v
 

@@ -2,7 +2,7 @@
 ghost use Rattle.std.specs.Prelude.{◌≡◌, IfNone, None};
 ghost use Rattle.futures.specs.Task.{Keeps};
 ghost use Rattle.zr_io.specs.Moved.{Rose};
-ghost use Rattle.zc_forward.specs.{OutboxOf.{outbox_of}, Asking.{Asked}};
+ghost use Rattle.zc_forward.specs.{OutboxOf.{outbox_of}, Asking.{Asked, AskedBy}};
 
 use crate::carrier::Carrier;
 use crate::outbox::{Outbox, is_urgent};
@@ -10,9 +10,10 @@ use futures::task::{Context, Poll};
 
 /// Asks for a notice.
 pub fn ask<C: Carrier>(carrier: &mut C, work: &Outbox) -> Option<u32>
+    ensures by { AskedBy C.answers (outbox_of work.now) carrier.old carrier.new result }
     ensures asked { Asked (outbox_of work.now) (C.got carrier.old) (C.got carrier.new) (C.tags carrier.old) (C.tags carrier.new) result }
     ensures looked { IfNone result (work.now.tally.due ≡ None → Rose (C.looks carrier.old) (C.looks carrier.new)) }
-    ensures faults { C.faults carrier.new ≡ C.faults carrier.old }
+    ensures counts { C.counts carrier.new ≡ C.counts carrier.old }
 {
     if work.tally.due.is_some() {
         return None;
@@ -22,9 +23,10 @@ pub fn ask<C: Carrier>(carrier: &mut C, work: &Outbox) -> Option<u32>
 
 /// Asks for a notice by a poll.
 pub fn poll_ask<C: Carrier>(carrier: &mut C, work: &Outbox, cx: &mut Context<'_>) -> Option<u32>
+    ensures by { AskedBy C.answers (outbox_of work.now) carrier.old carrier.new result }
     ensures asked { Asked (outbox_of work.now) (C.got carrier.old) (C.got carrier.new) (C.tags carrier.old) (C.tags carrier.new) result }
     ensures looked { IfNone result (work.now.tally.due ≡ None → Rose (C.looks carrier.old) (C.looks carrier.new)) }
-    ensures faults { C.faults carrier.new ≡ C.faults carrier.old }
+    ensures counts { C.counts carrier.new ≡ C.counts carrier.old }
     ensures kept { Keeps cx.old cx.new }
 {
     if work.tally.due.is_some() {

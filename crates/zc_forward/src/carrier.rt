@@ -1,13 +1,13 @@
-ghost use Rattle.std.specs.{Prelude.{◌≡◌, ◌≢◌, ◌<◌, ◌≤◌, ℕ, List, [], ◌∷◌, ◌++◌, Option, length, nat_eq, is_ok, if◌then◌else◌, IfNone, IfSome, IsSome, None, Some}, Map.{lookup}, Io.KnownBytes.{Keeps as KeepsBytes}};
+ghost use Rattle.std.specs.{Prelude.{◌≡◌, ◌≢◌, ◌<◌, ◌≤◌, ℕ, List, [], ◌∷◌, ◌++◌, Option, length, nat_eq, is_ok, if◌then◌else◌, IfNone, IfSome, IsSome, None, Some, ⊤, Bool}, Map.{lookup}, Io.KnownBytes.{Keeps as KeepsBytes}};
 ghost use Rattle.futures.specs.{Poll.{IfReady, OnPending}, Task.{Covers, Keeps}};
-ghost use Rattle.zr_io.specs.Moved.{AddsPiece, HasCause, Rose};
-ghost use Rattle.zc_forward.specs.Tags.{FlowsKeep, Tags, TakesTag};
+ghost use Rattle.zr_io.specs.Moved.{AddsPiece, CountsPiece, HasCause, Rose, ShelfCounts};
+ghost use Rattle.zc_forward.specs.Tags.{FlowsKeep, Tags, TakesTag, polled};
 
 use futures::task::{Context, Poll};
 use zr_io::Failed;
 
-/// Carries the bytes of lent buffers away. A buffer goes by a tag: while the tag is out the carrier may read the buffer, and by
-/// its notice the buffer's owner may have it back.
+/// Carries bytes of lent buffers away, piece by piece as they are handed to `carry`, and each buffer's by a tag. The loan is kept
+/// until the carrier's notice of the tag.
 pub trait Carrier {
     /// What each flow got, where the carrier tells it.
     ghost got: { Self → ℕ → Option (List ℕ) };
@@ -15,11 +15,18 @@ pub trait Carrier {
     /// The tags that are out, each with its flow.
     ghost tags: { Self → Tags };
 
-    /// How often it has failed. It rises in a call that fails, and stands still in one that succeeds.
-    ghost faults: { Self → ℕ };
+    /// How often it has failed, which rises in a call that fails and stands still in one that succeeds; and how many bytes the
+    /// calls that succeeded carried.
+    ghost counts: { Self → ShelfCounts };
 
     /// How often it was asked for a notice and had none.
     ghost looks: { Self → ℕ };
+
+    /// How it may answer where it is asked for a notice, with urge or without: from one state to another.
+    ghost answers: { Bool → Self → Self → Option ℕ → Type 0 } = { λ _ _ _ _. ⊤ };
+
+    /// The sources at which a poll that is pending has registered, beside those that it doesn't name.
+    ghost needs: { Self → ℕ → Type 0 } = { λ _ _. ⊥ };
 
     /// A tag goes out. `Failed` changes nothing.
     fn begin(&mut self, tag: u32, flow: u32) -> Result<(), Failed>
@@ -27,7 +34,8 @@ pub trait Carrier {
         requires few { length (tags self.old) < 64 }
         ensures tags { tags self.new ≡ (if is_ok result then tags self.old ++ (tag, flow) ∷ [] else tags self.old) }
         ensures got { FlowsKeep (got self.old) (got self.new) }
-        ensures cause { HasCause (faults self.old) (faults self.new) result }
+        ensures cause { HasCause (counts self.old).faults (counts self.new).faults result }
+        ensures counted { (counts self.new).appended ≡ (counts self.old).appended }
         ensures looks { looks self.old ≤ looks self.new };
 
     /// Carries a piece of the tag's buffer, or at `Failed` a front of it. Other flows stay as they were.
@@ -36,32 +44,35 @@ pub trait Carrier {
         ensures bytes { IfSome (lookup (nat_eq tag) (tags self.old)) (λ flow. AddsPiece (got self.old flow) (got self.new flow) result piece.now) }
         ensures others { IfSome (lookup (nat_eq tag) (tags self.old)) (λ flow. (other : ℕ) → other ≢ flow → KeepsBytes (got self.old other) (got self.new other)) }
         ensures tags { tags self.new ≡ tags self.old }
-        ensures cause { HasCause (faults self.old) (faults self.new) result }
+        ensures cause { HasCause (counts self.old).faults (counts self.new).faults result }
+        ensures counted { CountsPiece (counts self.old).appended (counts self.new).appended result piece.now }
         ensures looks { looks self.old ≤ looks self.new };
 
     /// A tag whose buffer the carrier needs no more. It is out no longer. With `urge` it is told as soon as it can be.
     fn notice(&mut self, urge: bool) -> Option<u32>
         ensures told { TakesTag (tags self.old) (tags self.new) result }
+        ensures answers { answers urge self.old self.new result }
         ensures looked { IfNone result (Rose (looks self.old) (looks self.new)) }
         ensures got { FlowsKeep (got self.old) (got self.new) }
-        ensures faults { faults self.new ≡ faults self.old }
+        ensures counts { counts self.new ≡ counts self.old }
         ensures looks { looks self.old ≤ looks self.new };
 
     /// As `notice`, for a task: a poll that is pending has registered for another.
     fn poll_notice(&mut self, cx: &mut Context<'_>, urge: bool) -> Poll<u32>
         ensures told { IfReady result (λ tag. TakesTag (tags self.old) (tags self.new) (Some tag)) }
+        ensures answers { answers urge self.old self.new (polled result) }
         ensures none { OnPending result (tags self.new ≡ tags self.old) }
         ensures looked { OnPending result (Rose (looks self.old) (looks self.new)) }
-        ensures registered { OnPending result (Covers cx.new (λ source. ⊥)) }
+        ensures registered { OnPending result (Covers cx.new (needs self.new)) }
         ensures kept { Keeps cx.old cx.new }
         ensures got { FlowsKeep (got self.old) (got self.new) }
-        ensures faults { faults self.new ≡ faults self.old }
+        ensures counts { counts self.new ≡ counts self.old }
         ensures looks { looks self.old ≤ looks self.new };
 
     /// All tags are out no longer, without a notice.
     fn cancel(&mut self)
         ensures tags { tags self.new ≡ [] }
         ensures got { FlowsKeep (got self.old) (got self.new) }
-        ensures faults { faults self.new ≡ faults self.old }
+        ensures counts { counts self.new ≡ counts self.old }
         ensures looks { looks self.old ≤ looks self.new };
 }

@@ -1,7 +1,7 @@
 //! A loan is handed to a carrier, and loans are given up.
 ghost use Rattle.std.specs.{Prelude.{◌≡◌, ◌≢◌, ◌<◌, ◌≤◌, ℕ, List, [], ◌∷◌, ◌++◌, length, nat_eq, None, Some, true}, Map.{lookup}, Io.KnownBytes.{Keeps}};
 ghost use Rattle.zr_kinds.specs.declared.{place.Place.{Place}, behaviour.Stopped.TheVariants.{Write}};
-ghost use Rattle.zr_io.specs.Moved.{Gained, Rose};
+ghost use Rattle.zr_io.specs.Moved.{Gained, Rose, raised_by};
 ghost use Rattle.board_face.specs.{AppCalls.{HasLoan}, declared.views.app.{LentPiece.{LentPiece}, AppView.{AppView}}};
 ghost use Rattle.flow_queues.specs.{declared.queues.Lending.{Lending}, Core.{total, IsIn, lent_piece, OnlyReads, IsReadOf}};
 ghost use Rattle.zc_poll.specs.{Standing.{StreamStands}, Items.{Given, HasGiven}};
@@ -37,9 +37,10 @@ fn carry_loan<F: AppFace, C: Carrier>(
         (λ (read : List ℕ). IsReadOf (F.seen stream.old.face).taken (F.seen stream.new.face).reads lending result sent.now.loan.len read) }
     ensures others { (other : ℕ) → other ≢ sent.now.flow → Keeps (C.got carrier.old other) (C.got carrier.new other) }
     ensures tags { C.tags carrier.new ≡ C.tags carrier.old }
-    ensures later { C.faults carrier.old ≤ C.faults carrier.new }
-    ensures still { result ≡ sent.now.loan.len → C.faults carrier.new ≡ C.faults carrier.old }
-    ensures cause { result < sent.now.loan.len → Rose (C.faults carrier.old) (C.faults carrier.new) }
+    ensures later { (C.counts carrier.old).faults ≤ (C.counts carrier.new).faults }
+    ensures still { result ≡ sent.now.loan.len → (C.counts carrier.new).faults ≡ (C.counts carrier.old).faults }
+    ensures cause { result < sent.now.loan.len → Rose (C.counts carrier.old).faults (C.counts carrier.new).faults }
+    ensures appended { (C.counts carrier.new).appended ≡ raised_by (C.counts carrier.old).appended result }
     ensures looks { C.looks carrier.old ≤ C.looks carrier.new }
     ensures beside { F.beside stream.new.face ≡ F.beside stream.old.face }
 {
@@ -75,9 +76,10 @@ pub fn send<F: AppFace, C: Carrier>(stream: &mut LoanStream<F>, carrier: &mut C,
         (λ (read : List ℕ). IsReadOf (F.seen stream.old.face).taken (F.seen stream.new.face).reads lending result sent.now.loan.len read) }
     ensures others { (other : ℕ) → other ≢ sent.now.flow → Keeps (C.got carrier.old other) (C.got carrier.new other) }
     ensures tags { result ≡ sent.now.loan.len → C.tags carrier.new ≡ C.tags carrier.old ++ (sent.now.tag, sent.now.flow) ∷ [] }
-    ensures later { C.faults carrier.old ≤ C.faults carrier.new }
-    ensures still { result ≡ sent.now.loan.len → C.faults carrier.new ≡ C.faults carrier.old }
-    ensures cause { result < sent.now.loan.len → Rose (C.faults carrier.old) (C.faults carrier.new) }
+    ensures later { (C.counts carrier.old).faults ≤ (C.counts carrier.new).faults }
+    ensures still { result ≡ sent.now.loan.len → (C.counts carrier.new).faults ≡ (C.counts carrier.old).faults }
+    ensures cause { result < sent.now.loan.len → Rose (C.counts carrier.old).faults (C.counts carrier.new).faults }
+    ensures appended { (C.counts carrier.new).appended ≡ raised_by (C.counts carrier.old).appended result }
     ensures looks { C.looks carrier.old ≤ C.looks carrier.new }
     ensures beside { F.beside stream.new.face ≡ F.beside stream.old.face }
 {
@@ -88,7 +90,7 @@ pub fn send<F: AppFace, C: Carrier>(stream: &mut LoanStream<F>, carrier: &mut C,
 }
 
 /// Gives up all loans that are out by their tags.
-fn give_up<F: AppFace>(stream: &mut LoanStream<F>, out: &mut Vec<Sent>)
+pub fn give_up<F: AppFace>(stream: &mut LoanStream<F>, out: &mut Vec<Sent>)
     requires stands { StreamStands stream.old.desk (F.seen stream.old.face) }
     requires loans { (f : Place → ℕ) → total (λ (l : LentPiece). f l.place) (F.seen stream.old.face).loans ≡ of_sent f out.old.items }
     ensures stands { StreamStands stream.new.desk (F.seen stream.new.face) }
@@ -116,7 +118,7 @@ pub fn fail<F: AppFace, C: Carrier>(stream: &mut LoanStream<F>, carrier: &mut C,
         × (work.new.uncarried ≡ work.old.uncarried) × (work.new.pressed ≡ work.old.pressed) }
     ensures tags { C.tags carrier.new ≡ [] }
     ensures got { FlowsKeep (C.got carrier.old) (C.got carrier.new) }
-    ensures faults { C.faults carrier.new ≡ C.faults carrier.old }
+    ensures counts { C.counts carrier.new ≡ C.counts carrier.old }
     ensures looks { C.looks carrier.old ≤ C.looks carrier.new }
     ensures beside { F.beside stream.new.face ≡ F.beside stream.old.face }
 {

@@ -1,11 +1,11 @@
 //! The parts of a turn of forwarding.
-ghost use Rattle.std.specs.Prelude.{◌≡◌, ◌≢◌, ◌+◌, ◌<◌, ◌≤◌, ℕ, List, [], length, Option, Some, None, true, false, vec_capacity, IfSome};
-ghost use Rattle.zr_io.specs.Moved.{Rose};
+ghost use Rattle.std.specs.Prelude.{◌≡◌, ◌≢◌, ◌+◌, ◌<◌, ◌≤◌, ℕ, List, [], length, Option, Some, None, true, false, vec_capacity, IfSome, ◌⊎◌, MatchOption};
+ghost use Rattle.zr_io.specs.Moved.{Rose, ShelfCounts};
 ghost use Rattle.board_face.specs.{AppCalls.{HasLoan}, AppEvents.{app_gist}, declared.views.app.{LentPiece.{LentPiece}, AppView.{AppView}}};
-ghost use Rattle.zr_kinds.specs.declared.place.Place.{Place};
+ghost use Rattle.zr_kinds.specs.declared.{place.Place.{Place}, behaviour.Stopped.TheVariants.{No}};
 ghost use Rattle.flow_queues.specs.Core.{total};
-ghost use Rattle.zc_poll.specs.{Standing.{Desk, StreamStands}, Steps.{IsItem, OnlySteps}, PourTurns.{IsTold}};
-ghost use Rattle.zc_forward.specs.{Tags.{Tags, TakesTag}, OutboxOf.{outbox_of}, Sending.{most_out, of_sent, tags_of, without_uncarried}, Forwarding.{ForwardStands}, Turns.{ForwardGives, GivesBack, CarriedItem, Told, TurnDoes, stage_of, with_due}};
+ghost use Rattle.zc_poll.specs.{Standing.{Desk, StreamStands}, Steps.{IsItem, OnlySteps}, PourTurns.{IsTold, ScrubsIfQuiet}};
+ghost use Rattle.zc_forward.specs.{Tags.{Tags, TakesTag}, OutboxOf.{outbox_of}, Sending.{most_out, of_sent, tags_of, without_uncarried}, Forwarding.{ForwardStands}, Turns.{ForwardGives, GivesBack, CarriedItem, ScrubsFirst, StepDoes, Told, TurnDoes, stage_of, with_due}};
 
 use crate::carrier::Carrier;
 use crate::carrying::{fail, send};
@@ -20,7 +20,7 @@ fn give_back<F: AppFace>(stream: &mut LoanStream<F>, work: &mut Outbox, loan: Lo
     requires stands { StreamStands stream.old.desk (F.seen stream.old.face) }
     requires out { HasLoan (F.seen stream.old.face) loan }
     requires due { work.old.tally.due ≡ None }
-    ensures gives { (first got : ℕ → Option (List ℕ)) (losses now : ℕ) (tags : Tags)
+    ensures gives { (first got : ℕ → Option (List ℕ)) (losses now : ShelfCounts) (tags : Tags)
         → ForwardStands first losses (with_due (outbox_of work.old) (Some loan)) stream.old.desk tags got now (F.seen stream.old.face)
         → ForwardStands first losses (outbox_of work.new) stream.new.desk tags got now (F.seen stream.new.face) }
     ensures back { GivesBack loan (outbox_of work.old) (outbox_of work.new) (F.seen stream.old.face) (F.seen stream.new.face) result }
@@ -40,11 +40,11 @@ fn give_back<F: AppFace>(stream: &mut LoanStream<F>, work: &mut Outbox, loan: Lo
 
 /// Gives the loan back whose tag the carrier told.
 fn take_notice<F: AppFace>(stream: &mut LoanStream<F>, work: &mut Outbox, tag: u32)
-    requires stands { (first got : ℕ → Option (List ℕ)) × (losses now : ℕ) × (was tags : Tags)
+    requires stands { (first got : ℕ → Option (List ℕ)) × (losses now : ShelfCounts) × (was tags : Tags)
         × ForwardStands first losses (outbox_of work.old) stream.old.desk was got now (F.seen stream.old.face)
         × TakesTag was tags (Some tag) }
     requires due { work.old.tally.due ≡ None }
-    ensures gives { (first got : ℕ → Option (List ℕ)) (losses now : ℕ) (was tags : Tags)
+    ensures gives { (first got : ℕ → Option (List ℕ)) (losses now : ShelfCounts) (was tags : Tags)
         → ForwardStands first losses (outbox_of work.old) stream.old.desk was got now (F.seen stream.old.face)
         → TakesTag was tags (Some tag)
         → ForwardStands first losses (outbox_of work.new) stream.new.desk tags got now (F.seen stream.new.face) }
@@ -59,7 +59,7 @@ fn take_notice<F: AppFace>(stream: &mut LoanStream<F>, work: &mut Outbox, tag: u
 }
 
 /// Gives the loan up that wasn't carried.
-fn give_up_uncarried<F: AppFace>(stream: &mut LoanStream<F>, work: &mut Outbox)
+pub fn give_up_uncarried<F: AppFace>(stream: &mut LoanStream<F>, work: &mut Outbox)
     requires stands { StreamStands stream.old.desk (F.seen stream.old.face) }
     requires out { IfSome work.old.uncarried (λ loan. HasLoan (F.seen stream.old.face) loan) }
     ensures stands { StreamStands stream.new.desk (F.seen stream.new.face) }
@@ -75,18 +75,19 @@ fn give_up_uncarried<F: AppFace>(stream: &mut LoanStream<F>, work: &mut Outbox)
 
 /// Lets the face leave, once all is given back. A loan that wasn't carried is given up before.
 fn leave<F: AppFace>(stream: &mut LoanStream<F>, work: &mut Outbox) -> PollTurn
-    requires stands { (first got : ℕ → Option (List ℕ)) × (losses now : ℕ) × (tags : Tags)
+    requires stands { (first got : ℕ → Option (List ℕ)) × (losses now : ShelfCounts) × (tags : Tags)
         × ForwardStands first losses (outbox_of work.old) stream.old.desk tags got now (F.seen stream.old.face) }
     requires ended { stream.old.desk.ended ≡ true }
     requires none { work.old.out.items ≡ [] }
     requires due { work.old.tally.due ≡ None }
-    ensures gives { (first got : ℕ → Option (List ℕ)) (losses now : ℕ) (tags : Tags)
+    ensures gives { (first got : ℕ → Option (List ℕ)) (losses now : ShelfCounts) (tags : Tags)
         → ForwardStands first losses (outbox_of work.old) stream.old.desk tags got now (F.seen stream.old.face)
         → ForwardGives first losses (outbox_of work.new) stream.new.desk tags got now (F.seen stream.new.face) result }
-    ensures does { (first got : ℕ → Option (List ℕ)) (losses now : ℕ) (tags : Tags) (looks later : ℕ)
+    ensures does { (first got : ℕ → Option (List ℕ)) (losses now : ShelfCounts) (tags : Tags) (looks later : ℕ)
         → ForwardStands first losses (outbox_of work.old) stream.old.desk tags got now (F.seen stream.old.face)
         → TurnDoes (stage_of (outbox_of work.old) stream.old.desk tags looks (F.seen stream.old.face))
         (stage_of (outbox_of work.new) stream.new.desk tags later (F.seen stream.new.face)) result }
+    ensures scrubs { ScrubsIfQuiet (F.seen stream.old.face) (F.seen stream.new.face) }
     ensures told { IsTold (λ look. F.tells look (app_gist (F.seen stream.new.face)) (F.beside stream.new.face)) result }
     ensures same { (F.seen stream.new.face).app ≡ (F.seen stream.old.face).app }
     ensures beside { F.beside stream.new.face ≡ F.beside stream.old.face }
@@ -115,10 +116,10 @@ fn forward_item<F: AppFace, C: Carrier>(
     requires empty { work.old.tally.flows.items ≡ [] }
     requires loans { work.old.uncarried ≡ None
         × ((f : Place → ℕ) → total (λ (l : LentPiece). f l.place) (F.seen stream.old.face).loans ≡ f lent.loan + of_sent f work.old.out.items) }
-    ensures gives { (first : ℕ → Option (List ℕ)) (losses : ℕ) (st : Desk) (v : AppView)
-        → ForwardStands first losses (outbox_of work.old) st (C.tags carrier.old) (C.got carrier.old) (C.faults carrier.old) v
+    ensures gives { (first : ℕ → Option (List ℕ)) (losses : ShelfCounts) (st : Desk) (v : AppView)
+        → ForwardStands first losses (outbox_of work.old) st (C.tags carrier.old) (C.got carrier.old) (C.counts carrier.old) v
         → IsItem st stream.old.desk v (F.seen stream.old.face) lent → OnlySteps v (F.seen stream.old.face)
-        → ForwardStands first losses (outbox_of work.new) stream.new.desk (C.tags carrier.new) (C.got carrier.new) (C.faults carrier.new)
+        → ForwardStands first losses (outbox_of work.new) stream.new.desk (C.tags carrier.new) (C.got carrier.new) (C.counts carrier.new)
         (F.seen stream.new.face) }
     ensures had { (st : Desk) (v : AppView) (looks later : ℕ) → IsItem st stream.old.desk v (F.seen stream.old.face) lent
         → OnlySteps v (F.seen stream.old.face)
@@ -128,18 +129,24 @@ fn forward_item<F: AppFace, C: Carrier>(
     ensures same { (F.seen stream.new.face).app ≡ (F.seen stream.old.face).app }
     ensures beside { F.beside stream.new.face ≡ F.beside stream.old.face }
 {
+    let Lent {
+        flow,
+        position: _,
+        loan,
+        copied,
+    } = lent;
     work.pressed = false;
-    count_item(&mut work.tally, lent.copied);
-    if room_for(work, lent.flow).is_err() {
+    count_item(&mut work.tally, copied);
+    if room_for(work, flow).is_err() {
         stream.stop();
         work.tally.stopped = Stopped::Memory;
-        work.uncarried = Some(lent.loan);
+        work.uncarried = Some(loan);
         return;
     }
     let sent = Sent {
         tag: free_tag(&work.out),
-        flow: lent.flow,
-        loan: lent.loan,
+        flow,
+        loan,
     };
     let done = send(stream, carrier, &sent);
     count(&mut work.tally, sent.flow, done);
@@ -151,25 +158,29 @@ fn forward_item<F: AppFace, C: Carrier>(
 }
 
 /// Takes one step, and hands the item that it gave to the carrier.
-fn take_step<F: AppFace, C: Carrier>(
+fn step_once<F: AppFace, C: Carrier>(
     stream: &mut LoanStream<F>,
     carrier: &mut C,
     work: &mut Outbox,
 ) -> PollTurn
-    requires stands { (first : ℕ → Option (List ℕ)) × (losses : ℕ)
-        × ForwardStands first losses (outbox_of work.old) stream.old.desk (C.tags carrier.old) (C.got carrier.old) (C.faults carrier.old)
+    requires stands { (first : ℕ → Option (List ℕ)) × (losses : ShelfCounts)
+        × ForwardStands first losses (outbox_of work.old) stream.old.desk (C.tags carrier.old) (C.got carrier.old) (C.counts carrier.old)
         (F.seen stream.old.face) }
     requires more { stream.old.desk.ended ≡ false }
     requires none { work.old.tally.due ≡ None }
     requires few { length work.old.out.items < most_out }
-    ensures gives { (first : ℕ → Option (List ℕ)) (losses : ℕ)
-        → ForwardStands first losses (outbox_of work.old) stream.old.desk (C.tags carrier.old) (C.got carrier.old) (C.faults carrier.old)
+    ensures gives { (first : ℕ → Option (List ℕ)) (losses : ShelfCounts)
+        → ForwardStands first losses (outbox_of work.old) stream.old.desk (C.tags carrier.old) (C.got carrier.old) (C.counts carrier.old)
         (F.seen stream.old.face)
-        → ForwardGives first losses (outbox_of work.new) stream.new.desk (C.tags carrier.new) (C.got carrier.new) (C.faults carrier.new)
+        → ForwardGives first losses (outbox_of work.new) stream.new.desk (C.tags carrier.new) (C.got carrier.new) (C.counts carrier.new)
         (F.seen stream.new.face) result }
-    ensures does { (looks : ℕ) → TurnDoes (stage_of (outbox_of work.old) stream.old.desk (C.tags carrier.old) looks (F.seen stream.old.face))
+    ensures does { (looks : ℕ) → StepDoes (stage_of (outbox_of work.old) stream.old.desk (C.tags carrier.old) looks (F.seen stream.old.face))
         (stage_of (outbox_of work.new) stream.new.desk (C.tags carrier.new) (C.looks carrier.new) (F.seen stream.new.face)) result }
+    ensures only { stream.old.desk.stopped ≡ true → OnlySteps (F.seen stream.old.face) (F.seen stream.new.face) }
     ensures looks { C.looks carrier.old ≤ C.looks carrier.new }
+    ensures rest { (looks : ℕ) → (carrier.new ≡ carrier.old)
+        ⊎ CarriedItem (stage_of (outbox_of work.old) stream.old.desk (C.tags carrier.old) looks (F.seen stream.old.face))
+        (stage_of (outbox_of work.new) stream.new.desk (C.tags carrier.new) (C.looks carrier.new) (F.seen stream.new.face)) }
     ensures told { IsTold (λ look. F.tells look (app_gist (F.seen stream.new.face)) (F.beside stream.new.face)) result }
     ensures same { (F.seen stream.new.face).app ≡ (F.seen stream.old.face).app }
     ensures beside { F.beside stream.new.face ≡ F.beside stream.old.face }
@@ -195,6 +206,65 @@ fn take_step<F: AppFace, C: Carrier>(
     }
 }
 
+/// Scrubs where the stream was stopped and no tag is out, unless a refill slot is in use. The loan that wasn't carried is given up
+/// before.
+fn scrub_stopped<F: AppFace>(stream: &mut LoanStream<F>, work: &mut Outbox)
+    requires stands { (first got : ℕ → Option (List ℕ)) × (losses now : ShelfCounts) × (tags : Tags)
+        × ForwardStands first losses (outbox_of work.old) stream.old.desk tags got now (F.seen stream.old.face) }
+    requires due { work.old.tally.due ≡ None }
+    ensures gives { (first got : ℕ → Option (List ℕ)) (losses now : ShelfCounts) (tags : Tags)
+        → ForwardStands first losses (outbox_of work.old) stream.old.desk tags got now (F.seen stream.old.face)
+        → ForwardStands first losses (outbox_of work.new) stream.new.desk tags got now (F.seen stream.new.face) }
+    ensures first { (tags : Tags) (looks : ℕ) → ScrubsFirst (stage_of (outbox_of work.old) stream.old.desk tags looks (F.seen stream.old.face))
+        (stage_of (outbox_of work.new) stream.new.desk tags looks (F.seen stream.new.face)) }
+    ensures scrubs { work.old.tally.stopped ≢ No → work.old.out.items ≡ [] → ScrubsIfQuiet (F.seen stream.old.face) (F.seen stream.new.face) }
+    ensures work { work.new ≡ record work.old { uncarried = work.new.uncarried } }
+    ensures desk { (stream.new.desk.stopped ≡ stream.old.desk.stopped) × (stream.new.desk.ended ≡ stream.old.desk.ended) }
+    ensures same { (F.seen stream.new.face).app ≡ (F.seen stream.old.face).app }
+    ensures beside { F.beside stream.new.face ≡ F.beside stream.old.face }
+{
+    if work.tally.stopped == Stopped::No {
+        return;
+    }
+    if !work.out.is_empty() {
+        return;
+    }
+    give_up_uncarried(stream, work);
+    stream.scrub();
+}
+
+/// Takes a step, and scrubs before where the stream was stopped: also while notes still come.
+fn take_step<F: AppFace, C: Carrier>(
+    stream: &mut LoanStream<F>,
+    carrier: &mut C,
+    work: &mut Outbox,
+) -> PollTurn
+    requires stands { (first : ℕ → Option (List ℕ)) × (losses : ShelfCounts)
+        × ForwardStands first losses (outbox_of work.old) stream.old.desk (C.tags carrier.old) (C.got carrier.old) (C.counts carrier.old)
+        (F.seen stream.old.face) }
+    requires more { stream.old.desk.ended ≡ false }
+    requires none { work.old.tally.due ≡ None }
+    requires few { length work.old.out.items < most_out }
+    ensures gives { (first : ℕ → Option (List ℕ)) (losses : ShelfCounts)
+        → ForwardStands first losses (outbox_of work.old) stream.old.desk (C.tags carrier.old) (C.got carrier.old) (C.counts carrier.old)
+        (F.seen stream.old.face)
+        → ForwardGives first losses (outbox_of work.new) stream.new.desk (C.tags carrier.new) (C.got carrier.new) (C.counts carrier.new)
+        (F.seen stream.new.face) result }
+    ensures does { (looks : ℕ) → TurnDoes (stage_of (outbox_of work.old) stream.old.desk (C.tags carrier.old) looks (F.seen stream.old.face))
+        (stage_of (outbox_of work.new) stream.new.desk (C.tags carrier.new) (C.looks carrier.new) (F.seen stream.new.face)) result }
+    ensures looks { C.looks carrier.old ≤ C.looks carrier.new }
+    ensures rest { (looks : ℕ) → (carrier.new ≡ carrier.old)
+        ⊎ CarriedItem (stage_of (outbox_of work.old) stream.old.desk (C.tags carrier.old) looks (F.seen stream.old.face))
+        (stage_of (outbox_of work.new) stream.new.desk (C.tags carrier.new) (C.looks carrier.new) (F.seen stream.new.face)) }
+    ensures scrubs { work.old.tally.stopped ≢ No → work.old.out.items ≡ [] → ScrubsIfQuiet (F.seen stream.old.face) (F.seen stream.new.face) }
+    ensures told { IsTold (λ look. F.tells look (app_gist (F.seen stream.new.face)) (F.beside stream.new.face)) result }
+    ensures same { (F.seen stream.new.face).app ≡ (F.seen stream.old.face).app }
+    ensures beside { F.beside stream.new.face ≡ F.beside stream.old.face }
+{
+    scrub_stopped(stream, work);
+    step_once(stream, carrier, work)
+}
+
 /// Gives the loan of the notice that came back, or the one that is due; or takes a step, or lets the face leave.
 pub fn go_on<F: AppFace, C: Carrier>(
     stream: &mut LoanStream<F>,
@@ -202,19 +272,29 @@ pub fn go_on<F: AppFace, C: Carrier>(
     work: &mut Outbox,
     told: Option<u32>,
 ) -> PollTurn
-    requires stands { (first : ℕ → Option (List ℕ)) × (losses : ℕ) × (was : Tags) × TakesTag was (C.tags carrier.old) told
-        × ForwardStands first losses (outbox_of work.old) stream.old.desk was (C.got carrier.old) (C.faults carrier.old)
+    requires stands { (first : ℕ → Option (List ℕ)) × (losses : ShelfCounts) × (was : Tags) × TakesTag was (C.tags carrier.old) told
+        × ForwardStands first losses (outbox_of work.old) stream.old.desk was (C.got carrier.old) (C.counts carrier.old)
         (F.seen stream.old.face) }
     requires asked { told ≢ None → work.old.tally.due ≡ None }
-    ensures gives { (first : ℕ → Option (List ℕ)) (losses : ℕ) (was : Tags) → TakesTag was (C.tags carrier.old) told
-        → ForwardStands first losses (outbox_of work.old) stream.old.desk was (C.got carrier.old) (C.faults carrier.old)
+    ensures gives { (first : ℕ → Option (List ℕ)) (losses : ShelfCounts) (was : Tags) → TakesTag was (C.tags carrier.old) told
+        → ForwardStands first losses (outbox_of work.old) stream.old.desk was (C.got carrier.old) (C.counts carrier.old)
         (F.seen stream.old.face)
-        → ForwardGives first losses (outbox_of work.new) stream.new.desk (C.tags carrier.new) (C.got carrier.new) (C.faults carrier.new)
+        → ForwardGives first losses (outbox_of work.new) stream.new.desk (C.tags carrier.new) (C.got carrier.new) (C.counts carrier.new)
         (F.seen stream.new.face) result }
     ensures does { (was : Tags) (looks : ℕ) → TakesTag was (C.tags carrier.old) told
         → (told ≡ None → work.old.tally.due ≡ None → Rose looks (C.looks carrier.old))
         → TurnDoes (stage_of (outbox_of work.old) stream.old.desk was looks (F.seen stream.old.face))
         (stage_of (outbox_of work.new) stream.new.desk (C.tags carrier.new) (C.looks carrier.new) (F.seen stream.new.face)) result }
+    // The carrier isn't asked again.
+    ensures rest { (was : Tags) (looks : ℕ) → TakesTag was (C.tags carrier.old) told
+        → MatchOption told ((carrier.new ≡ carrier.old)
+        ⊎ CarriedItem (stage_of (outbox_of work.old) stream.old.desk was looks (F.seen stream.old.face))
+        (stage_of (outbox_of work.new) stream.new.desk (C.tags carrier.new) (C.looks carrier.new) (F.seen stream.new.face)))
+        (λ tag. (carrier.new ≡ carrier.old)
+        × Told (stage_of (outbox_of work.old) stream.old.desk was looks (F.seen stream.old.face))
+        (stage_of (outbox_of work.new) stream.new.desk (C.tags carrier.new) (C.looks carrier.new) (F.seen stream.new.face))) }
+    ensures scrubs { told ≡ None → work.old.tally.stopped ≢ No → work.old.tally.due ≡ None → work.old.out.items ≡ []
+        → ScrubsIfQuiet (F.seen stream.old.face) (F.seen stream.new.face) }
     ensures told { IsTold (λ look. F.tells look (app_gist (F.seen stream.new.face)) (F.beside stream.new.face)) result }
     ensures same { (F.seen stream.new.face).app ≡ (F.seen stream.old.face).app }
     ensures beside { F.beside stream.new.face ≡ F.beside stream.old.face }

@@ -1,8 +1,9 @@
 //! What holds of forwarding between any two of its turns. Nothing runs.
-ghost use Rattle.std.specs.Prelude.{◌≡◌, ℕ, List, Option};
+ghost use Rattle.std.specs.Prelude.{◌≡◌, ℕ, List, Option, ◌≤◌, length};
 ghost use Rattle.board_face.specs.AppCalls.{HasLoan};
 ghost use Rattle.flow_queues.specs.{Core.{Each}, Marks.{FramesStandTogether}, Streams.{HasFronts}};
-ghost use Rattle.zc_forward.specs.{Sending.{tags_of}, Forwarding.{ForwardStands}};
+ghost use Rattle.zc_forward.specs.{Sending.{tags_of, most_out}, Forwarding.{ForwardStands}};
+ghost use Rattle.zr_io.specs.Moved.{ShelfCounts};
 
 use crate::carrier::Carrier;
 use crate::forward::Forward;
@@ -11,12 +12,16 @@ use board_face::AppFace;
 /// What the carrier got for each flow since the begin is a front of the bytes at the flow's marks. While a tag is out its loan is out
 /// too, so its text stands.
 pub fn forward_law<F: AppFace, C: Carrier>(forward: &Forward<F, C>)
-    ensures fronts { (first : ℕ → Option (List ℕ)) (losses : ℕ)
+    ensures fronts { (first : ℕ → Option (List ℕ)) (losses : ShelfCounts)
         → ForwardStands first losses forward.now.work forward.now.desk (C.tags forward.now.carrier) (C.got forward.now.carrier)
-        (C.faults forward.now.carrier) (F.seen forward.now.face)
+        (C.counts forward.now.carrier) (F.seen forward.now.face)
         → FramesStandTogether (F.seen forward.now.face).taken → HasFronts first (C.got forward.now.carrier) (F.seen forward.now.face) }
-    ensures live { (first : ℕ → Option (List ℕ)) (losses : ℕ)
+    ensures live { (first : ℕ → Option (List ℕ)) (losses : ShelfCounts)
         → ForwardStands first losses forward.now.work forward.now.desk (C.tags forward.now.carrier) (C.got forward.now.carrier)
-        (C.faults forward.now.carrier) (F.seen forward.now.face)
+        (C.counts forward.now.carrier) (F.seen forward.now.face)
         → (C.tags forward.now.carrier ≡ tags_of forward.now.work.out) × Each (λ s. HasLoan (F.seen forward.now.face) s.loan) forward.now.work.out }
+    // At most 64 loans are out.
+    ensures few { (first : ℕ → Option (List ℕ)) (losses : ShelfCounts)
+        → ForwardStands first losses forward.now.work forward.now.desk (C.tags forward.now.carrier) (C.got forward.now.carrier)
+        (C.counts forward.now.carrier) (F.seen forward.now.face) → length (F.seen forward.now.face).loans ≤ most_out }
 {}

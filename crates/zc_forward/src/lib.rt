@@ -12,8 +12,11 @@ mod laws;
 mod outbox;
 mod sent;
 mod shelf_carrier;
+mod stopping;
+mod with_parts;
 
 pub use carrier::Carrier;
 pub use forward::Forward;
 pub use laws::forward_law;
 pub use shelf_carrier::ShelfCarrier;
+pub use with_parts::WithParts;

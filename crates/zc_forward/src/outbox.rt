@@ -1,7 +1,7 @@
 //! What forwarding keeps beside its stream and its carrier.
 ghost use Rattle.std.specs.{Prelude.{◌≡◌, ◌≤◌, ◌+◌, ◌==◌, [], length, vec_capacity, OnOk, IsSome}, Ordering.{nat_cmp}, BTreeMap.{get}};
 ghost use Rattle.zc_poll.specs.Counting.{AddsTo};
-ghost use Rattle.zc_forward.specs.{OutboxOf.{outbox_of}, Sending.{is_urgent as urgent, most_out}};
+ghost use Rattle.zc_forward.specs.{OutboxOf.{outbox_of}, Sending.{is_urgent as urgent, most_out, many_kept}};
 
 use crate::sent::{MOST, Sent};
 use board_face::Loan;
@@ -23,9 +23,14 @@ pub struct Outbox {
 
 /// Whether no more loans may go out.
 pub fn is_full(work: &Outbox) -> bool
-    ensures { result ≡ (length work.now.out.items == most_out) }
+    ensures { result ≡ (many_kept (outbox_of work.now) == most_out) }
 {
-    work.out.len() == MOST as usize
+    let most = if work.uncarried.is_some() {
+        MOST - 1
+    } else {
+        MOST
+    };
+    work.out.len() == most as usize
 }
 
 /// Whether the next notice is wanted soon.

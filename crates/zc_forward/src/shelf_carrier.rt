@@ -1,7 +1,7 @@
-ghost use Rattle.std.specs.{Prelude.{◌≡◌, ◌≢◌, ◌<◌, ◌≤◌, ℕ, [], ◌∷◌, ◌++◌, length, nat_eq, is_none, Ok, IfNone, IfSome, IsSome, None, Some}, Map.{lookup}, Io.KnownBytes.{Keeps as KeepsBytes}};
+ghost use Rattle.std.specs.{Prelude.{◌≡◌, ◌≢◌, ◌<◌, ◌≤◌, ℕ, [], ◌∷◌, ◌++◌, length, nat_eq, is_none, Ok, IfNone, IfSome, IsSome, None, Some, ⊤, true}, Map.{lookup}, Io.KnownBytes.{Keeps as KeepsBytes}};
 ghost use Rattle.futures.specs.{Poll.{IfReady, OnPending}, Task.{Covers, Keeps}};
-ghost use Rattle.zr_io.specs.Moved.{AddsPiece, HasCause, Rose};
-ghost use Rattle.zc_forward.specs.{Tags.{TakesTag}, Carriage.{TellsOldest, is_pending, is_waiting}};
+ghost use Rattle.zr_io.specs.Moved.{AddsPiece, CountsPiece, HasCause, Rose};
+ghost use Rattle.zc_forward.specs.{Tags.{TakesTag, polled}, Carriage.{TellsOldest, is_pending, is_waiting}};
 
 use crate::carrier::Carrier;
 use arrayvec::ArrayVec;
@@ -77,9 +77,13 @@ impl<T: Shelf> Carrier for ShelfCarrier<T> {
 
     ghost tags = { λ c. c.out };
 
-    ghost faults = { λ c. T.faults c.shelf };
+    ghost counts = { λ c. T.counts c.shelf };
 
     ghost looks = { λ c. c.looks };
+
+    ghost answers = { λ urge old new told. (is_none told ≡ is_waiting old urge) × TellsOldest old new told };
+
+    ghost needs = { λ _ _. ⊤ };
 
     /// It never fails.
     fn begin(&mut self, tag: u32, flow: u32) -> Result<(), Failed>
@@ -98,7 +102,8 @@ impl<T: Shelf> Carrier for ShelfCarrier<T> {
             (λ flow. AddsPiece (T.kept self.old.shelf flow) (T.kept self.new.shelf flow) result piece.now) }
         ensures others { IfSome (lookup (nat_eq tag) self.old.out)
             (λ flow. (other : ℕ) → other ≢ flow → KeepsBytes (T.kept self.old.shelf other) (T.kept self.new.shelf other)) }
-        ensures cause { HasCause (T.faults self.old.shelf) (T.faults self.new.shelf) result }
+        ensures cause { HasCause (T.counts self.old.shelf).faults (T.counts self.new.shelf).faults result }
+        ensures counted { CountsPiece (T.counts self.old.shelf).appended (T.counts self.new.shelf).appended result piece.now }
         ensures beside { self.new ≡ record self.old { shelf = self.new.shelf } }
     {
         let Some(flow) = flow_of(&self.out, tag) else {
@@ -133,7 +138,10 @@ impl<T: Shelf> Carrier for ShelfCarrier<T> {
         ensures pending { OnPending result (TellsOldest self.old self.new None) }
         ensures none { OnPending result (self.new.out ≡ self.old.out) }
         ensures looked { OnPending result (Rose self.old.looks self.new.looks) }
-        ensures registered { OnPending result (Covers cx.new (λ source. ⊥)) }
+        // A poll that is pending asks for another, whatever its sources do.
+        ensures woken { OnPending result (cx.new.is_woken ≡ true) }
+        ensures registered { OnPending result (Covers cx.new (λ source. ⊤)) }
+        ensures answers { (is_none (polled result) ≡ is_waiting self.old urge) × TellsOldest self.old self.new (polled result) }
         ensures kept { Keeps cx.old cx.new }
         ensures shelf { self.new.shelf ≡ self.old.shelf }
         ensures looks { self.old.looks ≤ self.new.looks }

@@ -1,5 +1,5 @@
 -- What stands between two steps stands behind the calls that take none.
-use Rattle.std.proofs.Common.{◌≡◌, ℕ, zero, suc, ◌+◌, ◌<◌, ◌≤◌, List, [], ◌∷◌, ◌++◌, length, map, get_or, length-append, refl, sym, ap, subst, ◌∙◌, arith, inl, inr, ⊎_elim}
+use Rattle.std.proofs.Common.{◌≡◌, ℕ, zero, suc, ◌+◌, ◌<◌, ◌≤◌, List, [], ◌∷◌, ◌++◌, length, map, get_or, length-append, refl, sym, ap, subst, ◌∙◌, arith, inl, inr, ⊎_elim, true, false}
 use Rattle.std.proofs.lemmas.Bool.{cases_lt}
 use Rattle.zr_kinds.specs.{declared.place.Place.{Place}, CopyingReceiver.{next_missing}}
 use Rattle.board_face.specs.{AppCalls.{HasLoan, ShowsCopy}, AppEvents.{app_saw, abandoned, gave, has_read, loan_origin}, declared.views.app.AppLook.{AppLook}}
@@ -9,7 +9,7 @@ use Rattle.flow_queues.specs.Core.{total, Each, IsIn, LieApart, lent_piece, over
 use Rattle.flow_queues.{specs.Marks.{marks_from}, proofs.Reading.{read-there}}
 use Rattle.flow_queues.proofs.Tokens.{total-append, in-total, is_that_loan, that-loan, is-lent-there, is-given, TokenGiven}
 use Rattle.flow_queues.{proofs.Standing.{each-left, each-right, each-join}, specs.{Totals.{taken_len}, Shelves.{FlowEnds}}}
-use Rattle.zc_poll.{specs.Standing.{Desk, Common, Going, IsWhole, StreamStands}, proofs.Views.{total-one}}
+use Rattle.zc_poll.{specs.{Standing.{Desk, Common, Going, IsWhole, StreamStands}, Fresh.{has_scrubbed}}, proofs.Views.{total-one}}
 
 -- these are the loans that are out
 pub record AreLoansOut (taken : List TakenNote) (loans : List LentPiece) (out : List Lending) : Type 0 where
@@ -22,7 +22,8 @@ without_step old x = record old { quiet = x.quiet; loans = x.loans; returned = x
 
 module _ (st : Desk) (old new : AppView) (view : new ≡ without_step old new) (apart : LieApart new)
     (counts : length new.loans + length new.returned ≡ length old.loans + length old.returned)
-    (goes : (out : List Lending) → AreLoansOut old.taken old.loans out → (later : List Lending) × AreLoansOut old.taken new.loans later) where
+    (goes : (out : List Lending) → AreLoansOut old.taken old.loans out → (later : List Lending) × AreLoansOut old.taken new.loans later)
+    (bare : (old.loans ≡ []) × (old.quiet ≡ true) → (new.loans ≡ []) × (new.quiet ≡ true)) where
   taken-kept : old.taken ≡ new.taken
   taken-kept = sym (ap (λ (v : AppView). v.taken) view)
 
@@ -31,6 +32,7 @@ module _ (st : Desk) (old new : AppView) (view : new ≡ without_step old new) (
     here = ap (λ (v : AppView). v.left) view ∙ common.here;
     settled = ap (λ (v : AppView). v.settled) view ∙ common.settled;
     counted = ap (λ (v : AppView). v.scrubbed) view ∙ common.counted;
+    bare = λ is. (let (stopped, loans, quiet) = common.bare is in let (none, free) = bare (loans, quiet) in (stopped, none, free));
     owns = ap (λ (v : AppView). v.owns) view ∙ common.owns;
     app = ap (λ (v : AppView). v.app) view ∙ common.app;
     ended = ap (λ (v : AppView). v.ended) view ∙ common.ended;
@@ -157,7 +159,8 @@ module _ (st : Desk) (v : AppView) (loan : Place) (stands : StreamStands st v) (
       let (x, there, place) = the-loan in
       let step = is-given v stands.common.apart x there in
       subst (StreamStands st) (sym e) (subst (λ (p : Place). StreamStands st (gave v p)) place
-      (stands-kept st v (gave v x.place) refl step.apart (went-back x step) (went-out v.taken v.loans (gave v x.place).loans x there step.loans) stands))
+      (stands-kept st v (gave v x.place) refl step.apart (went-back x step) (went-out v.taken v.loans (gave v x.place).loans x there step.loans)
+      (λ none. absurd (subst (IsIn x) none.0 there)) stands))
 
   pub stands-abandoned : (new : AppView) → new ≡ abandoned v loan → StreamStands st new
   stands-abandoned new e =
@@ -165,23 +168,24 @@ module _ (st : Desk) (v : AppView) (loan : Place) (stands : StreamStands st v) (
       let step = is-given v stands.common.apart x there in
       subst (StreamStands st) (sym e) (subst (λ (p : Place). StreamStands st (abandoned v p)) place
       (stands-kept st v (abandoned v x.place) refl (record { once = step.apart.once; some = step.apart.some })
-      (went-back x step) (went-out v.taken v.loans (abandoned v x.place).loans x there step.loans) stands))
+      (went-back x step) (went-out v.taken v.loans (abandoned v x.place).loans x there step.loans)
+      (λ none. absurd (subst (IsIn x) none.0 there)) stands))
 
 -- only what no step asks for changed
-pub stands-beside : (st : Desk) (old new : AppView) → new ≡ record old { quiet = new.quiet; reads = new.reads; looks = new.looks }
+pub stands-beside : (st : Desk) (old new : AppView) → new ≡ record old { reads = new.reads; looks = new.looks }
     → StreamStands st old → StreamStands st new
 stands-beside st old new e stands =
-    let w : AppView = record old { quiet = new.quiet; reads = new.reads; looks = new.looks } in
+    let w : AppView = record old { reads = new.reads; looks = new.looks } in
     subst (StreamStands st) (sym e) (stands-kept st old w refl (record { once = stands.common.apart.once; some = stands.common.apart.some }) refl
-    (λ out are. (out, are)) stands)
+    (λ out are. (out, are)) (λ is. is) stands)
 
 pub saw-stands : (st : Desk) (old new : AppView) (look : AppLook) → new ≡ app_saw old look → StreamStands st old → StreamStands st new
 saw-stands st old new look e stands = stands-beside st old new
-    (subst (λ (v : AppView). v ≡ record old { quiet = v.quiet; reads = v.reads; looks = v.looks }) (sym e) refl) stands
+    (subst (λ (v : AppView). v ≡ record old { reads = v.reads; looks = v.looks }) (sym e) refl) stands
 
 pub read-stands : (st : Desk) (old new : AppView) (reads : List Reading) → new ≡ record old { reads = reads } → StreamStands st old → StreamStands st new
 read-stands st old new reads e stands = stands-beside st old new
-    (subst (λ (v : AppView). v ≡ record old { quiet = v.quiet; reads = v.reads; looks = v.looks }) (sym e) refl) stands
+    (subst (λ (v : AppView). v ≡ record old { reads = v.reads; looks = v.looks }) (sym e) refl) stands
 
 -- what was read of a loan stands at its marks
 pub read-text : (old new : AppView) → LieApart old → (lending : Lending) (loan : Place) (from : ℕ) (text : List ℕ) → lending.loan ≡ loan
@@ -193,3 +197,25 @@ read-text old new apart lending loan from text same known out shows within view 
     (subst (λ (p : Place). AreReadAt old.taken (has_read old p from text).reads (marks_from lending.note (lending.at + from) (length text)) text) same
     (read-there old.taken old apart lending from text out known (subst (λ (p : Place). ShowsCopy (loan_origin old p) from text) (sym same) shows)
     (omega (arith, within, ap (λ (p : Place). p.len) same))))
+
+-- all was scrubbed
+pub scrubbed-stands : (st : Desk) (v new : AppView) → StreamStands st v → st.stopped ≡ true → v.loans ≡ [] → new ≡ has_scrubbed v
+    → StreamStands (record st { scrubbed = true }) new
+scrubbed-stands st v new stands stopped none e = subst (StreamStands (record st { scrubbed = true })) (sym e) (record {
+  common = record {
+    here = stands.common.here;
+    settled = stands.common.settled;
+    counted = refl;
+    bare = λ _. (stopped, none, refl);
+    owns = stands.common.owns;
+    app = stands.common.app;
+    ended = stands.common.ended;
+    apart = record { once = stands.common.apart.once; some = stands.common.apart.some };
+    found = stands.common.found;
+    distinct = stands.common.distinct;
+    few = stands.common.few;
+  };
+  going = λ on _. (let clash : true ≡ false = sym stopped ∙ on in absurd (cc));
+  released = stands.released;
+  whole = λ _ on. (let clash : true ≡ false = sym stopped ∙ on in absurd (cc));
+})

@@ -7,9 +7,8 @@ use Rattle.board_face.specs.declared.views.app.{TakenNote.{TakenNote}, AppView.{
 use Rattle.zr_kinds.specs.CopyingReceiver.{Placed, nothing_placed, values_from}
 use Rattle.tcp_reorder.{specs.{Queue.{IsSound, next_of}, Values.{AreSized, Holds}}, proofs.Holding.{IsPopped, Holds-popped}}
 use Rattle.flow_queues.specs.{declared.queues.{Lending.{Lending}, FlowQueue.{FlowQueue}}, Marks.{Mark, FramesStandTogether, marks_of}}
-use Rattle.flow_queues.specs.Core.{total, Each, many, IsIn, lent_piece, is_copy, one_copy, origin_in, over_waiting, held_len, short_len, over_kept, over_read, short_bytes, unsplit_len, own_notes, BeginAt, received_notes}
-use Rattle.flow_queues.specs.{Core.{placed_of, marks_of_waiting, marks_of_loan, IsOfNote, FlowStands, Stands}, Lent.{LentNext, SawNoSpare, spares_of}}
-use Rattle.flow_queues.specs.declared.queues.Waiting.{Waiting, TheVariants.{InArea, Copied}}
+use Rattle.flow_queues.specs.Core.{total, Each, many, IsIn, lent_piece, is_copy, one_copy, origin_in, over_waiting, held_len, short_len, over_kept, over_read, short_bytes, unsplit_len, own_notes, BeginAt, received_notes, placed_of, marks_of_waiting, marks_of_loan, IsOfNote, FlowStands, Stands}
+use Rattle.flow_queues.specs.{Lent.{LentNext, SawNoSpare, spares_of}, declared.queues.Waiting.{Waiting, TheVariants.{InArea, Copied}}}
 use Rattle.flow_queues.proofs.{Tokens.{total-append, in-contains, that-loan, is_that_loan, is-lent-there, loan-some}, Lends.{over-first, short-first, each-first}}
 use Rattle.flow_queues.proofs.{Entering.{marks-length}, Placing.{values-length, values-split}, NotesStay.{note-there}}
 use Rattle.flow_queues.proofs.Standing.{At, split-at, flow-out, each-right, each-changed, is_number, number-is, total-changed, many-same}
@@ -227,6 +226,7 @@ module _ (was : Desk) (old new : AppView) (own now : FlowQueue) (lending : Lendi
         here = ap (λ (v : AppView). v.left) step.view ∙ common.here;
         settled = ap (λ (v : AppView). v.settled) step.view;
         counted = ap (λ (v : AppView). v.scrubbed) step.view ∙ common.counted;
+        bare = λ is. (let clash : true ≡ false = sym (common.bare is).0 ∙ on in absurd (cc));
         owns = ap (λ (v : AppView). v.owns) step.view ∙ common.owns;
         app = ap (λ (v : AppView). v.app) step.view ∙ common.app;
         ended = ap (λ (v : AppView). v.ended) step.view ∙ common.ended;

@@ -19,3 +19,6 @@ pub mod PourTurns
 pub mod PourEnds
 pub mod PourNew
 pub mod Shown
+pub mod Scrubbing
+pub mod Waiting
+pub mod Stopping

@@ -37,14 +37,16 @@ module _ (was : Desk) (old new : AppView) (t : TakenNote) (stands : StreamStands
     items = λ gs given. subst (HasGiven gs now.flows) (sym taken-is) (items gs given);
   }
 
-  common-by : (now : Desk) → now.app ≡ was.app → now.ended ≡ false → Each (FlowEnds (old.taken ++ t ∷ [])) now.flows
+  common-by : (now : Desk) → now.app ≡ was.app → now.scrubbed ≡ was.scrubbed → now.stopped ≡ was.stopped → now.ended ≡ false → Each (FlowEnds (old.taken ++ t ∷ [])) now.flows
       → ((number : ℕ) → many number now.flows ≤ 1) → Common now new
-  common-by now app ended found distinct =
+  common-by now app scrubbed stopped ended found distinct =
       let common : Common was old = stands.common in
       record {
         here = ap (λ (v : AppView). v.left) view ∙ common.here;
         settled = ap (λ (v : AppView). v.settled) view ∙ common.settled;
-        counted = ap (λ (v : AppView). v.scrubbed) view ∙ common.counted;
+        counted = ap (λ (v : AppView). v.scrubbed) view ∙ common.counted ∙ sym scrubbed;
+        bare = λ is. (let (on, loans, quiet) = common.bare (sym scrubbed ∙ is) in
+            (stopped ∙ on, ap (λ (v : AppView). v.loans) view ∙ loans, ap (λ (v : AppView). v.quiet) view ∙ quiet));
         owns = ap (λ (v : AppView). v.owns) view ∙ common.owns;
         app = ap (λ (v : AppView). v.app) view ∙ common.app ∙ sym app;
         ended = ap (λ (v : AppView). v.ended) view ∙ common.ended ∙ more ∙ sym ended;
@@ -70,7 +72,7 @@ module _ (was : Desk) (old new : AppView) (t : TakenNote) (stands : StreamStands
   }
 
   common-past : Common was new
-  common-past = common-by was refl more (found-past was.flows old.taken t stands.common.found) stands.common.distinct
+  common-past = common-by was refl refl refl more (found-past was.flows old.taken t stands.common.found) stands.common.distinct
 
   -- past the queues
   pub passed-by : was.stopped ≡ true → new.helds ≡ [] → Passed 1 was was old new
@@ -121,7 +123,7 @@ module _ (was : Desk) (old new : AppView) (t : TakenNote) (stands : StreamStands
     -- a part of it entered
     pub wants-more : (read : List Lending) → HasTokens flows [] read new → Wants was (with_flows was.notes was.active) old new
     wants-more read tokens = record {
-      common = common-by (with_flows was.notes was.active) refl more found-in distinct-in;
+      common = common-by (with_flows was.notes was.active) refl refl refl more found-in distinct-in;
       can = record { apart = lie; helds = tokens.helds };
       only = only-noted old new t view;
       unlent = unlent-by (with_flows was.notes was.active) items-in;
@@ -171,7 +173,7 @@ module _ (was : Desk) (old new : AppView) (t : TakenNote) (stands : StreamStands
     entered-by notes count rest few kept grows =
         let later : Stands (was.notes + 1) flows [] going-on.out new = grows going-on.out going-on.stands in
         record {
-          stands = stands-by (with_flows notes i) (common-by (with_flows notes i) refl more found-in distinct-in) more
+          stands = stands-by (with_flows notes i) (common-by (with_flows notes i) refl refl refl more found-in distinct-in) more
               (λ _. record {
                 out = going-on.out;
                 stands = subst (λ n. Stands n flows [] going-on.out new) (sym count) later;

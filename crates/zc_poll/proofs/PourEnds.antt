@@ -3,7 +3,7 @@ use Rattle.std.proofs.Common.{◌≡◌, ◌≢◌, ℕ, ◌*◌, ◌<◌, ◌�
 use Rattle.std.proofs.lemmas.{Bool.{eq-eqb}, List.{take-append-drop, take-append-le}}
 use Rattle.zr_kinds.specs.declared.behaviour.Behaviour.{Behaviour}
 use Rattle.zr_kinds.specs.declared.behaviour.Stopped.TheVariants as stop
-use Rattle.zr_io.{specs.Moved.{Gained}, proofs.Moved.{Gained-weaker}}
+use Rattle.zr_io.{specs.Moved.{Gained, ShelfCounts}, proofs.Moved.{Gained-weaker}}
 use Rattle.board_face.specs.{AppEvents.{reserve_of}, declared.views.app.AppView.{AppView}}
 use Rattle.flow_queues.specs.{Marks.{Mark, FramesStandTogether, marks_of}, Core.{total, Each, IsIn, own_notes, BeginAt, AreReadAt}}
 use Rattle.flow_queues.specs.{Totals.{Quits, capped, lent_len, loan_entries}, Shelves.{FlowEnds, AreOfOneLoan}, Streams.{IsFront}}
@@ -24,7 +24,7 @@ one-of n = rw (let test : (n == n) ≡ true = eq-eqb n n refl in test) refl
 abbrev pub work_end : TallyState → AppEnd
 work_end w = record { written = w.written; loans = w.loans; copied = w.copied; stopped = w.stopped; flows = with_bytes w.counts }
 
-module _ (first kept : ℕ → Option (List ℕ)) (losses losses_now : ℕ) (w : TallyState) (st : Desk) (v : AppView)
+module _ (first kept : ℕ → Option (List ℕ)) (losses losses_now : ShelfCounts) (w : TallyState) (st : Desk) (v : AppView)
     (before : PourStands first losses w st kept losses_now v) (due : w.due ≡ None) (ended : st.ended ≡ true) where
   none-out : v.loans ≡ []
   none-out = subst (λ d. OnlyDue d v.loans) due before.due
@@ -122,6 +122,7 @@ module _ (first kept : ℕ → Option (List ℕ)) (losses losses_now : ℕ) (w :
     later = before.later;
     cause = before.cause;
     still = before.still;
+    appended = before.appended;
     strays = subst (λ n. n ≤ how.stray * loan_entries v) (sym before.poured.back.raw) (omega arith);
     entries = before.poured.back.entries;
   }

@@ -10,13 +10,14 @@ use Rattle.zc_poll.specs.declared.to_shelf.{PollTurn.TheVariants.{Did, Idle, End
 use Rattle.zc_poll.specs.{Steps.{OnlySteps, Unlent, IsItem}, Pouring.{HasPoured, OnlyDue, PourStands}, PourTurns.{HadItem, IsRead, TurnDoes}}
 use Rattle.zc_poll.proofs.{ItemPoured.{SameCounts, poured-moved, poured-all, same-kept}, EntriesFirst.{first-gave, first-same}}
 use Rattle.zc_poll.proofs.{LoanGone.{gone-loans, gone-returned, gone-many, gone-lent, gave-entries}, Pours.{is-no, no-write}}
+use Rattle.zr_io.specs.Moved.{ShelfCounts, raised_by}
 
 pub same-counts : (u : TallyState) → SameCounts u u
 same-counts u = record { counts = refl; written = refl; loans = refl; copied = refl; flows = refl; room = refl }
 
 -- ---- a look
 
-pub saw-pours : (first kept : ℕ → Option (List ℕ)) (losses losses_now : ℕ) (u : TallyState) (st now : Desk) (v z : AppView) (look : AppLook)
+pub saw-pours : (first kept : ℕ → Option (List ℕ)) (losses losses_now : ShelfCounts) (u : TallyState) (st now : Desk) (v z : AppView) (look : AppLook)
     → PourStands first losses u st kept losses_now v → z ≡ app_saw v look → StreamStands now z → now ≡ st → PourStands first losses u now kept losses_now z
 saw-pours first kept losses losses_now u st now v z look before view stands desk =
     let on : StreamStands st z = subst (λ (d : Desk). StreamStands d z) desk stands in
@@ -40,11 +41,12 @@ saw-pours first kept losses losses_now u st now v z look before view stands desk
       later = before.later;
       cause = before.cause;
       still = before.still;
+      appended = before.appended;
     })
 
 -- ---- the loan that was due was given back
 
-module _ (first kept : ℕ → Option (List ℕ)) (losses losses_now : ℕ) (u w : TallyState) (st now : Desk) (v z : AppView) (loan : Place)
+module _ (first kept : ℕ → Option (List ℕ)) (losses losses_now : ShelfCounts) (u w : TallyState) (st now : Desk) (v z : AppView) (loan : Place)
     (before : PourStands first losses u st kept losses_now v) (due : u.due ≡ Some loan) (view : z ≡ gave v loan) (stands : StreamStands now z) (desk : now ≡ st)
     (done : w.due ≡ None) (same : w.stopped ≡ u.stopped) (work : SameCounts u w) where
   out : (piece : LentPiece) × (v.loans ≡ piece ∷ []) × (piece.place ≡ loan)
@@ -93,11 +95,12 @@ module _ (first kept : ℕ → Option (List ℕ)) (losses losses_now : ℕ) (u w
         later = before.later;
         cause = λ is. before.cause (sym same ∙ is);
         still = λ is. before.still (λ e. is (same ∙ e));
+        appended = before.appended ∙ ap (raised_by losses.appended) (sym work.written);
       }
 
 -- ---- a step that gave no item
 
-module _ (first kept : ℕ → Option (List ℕ)) (losses losses_now : ℕ) (u w : TallyState) (st now : Desk) (v z : AppView)
+module _ (first kept : ℕ → Option (List ℕ)) (losses losses_now : ShelfCounts) (u w : TallyState) (st now : Desk) (v z : AppView)
     (before : PourStands first losses u st kept losses_now v) (unlent : Unlent st now v z) (only : OnlySteps v z) (stands : StreamStands now z)
     (work : SameCounts u w) (due : w.due ≡ u.due) where
   returned : z.returned ≡ v.returned
@@ -136,6 +139,7 @@ module _ (first kept : ℕ → Option (List ℕ)) (losses losses_now : ℕ) (u w
     later = before.later;
     cause = λ is. before.cause (sym same ∙ is);
     still = λ is. before.still (λ e. is (same ∙ e));
+    appended = before.appended ∙ ap (raised_by losses.appended) (sym work.written);
   }
 
   -- there was no memory
@@ -159,6 +163,7 @@ module _ (first kept : ℕ → Option (List ℕ)) (losses losses_now : ℕ) (u w
         later = before.later;
         cause = λ write. (let clash : stop.Memory ≡ stop.Write = sym same ∙ write in absurd (cc));
         still = λ _. before.still (no-write u.stopped going);
+        appended = before.appended ∙ ap (raised_by losses.appended) (sym work.written);
       }
 
 -- ---- an item came

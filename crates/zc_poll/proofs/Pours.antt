@@ -3,7 +3,7 @@ use Rattle.std.proofs.Common.{◌≡◌, ◌≢◌, ℕ, zero, suc, ◌+◌, ◌
 use Rattle.std.specs.{Io.KnownBytes.{Keeps}, List.{slice_get}}
 use Rattle.zr_kinds.specs.declared.{place.Place.{Place}, behaviour.Stopped.{Stopped}}
 use Rattle.zr_kinds.specs.declared.behaviour.Stopped.TheVariants as stop
-use Rattle.zr_io.{specs.Moved.{Gained, Rose}, proofs.Moved.{Rose-earlier}}
+use Rattle.zr_io.{specs.Moved.{Gained, Rose, ShelfCounts, raised_by}, proofs.Moved.{Rose-earlier}}
 use Rattle.board_face.specs.{AppEvents.{abandoned}, declared.views.app.{LentPiece.{LentPiece}, TakenNote.{TakenNote}, AppView.{AppView}}}
 use Rattle.flow_queues.specs.{declared.queues.Lending.{Lending}, Core.{total, IsIn, LieApart, lent_piece, OnlyReads, IsReadOf}, Totals.{lent_len, loan_entries}}
 use Rattle.flow_queues.{specs.{Shelves.{kept_loans}, Ends.{bytes_in}}, proofs.Tokens.{loan-some}}
@@ -29,12 +29,13 @@ known-at (x ∷ taken) (suc k) t is = omega (arith, known-at taken k t is)
 
 -- ---- the loan is given up
 
-module _ (P : Type 0) (first kept : ℕ → Option (List ℕ)) (losses losses_now : ℕ) (u w : TallyState) (why : Stopped) (st now : Desk) (y z : AppView)
+module _ (P : Type 0) (first kept : ℕ → Option (List ℕ)) (losses losses_now : ShelfCounts) (u w : TallyState) (why : Stopped) (st now : Desk) (y z : AppView)
     (items : List Given) (torn missing : ℕ) (poured : HasPoured P first u st kept y items torn missing) (implies : P → why ≡ stop.Write)
     (some : why ≢ stop.No) (other : why ≢ stop.Quit) (due : u.due ≡ None) (apart : LieApart y) (p : LentPiece) (one : y.loans ≡ p ∷ []) (loan : Place)
     (place : p.place ≡ loan) (all : loan_entries y ≡ length y.returned) (view : z ≡ record (abandoned y loan) { helds = [] })
-    (given : HasGiven items now.flows z.taken) (stands : StreamStands now z) (stopped : now.stopped ≡ true) (later : losses ≤ losses_now)
-    (cause : why ≡ stop.Write → Rose losses losses_now) (still : why ≢ stop.Write → losses_now ≡ losses) (work : w ≡ record u { stopped = why }) where
+    (given : HasGiven items now.flows z.taken) (stands : StreamStands now z) (stopped : now.stopped ≡ true) (later : losses.faults ≤ losses_now.faults)
+    (cause : why ≡ stop.Write → Rose losses.faults losses_now.faults) (still : why ≢ stop.Write → losses_now.faults ≡ losses.faults)
+    (appended : losses_now.appended ≡ raised_by losses.appended u.written) (work : w ≡ record u { stopped = why }) where
   why_is : w.stopped ≡ why
   why_is = ap (λ (k : TallyState). k.stopped) work
 
@@ -79,11 +80,12 @@ module _ (P : Type 0) (first kept : ℕ → Option (List ℕ)) (losses losses_no
     later = later;
     cause = λ is. cause (sym why_is ∙ is);
     still = λ is. still (λ e. is (why_is ∙ e));
+    appended = appended ∙ ap (raised_by losses.appended) (sym (ap (λ (k : TallyState). k.written) work));
   }
 
 -- ---- an item came
 
-module _ (first kept : ℕ → Option (List ℕ)) (losses losses_now : ℕ) (u : TallyState) (st now : Desk) (v x : AppView)
+module _ (first kept : ℕ → Option (List ℕ)) (losses losses_now : ShelfCounts) (u : TallyState) (st now : Desk) (v x : AppView)
     (before : PourStands first losses u st kept losses_now v) (due : u.due ≡ None) (lent : Lent) (item : IsItem st now v x lent) (only : OnlySteps v x)
     (stands : StreamStands now x) where
   nothing : u.stopped ≡ stop.No
@@ -130,14 +132,15 @@ module _ (first kept : ℕ → Option (List ℕ)) (losses losses_now : ℕ) (u :
         given-up (u.stopped ≡ stop.Write) first kept losses losses_now w k stop.Memory now later x z all_items lent.flow item.lending.loan.len ready
         (λ write. absurd (no-write u.stopped nothing write)) (λ e. absurd (cc)) (λ e. absurd (cc)) (ap (λ (y : TallyState). y.due) roomy.same ∙ due) stands.common.apart
         piece one lent.loan item.loan all view (goes all_items ready.given) on stopped before.later (λ e. absurd (cc))
-        (λ _. before.still (no-write u.stopped nothing)) work
+        (λ _. before.still (no-write u.stopped nothing))
+        (before.appended ∙ ap (raised_by losses.appended) (sym (ap (λ (y : TallyState). y.written) roomy.same))) work
 
-    module _ (after : ℕ → Option (List ℕ)) (faults : ℕ) (y : AppView) (k : TallyState) (done : ℕ) (reads : OnlyReads x y) (counted_to : done ≤ lent.loan.len)
+    module _ (after : ℕ → Option (List ℕ)) (faults : ShelfCounts) (y : AppView) (k : TallyState) (done : ℕ) (reads : OnlyReads x y) (counted_to : done ≤ lent.loan.len)
         (gained : (lending : Lending) → lending.loan ≡ lent.loan → lending.note < length x.taken → IsIn (lent_piece x.taken lending) x.loans
         → Gained (kept lent.flow) (after lent.flow) (IsReadOf x.taken y.reads lending done lent.loan.len))
         (others : (n : ℕ) → n ≢ lent.flow → Keeps (kept n) (after n)) (same : k ≡ record w { counts = k.counts; written = min (w.written + done) (2 ^ 64 - 1) })
         (fits : bytes_in lent.flow w.counts + done < 2 ^ 64 → AddsTo lent.flow done w.counts k.counts)
-        (many : length k.counts ≡ length w.counts) (apart : LieApart y) where
+        (many : length k.counts ≡ length w.counts) (apart : LieApart y) (took : faults.appended ≡ raised_by losses_now.appended done) where
       len_is : item.lending.loan.len ≡ lent.loan.len
       len_is = ap (λ (q : Place). q.len) item.loan
 
@@ -175,17 +178,21 @@ module _ (first kept : ℕ → Option (List ℕ)) (losses losses_now : ℕ) (u :
       work-no : k.stopped ≡ stop.No
       work-no = ap (λ (q : TallyState). q.stopped) same ∙ ap (λ (q : TallyState). q.stopped) roomy.same ∙ nothing
 
+      all-took : faults.appended ≡ raised_by losses.appended k.written
+      all-took = omega (arith, took, before.appended, ap (λ (q : TallyState). q.written) same, ap (λ (q : TallyState). q.written) roomy.same)
+
       -- the shelf failed
       pub fails : (z : AppView) (later : Desk) (m : TallyState) → z ≡ record (abandoned y lent.loan) { helds = [] }
           → ((items : List Given) → HasGiven items now.flows y.taken → HasGiven items later.flows z.taken) → StreamStands later z → later.stopped ≡ true
-          → m ≡ record k { stopped = stop.Write } → losses_now ≤ faults → Rose losses_now faults → PourStands first losses m later after faults z
+          → m ≡ record k { stopped = stop.Write } → losses_now.faults ≤ faults.faults → Rose losses_now.faults faults.faults → PourStands first losses m later after faults z
       fails z later m view goes on stopped work grows rose =
           given-up (done < item.lending.loan.len) first after losses faults k m stop.Write now later y z all_items lent.flow (item.lending.loan.len - done) written
           (λ _. refl) (λ e. absurd (cc)) (λ e. absurd (cc)) work-due apart piece still-one lent.loan item.loan still-all view (goes all_items written.given) on
-          stopped (omega (arith, before.later, grows)) (λ _. Rose-earlier losses losses_now faults before.later rose) (λ not. absurd (not refl)) work
+          stopped (omega (arith, before.later, grows)) (λ _. Rose-earlier losses.faults losses_now.faults faults.faults before.later rose) (λ not. absurd (not refl))
+          all-took work
 
       -- all was written
-      pub wrote : (m : TallyState) → m ≡ record k { due = Some lent.loan } → done ≡ lent.loan.len → StreamStands now y → faults ≡ losses_now
+      pub wrote : (m : TallyState) → m ≡ record k { due = Some lent.loan } → done ≡ lent.loan.len → StreamStands now y → faults.faults ≡ losses_now.faults
           → PourStands first losses m now after faults y
       wrote m work full on same_faults =
           let stopped_is : m.stopped ≡ stop.No = ap (λ (q : TallyState). q.stopped) work ∙ work-no in
@@ -215,4 +222,5 @@ module _ (first kept : ℕ → Option (List ℕ)) (losses losses_now : ℕ) (u :
             later = omega (arith, before.later, same_faults);
             cause = λ write. absurd (no-write m.stopped stopped_is write);
             still = λ _. same_faults ∙ before.still (no-write u.stopped nothing);
+            appended = all-took ∙ ap (raised_by losses.appended) (sym (ap (λ (q : TallyState). q.written) work));
           }

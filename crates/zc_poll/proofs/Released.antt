@@ -23,7 +23,8 @@ may-end was now old mid stands same told = subst (λ (d : Desk). MayRelease d mi
   released = stands.released;
 }))
 
-module _ (was now : Desk) (old new : AppView) (app : now.app ≡ was.app) (ended : new.ended ≡ now.ended)
+module _ (was now : Desk) (old new : AppView) (app : now.app ≡ was.app) (scrubbed : now.scrubbed ≡ was.scrubbed)
+    (stopped : was.stopped ≡ true → now.stopped ≡ true) (ended : new.ended ≡ now.ended)
     (view : new ≡ record old { helds = []; ended = new.ended; looks = new.looks }) (facts : map facts_of now.flows ≡ map facts_of was.flows) where
   taken-same : old.taken ≡ new.taken
   taken-same = sym (ap (λ (v : AppView). v.taken) view)
@@ -32,7 +33,9 @@ module _ (was now : Desk) (old new : AppView) (app : now.app ≡ was.app) (ended
   common-released common = record {
     here = ap (λ (v : AppView). v.left) view ∙ common.here;
     settled = ap (λ (v : AppView). v.settled) view ∙ common.settled;
-    counted = ap (λ (v : AppView). v.scrubbed) view ∙ common.counted;
+    counted = ap (λ (v : AppView). v.scrubbed) view ∙ common.counted ∙ sym scrubbed;
+    bare = λ is. (let (on, loans, quiet) = common.bare (sym scrubbed ∙ is) in
+        (stopped on, ap (λ (v : AppView). v.loans) view ∙ loans, ap (λ (v : AppView). v.quiet) view ∙ quiet));
     owns = ap (λ (v : AppView). v.owns) view ∙ common.owns;
     app = ap (λ (v : AppView). v.app) view ∙ common.app ∙ sym app;
     ended = ended;
@@ -103,7 +106,7 @@ module _ (was now : Desk) (old new : AppView) (stop : IsStopped was now old new)
 
   pub stopped-stands : Common was old → StreamStands now new
   stopped-stands common = record {
-    common = common-released was now old new stopped-app (ap (λ (v : AppView). v.ended) stop.view ∙ common.ended ∙ sym stopped-ended) stopped-view
+    common = common-released was now old new stopped-app (ap (λ (d : Desk). d.scrubbed) stop.same) (λ _. stopped-is) (ap (λ (v : AppView). v.ended) stop.view ∙ common.ended ∙ sym stopped-ended) stopped-view
         stop.facts common;
     going = λ on _. absurd (let is : now.stopped ≡ true = stopped-is in cc);
     released = λ _. ap (λ (v : AppView). v.helds) stop.view;
@@ -151,18 +154,24 @@ module _ (was now : Desk) (old mid new : AppView) (stands : StreamStands was old
   ended-is : new.ended ≡ now.ended
   ended-is = ap (λ (v : AppView). v.ended) (view ∙ ap (λ (v : AppView). record v { helds = [] }) told.event) ∙ sym (ap (λ (d : Desk). d.ended) same)
 
+  kept-scrubbed : now.scrubbed ≡ was.scrubbed
+  kept-scrubbed = ap (λ (d : Desk). d.scrubbed) same
+
+  kept-stopped : was.stopped ≡ true → now.stopped ≡ true
+  kept-stopped is = ap (λ (d : Desk). d.stopped) same ∙ is
+
   pub ended-stepped : Stepped was now old new Ended
   ended-stepped = record {
     stands = record {
-      common = common-released was now old new (ap (λ (d : Desk). d.app) same) ended-is ended-view facts stands.common;
+      common = common-released was now old new (ap (λ (d : Desk). d.app) same) kept-scrubbed kept-stopped ended-is ended-view facts stands.common;
       going = λ _ on. absurd (let is : now.ended ≡ true = ap (λ (d : Desk). d.ended) same in cc);
       released = λ _. ap (λ (v : AppView). v.helds) view;
-      whole = λ _ on. whole-released was now old new (ap (λ (d : Desk). d.app) same) ended-is ended-view facts
+      whole = λ _ on. whole-released was now old new (ap (λ (d : Desk). d.app) same) kept-scrubbed kept-stopped ended-is ended-view facts
           (whole-of was old (stands.going (stopped-same on) more) (rest (stopped-same on)));
     };
     only = only-then old mid new (only-ended old mid told.event) (only-released mid new view);
     steps = (
-      unlent-released was now old new (ap (λ (d : Desk). d.app) same) ended-is ended-view facts,
+      unlent-released was now old new (ap (λ (d : Desk). d.app) same) kept-scrubbed kept-stopped ended-is ended-view facts,
       ap (λ (d : Desk). d.stopped) same,
       ap (λ (d : Desk). d.ended) same,
     );

@@ -10,4 +10,5 @@ desk_of q = record {
   active = q.active;
   stopped = q.stopped;
   ended = q.ended;
+  scrubbed = q.scrubbed;
 }

@@ -19,8 +19,12 @@ pub record HasDoneNothing (app : ℕ) (v : AppView) : Type 0 where
   pub spares : v.spares ≡ 0
 
 abbrev pub new_desk : ℕ → Desk
-new_desk app = record { app = app; notes = 0; flows = []; index = []; active = 0; stopped = false; ended = false }
+new_desk app = record { app = app; notes = 0; flows = []; index = []; active = 0; stopped = false; ended = false; scrubbed = false }
 
--- its slots were seen free, its user counts scrubbed, and it left
+-- its slots were seen free, and its user counts scrubbed
+abbrev pub has_scrubbed : AppView → AppView
+has_scrubbed v = record v { quiet = true; scrubbed = true }
+
+-- and it left
 abbrev pub has_left : AppView → AppView
 has_left v = record v { quiet = true; scrubbed = true; left = true }

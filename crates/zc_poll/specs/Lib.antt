@@ -8,3 +8,5 @@ pub mod Counting
 pub mod TallyOf
 pub mod Pouring
 pub mod PourTurns
+pub mod Polls
+pub mod Stops

@@ -2,7 +2,7 @@
 use Rattle.std.specs.Prelude.{◌≡◌, ◌≢◌, ℕ, ◌+◌, ◌<◌, ◌≤◌, ◌==◌, true, false, if◌then◌else◌, List, [], ◌∷◌, length, take, drop, Option, MatchOption}
 use Rattle.zr_kinds.specs.declared.place.Place.{Place}
 use Rattle.zr_kinds.specs.declared.behaviour.Stopped.TheVariants as stop
-use Rattle.zr_io.specs.Moved.{Gained, Rose}
+use Rattle.zr_io.specs.Moved.{Gained, Rose, ShelfCounts, raised_by}
 use Rattle.board_face.specs.declared.views.app.{LentPiece.{LentPiece}, AppView.{AppView}}
 use Rattle.flow_queues.specs.{Marks.{Mark}, Core.{total, AreReadAt, most_at_once}, Totals.{capped, lent_len, loan_entries, raw_entries}}
 use Rattle.flow_queues.specs.{Shelves.{AreOfOneLoan, kept_loans}, Entries.{Gives}, Ends.{bytes_in, times}}
@@ -55,8 +55,8 @@ pub record HasPoured (Failed : Type 0) (first : ℕ → Option (List ℕ)) (w : 
 abbrev pub OnlyDue : Option Place → List LentPiece → Type 0
 OnlyDue due loans = MatchOption due (loans ≡ []) (λ place. (piece : LentPiece) × (loans ≡ piece ∷ []) × (piece.place ≡ place))
 
--- Between two turns. The shelf's count of faults was `losses` and is `losses_now`.
-pub record PourStands (first : ℕ → Option (List ℕ)) (losses : ℕ) (w : TallyState) (st : Desk) (kept : ℕ → Option (List ℕ)) (losses_now : ℕ)
+-- Between two turns. The shelf's counts were `losses` and are `losses_now`.
+pub record PourStands (first : ℕ → Option (List ℕ)) (losses : ShelfCounts) (w : TallyState) (st : Desk) (kept : ℕ → Option (List ℕ)) (losses_now : ShelfCounts)
     (v : AppView) : Type 0 where
   pub items : List Given
   -- the item at which it was stopped: its flow, and how many of its bytes aren't counted
@@ -71,6 +71,8 @@ pub record PourStands (first : ℕ → Option (List ℕ)) (losses : ℕ) (w : Ta
   pub going : w.stopped ≡ stop.No → st.stopped ≡ false
   pub over : w.stopped ≢ stop.No → (st.stopped ≡ true) × (v.loans ≡ [])
   pub no_quit : w.stopped ≢ stop.Quit
-  pub later : losses ≤ losses_now
-  pub cause : w.stopped ≡ stop.Write → Rose losses losses_now
-  pub still : w.stopped ≢ stop.Write → losses_now ≡ losses
+  pub later : losses.faults ≤ losses_now.faults
+  pub cause : w.stopped ≡ stop.Write → Rose losses.faults losses_now.faults
+  pub still : w.stopped ≢ stop.Write → losses_now.faults ≡ losses.faults
+  -- what was written is what the appends took that went well
+  pub appended : losses_now.appended ≡ raised_by losses.appended w.written

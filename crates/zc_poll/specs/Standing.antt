@@ -19,6 +19,8 @@ pub record Desk : Type 0 where
   pub stopped : Bool
   -- it was told that no note comes any more
   pub ended : Bool
+  -- its user counts were scrubbed
+  pub scrubbed : Bool
 
 -- notes enter the queues, and pieces are lent
 pub record Going (st : Desk) (v : AppView) : Type 0 where
@@ -43,7 +45,9 @@ pub record Common (st : Desk) (v : AppView) : Type 0 where
   pub here : v.left ≡ false
   -- no raw entry is on its way, since none was pushed
   pub settled : v.settled ≡ true
-  pub counted : v.scrubbed ≡ false
+  pub counted : v.scrubbed ≡ st.scrubbed
+  -- they are only once it was stopped, and then no loan is out, and each refill slot stays free
+  pub bare : st.scrubbed ≡ true → (st.stopped ≡ true) × (v.loans ≡ []) × (v.quiet ≡ true)
   pub owns : v.owns ≡ []
   pub app : v.app ≡ st.app
   pub ended : v.ended ≡ st.ended

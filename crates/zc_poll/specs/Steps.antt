@@ -1,14 +1,14 @@
 -- What a step does.
-use Rattle.std.specs.Prelude.{◌≡◌, ℕ, ◌+◌, ◌-◌, ◌^◌, ◌<◌, min, true, false, not, if◌then◌else◌, List, [], ◌∷◌, ◌++◌, length}
-use Rattle.std.specs.{Prelude.{Option, Some, None, slice_get, Result, Ok, Err}, declared.alloc.AllocError.{AllocError}}
+use Rattle.std.specs.Prelude.{◌≡◌, ℕ, ◌+◌, ◌-◌, ◌^◌, ◌<◌, min, true, false, not, if◌then◌else◌, List, [], ◌∷◌, ◌++◌, length, Option, Some, None, slice_get, Result, Ok, Err, Bool}
+use Rattle.std.specs.declared.alloc.AllocError.{AllocError}
 use Rattle.futures.specs.declared.task.Poll.{Poll, TheVariants.{Ready, Pending}}
 use Rattle.board_face.specs.{AppCalls.{AppOnlySaw, HasLoan, ToldEnd}, Looks.{AppRose, AppLooksStay}}
-use Rattle.board_face.specs.declared.views.app.{AppLook.TheVariants.{NoNote as no_note, NoSpare as no_spare}, LentPiece.{LentPiece}, TakenNote.{TakenNote}}
-use Rattle.board_face.specs.declared.views.app.AppView.{AppView}
+use Rattle.board_face.specs.declared.views.app.{AppLook.TheVariants.{NoNote as no_note, NoSpare as no_spare, NotQuiet as not_quiet}, LentPiece.{LentPiece}}
+use Rattle.board_face.specs.declared.views.app.{TakenNote.{TakenNote}, AppView.{AppView}, AppLook.{AppLook}}
 use Rattle.flow_queues.specs.{declared.queues.Lending.{Lending}, Marks.{FramesStandTogether, marks_of}, Core.{total, IsIn, lent_piece, marks_of_loan}}
 use Rattle.zc_poll.specs.declared.step.{Lent.{Lent}, Waits.{Waits, TheVariants.{NoNote, ReserveHeld, Enough}}, Step.{Step, TheVariants.{Item, Waiting, Memory, Ended}}}
 use Rattle.zc_poll.specs.declared.taking.Taken.{Taken, TheVariants.{Did as took_one, NoNote as saw_none, Ended as told_end, Memory as had_no_memory}}
-use Rattle.zc_poll.specs.{Standing.{Desk, Common, StreamStands, NoneInOrder, CanStop}, Items.{Given, HasGiven, marks_given, IsAt}}
+use Rattle.zc_poll.specs.{Standing.{Desk, Common, StreamStands, NoneInOrder, CanStop}, Items.{Given, HasGiven, marks_given, IsAt}, Fresh.{has_scrubbed}}
 
 -- a count of bytes, with so many more: it stays at 2^64 - 1
 abbrev pub counted_on : ℕ → ℕ → ℕ
@@ -75,12 +75,18 @@ Steps was now old new (Waiting why) = Unlent was now old new × WaitsFor why now
 Steps was now old new Memory = Unlent was now old new × (was.stopped ≡ false) × (now.stopped ≡ true) × (now.ended ≡ false)
 Steps was now old new Ended = Unlent was now old new × (now.stopped ≡ was.stopped) × (now.ended ≡ true)
 
+-- so it is of the look that it waits for
+abbrev pub IsSoWaiting : (AppLook → Type 0) → Waits → Type 0
+IsSoWaiting is_so NoNote = is_so no_note
+IsSoWaiting is_so ReserveHeld = is_so no_spare
+IsSoWaiting is_so Enough = Unit {0}
+
 -- what a poll gives is what one step gives
-abbrev pub PollGives : Desk → Desk → AppView → AppView → Poll (Option (Result Lent AllocError)) → Type 0
-PollGives was now old new (Ready (Some (Ok lent))) = Steps was now old new (Item lent)
-PollGives was now old new (Ready (Some (Err failed))) = Steps was now old new Memory
-PollGives was now old new (Ready None) = Steps was now old new Ended
-PollGives was now old new Pending = (why : Waits) × Steps was now old new (Waiting why)
+abbrev pub PollGives : (AppLook → Type 0) → Desk → Desk → AppView → AppView → Poll (Option (Result Lent AllocError)) → Type 0
+PollGives is_so was now old new (Ready (Some (Ok lent))) = Steps was now old new (Item lent)
+PollGives is_so was now old new (Ready (Some (Err failed))) = Steps was now old new Memory
+PollGives is_so was now old new (Ready None) = Steps was now old new Ended
+PollGives is_so was now old new Pending = (why : Waits) × Steps was now old new (Waiting why) × IsSoWaiting is_so why
 
 -- ---- parts of a step
 
@@ -126,3 +132,8 @@ LooksFor was now old new took_one = Passed 1 was now old new
 LooksFor was now old new saw_none = (now ≡ was) × AppOnlySaw no_note old new
 LooksFor was now old new told_end = (now ≡ was) × ToldEnd old new
 LooksFor was now old new had_no_memory = Wants was now old new
+
+-- The user counts are scrubbed: they were before, or each refill slot was seen free. Or one was in use.
+abbrev pub Scrubs : Desk → Desk → AppView → AppView → Bool → Type 0
+Scrubs was now old new true = (now ≡ record was { scrubbed = true }) × (new ≡ has_scrubbed old)
+Scrubs was now old new false = (now ≡ was) × AppOnlySaw not_quiet old new

@@ -5,6 +5,7 @@
 
 mod counting;
 mod laws;
+mod leaving;
 mod lending;
 mod pouring;
 mod queues;
@@ -12,9 +13,12 @@ mod step;
 mod stream;
 mod taking;
 mod to_shelf;
+mod with_parts;
 
 pub use counting::{PourTally, count, count_item, make_room};
 pub use laws::items_law;
+pub use leaving::Leaving;
 pub use step::{Lent, Step, Waits};
 pub use stream::LoanStream;
-pub use to_shelf::{PollTurn, Poured, Rests, ToShelf, told};
+pub use to_shelf::{PollTurn, Poured, Rests, ToShelf, give_up_due, quit, told};
+pub use with_parts::WithParts;

@@ -1,6 +1,6 @@
 //! An item's loan is read and appended to a flow of a shelf, and counted.
 ghost use Rattle.std.specs.{Prelude.{◌≡◌, ◌≢◌, ℕ, ◌+◌, ◌<◌, ◌≤◌, List, [], length, Option, None, vec_capacity, true}, Io.KnownBytes.{Keeps}};
-ghost use Rattle.zr_io.specs.Moved.{Gained, Rose};
+ghost use Rattle.zr_io.specs.Moved.{Gained, Rose, ShelfCounts, raised_by};
 ghost use Rattle.board_face.specs.{AppCalls.{HasLoan}, AppEvents.{abandoned}, declared.views.app.AppView.{AppView}};
 ghost use Rattle.flow_queues.specs.{declared.queues.Lending.{Lending}, Core.{IsIn, lent_piece, OnlyReads, IsReadOf}};
 ghost use Rattle.zc_poll.specs.{Standing.{Desk, StreamStands}, Items.{Given, HasGiven}, Steps.{IsItem, OnlySteps}, Pouring.{PourStands}, PourTurns.{IsRead}, TallyOf.{tally_of}};
@@ -34,9 +34,10 @@ pub fn append_loan<F: AppFace, T: Shelf>(
         → Gained (T.kept shelf.old flow) (T.kept shelf.new flow)
         (λ (read : List ℕ). IsReadOf (F.seen stream.old.face).taken (F.seen stream.new.face).reads lending result loan.now.len read) }
     ensures others { (other : ℕ) → other ≢ flow → Keeps (T.kept shelf.old other) (T.kept shelf.new other) }
-    ensures later { T.faults shelf.old ≤ T.faults shelf.new }
-    ensures still { result ≡ loan.now.len → T.faults shelf.new ≡ T.faults shelf.old }
-    ensures cause { result < loan.now.len → Rose (T.faults shelf.old) (T.faults shelf.new) }
+    ensures later { (T.counts shelf.old).faults ≤ (T.counts shelf.new).faults }
+    ensures still { result ≡ loan.now.len → (T.counts shelf.new).faults ≡ (T.counts shelf.old).faults }
+    ensures cause { result < loan.now.len → Rose (T.counts shelf.old).faults (T.counts shelf.new).faults }
+    ensures appended { (T.counts shelf.new).appended ≡ raised_by (T.counts shelf.old).appended result }
     ensures beside { F.beside stream.new.face ≡ F.beside stream.old.face }
 {
     let mut chunk = [0; CHUNK];
@@ -84,26 +85,32 @@ pub fn pour<F: AppFace, T: Shelf>(
     requires none { work.old.due ≡ None }
     requires room { length work.old.counts.entries ≤ vec_capacity work.old.flows }
     requires empty { work.old.flows.items ≡ [] }
-    ensures pours { (first : ℕ → Option (List ℕ)) (losses : ℕ) (st : Desk) (v : AppView)
-        → PourStands first losses (tally_of work.old) st (T.kept shelf.old) (T.faults shelf.old) v
+    ensures pours { (first : ℕ → Option (List ℕ)) (losses : ShelfCounts) (st : Desk) (v : AppView)
+        → PourStands first losses (tally_of work.old) st (T.kept shelf.old) (T.counts shelf.old) v
         → IsItem st stream.old.desk v (F.seen stream.old.face) lent → OnlySteps v (F.seen stream.old.face)
-        → PourStands first losses (record (tally_of work.new) { due = result }) stream.new.desk (T.kept shelf.new) (T.faults shelf.new)
+        → PourStands first losses (record (tally_of work.new) { due = result }) stream.new.desk (T.kept shelf.new) (T.counts shelf.new)
         (F.seen stream.new.face) }
     ensures read { IsRead lent.loan stream.old.desk stream.new.desk (F.seen stream.old.face) (F.seen stream.new.face) result }
     ensures stands { StreamStands stream.new.desk (F.seen stream.new.face) }
     ensures none { work.new.due ≡ None }
     ensures beside { F.beside stream.new.face ≡ F.beside stream.old.face }
 {
-    count_item(work, lent.copied);
-    if make_room(work, lent.flow).is_err() {
-        give_up(stream, work, lent.loan, Stopped::Memory);
+    let Lent {
+        flow,
+        position: _,
+        loan,
+        copied,
+    } = lent;
+    count_item(work, copied);
+    if make_room(work, flow).is_err() {
+        give_up(stream, work, loan, Stopped::Memory);
         return None;
     }
-    let done = append_loan(stream, &lent.loan, lent.flow, shelf);
-    count(work, lent.flow, done);
-    if done < lent.loan.place().len {
-        give_up(stream, work, lent.loan, Stopped::Write);
+    let done = append_loan(stream, &loan, flow, shelf);
+    count(work, flow, done);
+    if done < loan.place().len {
+        give_up(stream, work, loan, Stopped::Write);
         return None;
     }
-    Some(lent.loan)
+    Some(loan)
 }

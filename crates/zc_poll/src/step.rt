@@ -1,8 +1,10 @@
 //! What a step gives.
+ghost use Rattle.std.specs.Prelude.{◌≡◌};
+
 use board_face::Loan;
 
-/// A loan, and where its bytes stand in the stream of its flow.
-#[derive(Debug, Drop)]
+/// A loan, and where its bytes stand in the stream of its flow. It can't be let go: its loan is given back, or given up.
+#[derive(Debug)]
 pub struct Lent {
     pub flow: u32,
     /// How many bytes of the flow come before, 0 at its first byte.
@@ -10,6 +12,21 @@ pub struct Lent {
     pub loan: Loan,
     /// The bytes travelled in a note, and were copied into a buffer.
     pub copied: bool,
+}
+
+impl Lent {
+    /// The loan, to be given back or given up.
+    pub fn into_loan(self) -> Loan
+        ensures { result ≡ self.loan }
+    {
+        let Lent {
+            flow: _,
+            position: _,
+            loan,
+            copied: _,
+        } = self;
+        loan
+    }
 }
 
 /// What is waited for.
@@ -24,7 +41,7 @@ pub enum Waits {
 }
 
 /// What a step gave.
-#[derive(Debug, Drop)]
+#[derive(Debug)]
 pub enum Step {
     Item(Lent),
     Waiting(Waits),

@@ -1,11 +1,11 @@
-ghost use Rattle.std.specs.Prelude.{◌≡◌, ◌+◌, ◌<◌, ◌≤◌, [], List, length, Ok, Err, Some, None, true, false, IfErr, MatchBool, MatchResult, OnSome};
-ghost use Rattle.futures.specs.{Poll.{IfReady, OnPending}, Task.{Covers, Keeps}, declared.task.Poll.TheVariants.{Ready}};
+ghost use Rattle.std.specs.Prelude.{◌≡◌, ◌+◌, ◌<◌, ◌≤◌, [], List, length, Ok, Err, Some, None, true, false, IfErr, IfSome, MatchBool, MatchResult, ⊤};
+ghost use Rattle.futures.specs.{Poll.{IfReady, OnPending}, Runs.{After, Within}, Task.{Covers, Keeps}, declared.task.Poll.TheVariants.{Ready}};
 ghost use Rattle.board_face.specs.{Looks.{AppTold}, NotNow.{HasWritten, HasWrittenRingful}, AppCalls.{HasLoan, AppOnlySaw, ShowsCopy}, AppEvents.{app_gist, has_read, loan_origin, gave, abandoned}, declared.views.app.AppLook.TheVariants.{NoNote as no_note, NoSpare as no_spare, RefillInUse, NotQuiet}};
 ghost use Rattle.flow_queues.specs.{declared.queues.Lending.{Lending}, Marks.{marks_from}, Core.{IsIn, lent_piece, AreReadAt}};
-ghost use Rattle.zc_poll.specs.{Standing.{StreamStands}, Items.{Given, HasGiven}, Steps.{Steps, OnlySteps, PollGives}, Fresh.{HasDoneNothing, new_desk, has_left}, declared.step.{Step.TheVariants.{Waiting, Ended}, Waits.TheVariants.{NoNote, ReserveHeld}}};
+ghost use Rattle.zc_poll.specs.{Standing.{StreamStands}, Items.{Given, HasGiven}, Steps.{Steps, OnlySteps, PollGives, Scrubs}, Fresh.{HasDoneNothing, new_desk, has_left}, Polls.{Yields}, declared.step.{Step.TheVariants.{Waiting, Ended}, Waits.TheVariants.{NoNote, ReserveHeld}}};
 
 use crate::lending::offer;
-use crate::queues::{Queues, stop};
+use crate::queues::{Queues, scrub, stop};
 use crate::step::{Lent, Step, Waits};
 use crate::taking::take_note;
 use board_face::{AppFace, Loan};
@@ -49,6 +49,7 @@ impl<F: AppFace> LoanStream<F> {
                 active: 0,
                 stopped: false,
                 ended: false,
+                scrubbed: false,
             },
         }
     }
@@ -144,7 +145,27 @@ impl<F: AppFace> LoanStream<F> {
         stop(&mut self.face, &mut self.queues);
     }
 
-    /// Scrubs and leaves, once no loan is out. `Err` says that a refill slot was seen in use.
+    /// Scrubs the user counts of a stream that was stopped, once no loan is out, also while notes still come: whether it is done.
+    /// `false` says that a refill slot was seen in use.
+    pub fn scrub(&mut self) -> bool
+        requires stands { StreamStands self.old.desk (F.seen self.old.face) }
+        requires stopped { self.old.desk.stopped ≡ true }
+        requires none { (F.seen self.old.face).loans ≡ [] }
+        ensures stands { StreamStands self.new.desk (F.seen self.new.face) }
+        ensures scrubs { Scrubs self.old.desk self.new.desk (F.seen self.old.face) (F.seen self.new.face) result }
+        ensures some { result ≡ false → HasWritten (F.seen self.old.face) }
+        ensures told { result ≡ false → AppTold (λ look. F.tells look (app_gist (F.seen self.old.face)) (F.beside self.old.face))
+            (F.seen self.old.face) (F.seen self.new.face) }
+        ensures beside { F.beside self.new.face ≡ F.beside self.old.face }
+    {
+        if !scrub(&mut self.face, self.queues.scrubbed) {
+            return false;
+        }
+        self.queues.scrubbed = true;
+        true
+    }
+
+    /// Leaves, once no loan is out, and scrubs before where that wasn't done. `Err` says that a refill slot was seen in use.
     pub fn close(self) -> Result<F, LoanStream<F>>
         requires stands { StreamStands self.desk (F.seen self.face) }
         requires ended { self.desk.ended ≡ true }
@@ -178,10 +199,9 @@ impl<F: AppFace> LoanStream<F> {
             (F.seen self.old.face) (F.seen self.new.face) }
         ensures beside { F.beside self.new.face ≡ F.beside self.old.face }
     {
-        if !self.face.quiet() {
+        if !scrub(&mut self.face, self.queues.scrubbed) {
             return false;
         }
-        self.face.scrub();
         self.face.leave();
         true
     }
@@ -214,14 +234,24 @@ impl<F: AppFace + Drop> Stream for LoanStream<F> {
 
     ghost can_poll = { λ s. StreamStands s.desk (F.seen s.face) };
 
+    ghost needs = { λ _ _. ⊤ };
+
+    /// Each answer is what a step gives that goes on from the one before.
+    ghost yields = { λ s. Yields s.desk (F.seen s.face) };
+
     fn poll_next(&mut self, cx: &mut Context<'_>) -> Poll<Option<Result<Lent, AllocError>>>
         requires { StreamStands self.old.desk (F.seen self.old.face) }
-        ensures goes { IfReady result (λ o. OnSome o (StreamStands self.new.desk (F.seen self.new.face))) }
-        ensures again { OnPending result (StreamStands self.new.desk (F.seen self.new.face)) }
-        ensures registered { OnPending result (Covers cx.new (λ source. ⊥)) }
+        ensures value { IfReady result (Yields self.old.desk (F.seen self.old.face) []) }
+        ensures rest { IfReady result (λ o. IfSome o (λ x.
+            After (Yields self.old.desk (F.seen self.old.face)) x (Yields self.new.desk (F.seen self.new.face)))) }
+        ensures same { OnPending result (Within (Yields self.old.desk (F.seen self.old.face)) (Yields self.new.desk (F.seen self.new.face))) }
+        ensures stands { StreamStands self.new.desk (F.seen self.new.face) }
+        // A poll that is pending asks for another, whatever its sources do.
+        ensures woken { OnPending result (cx.new.is_woken ≡ true) }
+        ensures registered { OnPending result (Covers cx.new (λ source. ⊤)) }
         ensures kept { Keeps cx.old cx.new }
-        // It gives what one step gives.
-        ensures gives { PollGives self.old.desk self.new.desk (F.seen self.old.face) (F.seen self.new.face) result }
+        // It gives what one step gives, and the board says of the look on which it waits that it is so.
+        ensures gives { PollGives (λ look. F.tells look (app_gist (F.seen self.new.face)) (F.beside self.new.face)) self.old.desk self.new.desk (F.seen self.old.face) (F.seen self.new.face) result }
         // Once it was the end it is the end again, and nothing is asked.
         ensures ended { self.old.desk.ended ≡ true → (result ≡ Ready None) × (self.new ≡ self.old) }
         ensures only { OnlySteps (F.seen self.old.face) (F.seen self.new.face) }

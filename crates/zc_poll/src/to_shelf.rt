@@ -1,9 +1,12 @@
 //! The items of a stream are written to a shelf, one turn after another.
-ghost use Rattle.std.specs.{Prelude.{◌≡◌, ◌<◌, ◌≤◌, ℕ, List, [], length, Option, Some, None, true, false, vec_capacity}, Ordering.{nat_cmp}, Map.{keys_of}, List.Sorted.{IsStrictlySortedBy}};
+ghost use Rattle.std.specs.{Prelude.{◌≡◌, ◌≢◌, ◌<◌, ◌≤◌, ℕ, List, [], length, IfSome, Option, Some, None, true, false, vec_capacity, ⊤}, Ordering.{nat_cmp}, Map.{keys_of}, List.Sorted.{IsStrictlySortedBy}};
 ghost use Rattle.board_face.specs.{AppCalls.{HasLoan}, AppEvents.{app_gist}, declared.views.app.AppView.{AppView}};
 ghost use Rattle.flow_queues.specs.Core.{Each};
-ghost use Rattle.zc_poll.specs.{Counting.{with_bytes}, Standing.{Desk, StreamStands}, Fresh.{HasDoneNothing, new_desk}, Pouring.{PourStands}, PourTurns.{HadItem, IsTold, PourGives, TurnDoes, PollPours, PollDoes}, Steps.{IsItem, OnlySteps}, TallyOf.{tally_of}};
-ghost use Rattle.futures.specs.{Poll.{OnPending}, Task.{Covers, Keeps}};
+ghost use Rattle.zr_kinds.specs.declared.behaviour.Stopped.TheVariants.{No};
+ghost use Rattle.zc_poll.specs.{Counting.{with_bytes}, Standing.{Desk, StreamStands}, Fresh.{HasDoneNothing, new_desk}, Pouring.{PourStands}, PourTurns.{HadItem, IsTold, PourGives, ScrubsFirst, ScrubsIfQuiet, StepDoes, TurnDoes, PollPours, PollDoes}, Steps.{IsItem, OnlySteps}, TallyOf.{tally_of}};
+ghost use Rattle.zc_poll.specs.{Polls.{Tells}, PourTurns.{pour_end}, Stops.{HasStopped, IsStill, quit_by, without_due}, declared.to_shelf.Poured.{Poured as Told}};
+ghost use Rattle.futures.specs.{Poll.{IfReady, OnPending}, Task.{Covers, Keeps}};
+ghost use Rattle.zr_io.specs.Moved.{ShelfCounts};
 
 use crate::counting::PourTally;
 use crate::pouring::pour;
@@ -85,7 +88,7 @@ fn give_back<F: AppFace>(stream: &mut LoanStream<F>, work: &mut PourTally, loan:
     requires stands { StreamStands stream.old.desk (F.seen stream.old.face) }
     requires out { HasLoan (F.seen stream.old.face) loan }
     requires due { work.old.due ≡ None }
-    ensures gives { (first kept : ℕ → Option (List ℕ)) (losses now : ℕ)
+    ensures gives { (first kept : ℕ → Option (List ℕ)) (losses now : ShelfCounts)
         → PourStands first losses (record (tally_of work.old) { due = Some loan }) stream.old.desk kept now (F.seen stream.old.face)
         → PourStands first losses (tally_of work.new) stream.new.desk kept now (F.seen stream.new.face) }
     ensures desk { stream.new.desk ≡ stream.old.desk }
@@ -111,12 +114,13 @@ fn close<F: AppFace>(stream: &mut LoanStream<F>, work: &mut PourTally) -> PollTu
     requires due { work.old.due ≡ None }
     requires room { length work.old.counts.entries ≤ vec_capacity work.old.flows }
     requires empty { work.old.flows.items ≡ [] }
-    ensures gives { (first kept : ℕ → Option (List ℕ)) (losses now : ℕ)
+    ensures gives { (first kept : ℕ → Option (List ℕ)) (losses now : ShelfCounts)
         → PourStands first losses (tally_of work.old) stream.old.desk kept now (F.seen stream.old.face)
         → PourGives first losses (tally_of work.new) stream.new.desk kept now (F.seen stream.new.face) result }
-    ensures does { (first kept : ℕ → Option (List ℕ)) (losses now : ℕ)
+    ensures does { (first kept : ℕ → Option (List ℕ)) (losses now : ShelfCounts)
         → PourStands first losses (tally_of work.old) stream.old.desk kept now (F.seen stream.old.face)
         → TurnDoes None stream.old.desk stream.new.desk (F.seen stream.old.face) (F.seen stream.new.face) result }
+    ensures scrubs { ScrubsIfQuiet (F.seen stream.old.face) (F.seen stream.new.face) }
     ensures told { IsTold (λ look. F.tells look (app_gist (F.seen stream.new.face)) (F.beside stream.new.face)) result }
     ensures same { (F.seen stream.new.face).app ≡ (F.seen stream.old.face).app }
     ensures beside { F.beside stream.new.face ≡ F.beside stream.old.face }
@@ -126,6 +130,30 @@ fn close<F: AppFace>(stream: &mut LoanStream<F>, work: &mut PourTally) -> PollTu
     }
     let poured = told(work, stream.alloc());
     PollTurn::Ended(poured)
+}
+
+/// Gives the loan up that is due.
+pub fn give_up_due<F: AppFace>(stream: &mut LoanStream<F>, work: &mut PourTally)
+    requires stands { StreamStands stream.old.desk (F.seen stream.old.face) }
+    requires out { IfSome work.old.due (λ loan. HasLoan (F.seen stream.old.face) loan) }
+    ensures stands { StreamStands stream.new.desk (F.seen stream.new.face) }
+    ensures desk { stream.new.desk ≡ stream.old.desk }
+    ensures view { F.seen stream.new.face ≡ without_due work.old.due (F.seen stream.old.face) }
+    ensures work { work.new ≡ record work.old { due = None } }
+    ensures beside { F.beside stream.new.face ≡ F.beside stream.old.face }
+{
+    if let Some(loan) = work.due.take() {
+        stream.abandon(loan);
+    }
+}
+
+/// Its user stopped it, unless something had.
+pub fn quit(work: &mut PourTally)
+    ensures { work.new ≡ record work.old { stopped = quit_by work.old.stopped } }
+{
+    if work.stopped == Stopped::No {
+        work.stopped = Stopped::Quit;
+    }
 }
 
 /// Writes an item to the shelf, and gives its loan back. Where the refill slot is in use the loan stays due.
@@ -140,10 +168,10 @@ fn pour_item<F: AppFace, T: Shelf>(
     requires none { work.old.due ≡ None }
     requires room { length work.old.counts.entries ≤ vec_capacity work.old.flows }
     requires empty { work.old.flows.items ≡ [] }
-    ensures pours { (first : ℕ → Option (List ℕ)) (losses : ℕ) (st : Desk) (v : AppView)
-        → PourStands first losses (tally_of work.old) st (T.kept shelf.old) (T.faults shelf.old) v
+    ensures pours { (first : ℕ → Option (List ℕ)) (losses : ShelfCounts) (st : Desk) (v : AppView)
+        → PourStands first losses (tally_of work.old) st (T.kept shelf.old) (T.counts shelf.old) v
         → IsItem st stream.old.desk v (F.seen stream.old.face) lent → OnlySteps v (F.seen stream.old.face)
-        → PourStands first losses (tally_of work.new) stream.new.desk (T.kept shelf.new) (T.faults shelf.new) (F.seen stream.new.face) }
+        → PourStands first losses (tally_of work.new) stream.new.desk (T.kept shelf.new) (T.counts shelf.new) (F.seen stream.new.face) }
     ensures had { (st : Desk) (v : AppView) → IsItem st stream.old.desk v (F.seen stream.old.face) lent
         → HadItem st stream.new.desk v (F.seen stream.new.face) }
     ensures same { (F.seen stream.new.face).app ≡ (F.seen stream.old.face).app }
@@ -155,7 +183,7 @@ fn pour_item<F: AppFace, T: Shelf>(
 }
 
 /// Takes one step, and writes the item that it gave and gives it back.
-fn go_on<F: AppFace, T: Shelf>(
+fn take_step<F: AppFace, T: Shelf>(
     stream: &mut LoanStream<F>,
     shelf: &mut T,
     work: &mut PourTally,
@@ -165,11 +193,12 @@ fn go_on<F: AppFace, T: Shelf>(
     requires none { work.old.due ≡ None }
     requires room { length work.old.counts.entries ≤ vec_capacity work.old.flows }
     requires empty { work.old.flows.items ≡ [] }
-    ensures gives { (first : ℕ → Option (List ℕ)) (losses : ℕ)
-        → PourStands first losses (tally_of work.old) stream.old.desk (T.kept shelf.old) (T.faults shelf.old) (F.seen stream.old.face)
-        → PourGives first losses (tally_of work.new) stream.new.desk (T.kept shelf.new) (T.faults shelf.new)
+    ensures gives { (first : ℕ → Option (List ℕ)) (losses : ShelfCounts)
+        → PourStands first losses (tally_of work.old) stream.old.desk (T.kept shelf.old) (T.counts shelf.old) (F.seen stream.old.face)
+        → PourGives first losses (tally_of work.new) stream.new.desk (T.kept shelf.new) (T.counts shelf.new)
         (F.seen stream.new.face) result }
-    ensures does { TurnDoes None stream.old.desk stream.new.desk (F.seen stream.old.face) (F.seen stream.new.face) result }
+    ensures does { StepDoes stream.old.desk stream.new.desk (F.seen stream.old.face) (F.seen stream.new.face) result }
+    ensures only { stream.old.desk.stopped ≡ true → OnlySteps (F.seen stream.old.face) (F.seen stream.new.face) }
     ensures told { IsTold (λ look. F.tells look (app_gist (F.seen stream.new.face)) (F.beside stream.new.face)) result }
     ensures same { (F.seen stream.new.face).app ≡ (F.seen stream.old.face).app }
     ensures beside { F.beside stream.new.face ≡ F.beside stream.old.face }
@@ -188,19 +217,64 @@ fn go_on<F: AppFace, T: Shelf>(
     }
 }
 
+/// Scrubs where the stream was stopped, unless a refill slot is in use.
+fn scrub_stopped<F: AppFace>(stream: &mut LoanStream<F>, work: &PourTally)
+    requires stands { (first kept : ℕ → Option (List ℕ)) × (losses now : ShelfCounts)
+        × PourStands first losses (tally_of work.now) stream.old.desk kept now (F.seen stream.old.face) }
+    ensures stands { StreamStands stream.new.desk (F.seen stream.new.face) }
+    ensures gives { (first kept : ℕ → Option (List ℕ)) (losses now : ShelfCounts)
+        → PourStands first losses (tally_of work.now) stream.old.desk kept now (F.seen stream.old.face)
+        → PourStands first losses (tally_of work.now) stream.new.desk kept now (F.seen stream.new.face) }
+    ensures first { ScrubsFirst stream.old.desk stream.new.desk (F.seen stream.old.face) (F.seen stream.new.face) }
+    ensures scrubs { work.now.stopped ≢ No → ScrubsIfQuiet (F.seen stream.old.face) (F.seen stream.new.face) }
+    ensures desk { (stream.new.desk.stopped ≡ stream.old.desk.stopped) × (stream.new.desk.ended ≡ stream.old.desk.ended) }
+    ensures same { (F.seen stream.new.face).app ≡ (F.seen stream.old.face).app }
+    ensures beside { F.beside stream.new.face ≡ F.beside stream.old.face }
+{
+    if work.stopped == Stopped::No {
+        return;
+    }
+    stream.scrub();
+}
+
+/// Takes a step, and scrubs before where the stream was stopped: also while notes still come.
+fn go_on<F: AppFace, T: Shelf>(
+    stream: &mut LoanStream<F>,
+    shelf: &mut T,
+    work: &mut PourTally,
+) -> PollTurn
+    requires stands { (first : ℕ → Option (List ℕ)) × (losses : ShelfCounts)
+        × PourStands first losses (tally_of work.old) stream.old.desk (T.kept shelf.old) (T.counts shelf.old) (F.seen stream.old.face) }
+    requires more { stream.old.desk.ended ≡ false }
+    requires none { work.old.due ≡ None }
+    ensures gives { (first : ℕ → Option (List ℕ)) (losses : ShelfCounts)
+        → PourStands first losses (tally_of work.old) stream.old.desk (T.kept shelf.old) (T.counts shelf.old) (F.seen stream.old.face)
+        → PourGives first losses (tally_of work.new) stream.new.desk (T.kept shelf.new) (T.counts shelf.new)
+        (F.seen stream.new.face) result }
+    ensures does { TurnDoes None stream.old.desk stream.new.desk (F.seen stream.old.face) (F.seen stream.new.face) result }
+    ensures scrubs { work.old.stopped ≢ No → ScrubsIfQuiet (F.seen stream.old.face) (F.seen stream.new.face) }
+    ensures told { IsTold (λ look. F.tells look (app_gist (F.seen stream.new.face)) (F.beside stream.new.face)) result }
+    ensures same { (F.seen stream.new.face).app ≡ (F.seen stream.old.face).app }
+    ensures beside { F.beside stream.new.face ≡ F.beside stream.old.face }
+{
+    scrub_stopped(stream, work);
+    take_step(stream, shelf, work)
+}
+
 /// Gives back what is due, or takes a step and gives back its item, or lets the face leave.
 fn take_turn<F: AppFace, T: Shelf>(
     stream: &mut LoanStream<F>,
     shelf: &mut T,
     work: &mut PourTally,
 ) -> PollTurn
-    requires stands { (first : ℕ → Option (List ℕ)) × (losses : ℕ)
-        × PourStands first losses (tally_of work.old) stream.old.desk (T.kept shelf.old) (T.faults shelf.old) (F.seen stream.old.face) }
-    ensures gives { (first : ℕ → Option (List ℕ)) (losses : ℕ)
-        → PourStands first losses (tally_of work.old) stream.old.desk (T.kept shelf.old) (T.faults shelf.old) (F.seen stream.old.face)
-        → PourGives first losses (tally_of work.new) stream.new.desk (T.kept shelf.new) (T.faults shelf.new)
+    requires stands { (first : ℕ → Option (List ℕ)) × (losses : ShelfCounts)
+        × PourStands first losses (tally_of work.old) stream.old.desk (T.kept shelf.old) (T.counts shelf.old) (F.seen stream.old.face) }
+    ensures gives { (first : ℕ → Option (List ℕ)) (losses : ShelfCounts)
+        → PourStands first losses (tally_of work.old) stream.old.desk (T.kept shelf.old) (T.counts shelf.old) (F.seen stream.old.face)
+        → PourGives first losses (tally_of work.new) stream.new.desk (T.kept shelf.new) (T.counts shelf.new)
         (F.seen stream.new.face) result }
     ensures does { TurnDoes work.old.due stream.old.desk stream.new.desk (F.seen stream.old.face) (F.seen stream.new.face) result }
+    ensures scrubs { work.old.stopped ≢ No → ScrubsIfQuiet (F.seen stream.old.face) (F.seen stream.new.face) }
     ensures told { IsTold (λ look. F.tells look (app_gist (F.seen stream.new.face)) (F.beside stream.new.face)) result }
     ensures same { (F.seen stream.new.face).app ≡ (F.seen stream.old.face).app }
     ensures beside { F.beside stream.new.face ≡ F.beside stream.old.face }
@@ -236,7 +310,7 @@ impl<F: AppFace, T: Shelf> ToShelf<F, T> {
         requires fresh { (app : ℕ) × (stream.desk ≡ new_desk app) × HasDoneNothing app (F.seen stream.face) }
         requires stands { StreamStands stream.desk (F.seen stream.face) }
         ensures parts { (result.face ≡ stream.face) × (result.shelf ≡ shelf) × (result.desk ≡ stream.desk) }
-        ensures stands { PourStands (T.kept shelf) (T.faults shelf) result.tally result.desk (T.kept result.shelf) (T.faults result.shelf)
+        ensures stands { PourStands (T.kept shelf) (T.counts shelf) result.tally result.desk (T.kept result.shelf) (T.counts result.shelf)
             (F.seen result.face) }
     {
         let alloc = stream.alloc();
@@ -256,17 +330,20 @@ impl<F: AppFace, T: Shelf> ToShelf<F, T> {
     }
 
     /// One turn: it gives back what is due, or takes one step, writes its item and gives it back, or lets the face leave. A loan
-    /// stays due where the refill slot was seen in use.
+    /// stays due where the refill slot was seen in use. One that was stopped scrubs as soon as each refill slot is free, also while
+    /// notes still come.
     pub fn turn(&mut self) -> PollTurn
-        requires stands { (first : ℕ → Option (List ℕ)) × (losses : ℕ)
-            × PourStands first losses self.old.tally self.old.desk (T.kept self.old.shelf) (T.faults self.old.shelf)
+        requires stands { (first : ℕ → Option (List ℕ)) × (losses : ShelfCounts)
+            × PourStands first losses self.old.tally self.old.desk (T.kept self.old.shelf) (T.counts self.old.shelf)
             (F.seen self.old.face) }
-        ensures gives { (first : ℕ → Option (List ℕ)) (losses : ℕ)
-            → PourStands first losses self.old.tally self.old.desk (T.kept self.old.shelf) (T.faults self.old.shelf) (F.seen self.old.face)
-            → PourGives first losses self.new.tally self.new.desk (T.kept self.new.shelf) (T.faults self.new.shelf)
+        ensures gives { (first : ℕ → Option (List ℕ)) (losses : ShelfCounts)
+            → PourStands first losses self.old.tally self.old.desk (T.kept self.old.shelf) (T.counts self.old.shelf) (F.seen self.old.face)
+            → PourGives first losses self.new.tally self.new.desk (T.kept self.new.shelf) (T.counts self.new.shelf)
             (F.seen self.new.face) result }
         // Why it did something, waited, or ended.
         ensures does { TurnDoes self.old.tally.due self.old.desk self.new.desk (F.seen self.old.face) (F.seen self.new.face) result }
+        // One that was stopped and hadn't scrubbed has, or it saw a refill slot in use.
+        ensures scrubs { self.old.tally.stopped ≢ No → ScrubsIfQuiet (F.seen self.old.face) (F.seen self.new.face) }
         // The board says of the look on which it rests that it is so.
         ensures told { IsTold (λ look. F.tells look (app_gist (F.seen self.new.face)) (F.beside self.new.face)) result }
         // The same application at the same board.
@@ -274,6 +351,33 @@ impl<F: AppFace, T: Shelf> ToShelf<F, T> {
         ensures beside { F.beside self.new.face ≡ F.beside self.old.face }
     {
         take_turn(&mut self.stream, &mut self.shelf, &mut self.work)
+    }
+
+    /// Gives up the loan that is due and all pieces, and writes nothing more: what was written, the stream, which is stopped, and the
+    /// shelf. `leaving` gives the face of that stream back.
+    pub fn stop(self) -> (Poured, LoanStream<F>, T)
+        requires stands { (first : ℕ → Option (List ℕ)) × (losses : ShelfCounts)
+            × PourStands first losses self.tally self.desk (T.kept self.shelf) (T.counts self.shelf) (F.seen self.face) }
+        // No loan is out.
+        ensures still { IsStill result.1.desk (F.seen result.1.face) }
+        ensures view { F.seen result.1.face ≡ record (without_due self.tally.due (F.seen self.face)) { helds = [] } }
+        ensures stops { (first : ℕ → Option (List ℕ)) (losses : ShelfCounts)
+            → PourStands first losses self.tally self.desk (T.kept self.shelf) (T.counts self.shelf) (F.seen self.face)
+            → HasStopped first (T.kept result.2) (F.seen result.1.face) (pour_end result.0) }
+        ensures cause { result.0.stopped ≡ quit_by self.tally.stopped }
+        ensures shelf { result.2 ≡ self.shelf }
+        ensures beside { F.beside result.1.face ≡ F.beside self.face }
+    {
+        let ToShelf {
+            mut stream,
+            shelf,
+            mut work,
+        } = self;
+        give_up_due(&mut stream, &mut work);
+        stream.stop();
+        quit(&mut work);
+        let poured = told(&mut work, stream.alloc());
+        (poured, stream, shelf)
     }
 
     /// The face, which has left, and the shelf.
@@ -293,25 +397,37 @@ impl<F: AppFace, T: Shelf> ToShelf<F, T> {
 impl<F: AppFace + Drop, T: Shelf + Drop> Future for ToShelf<F, T> {
     type Output = Poured;
 
-    ghost can_poll = { λ s. (first : ℕ → Option (List ℕ)) × (losses : ℕ)
-        × PourStands first losses s.tally s.desk (T.kept s.shelf) (T.faults s.shelf) (F.seen s.face) };
+    ghost can_poll = { λ s. (first : ℕ → Option (List ℕ)) × (losses : ShelfCounts)
+        × PourStands first losses s.tally s.desk (T.kept s.shelf) (T.counts s.shelf) (F.seen s.face) };
+
+    ghost needs = { λ _ _. ⊤ };
+
+    /// What a last turn gives and does.
+    ghost gives = { λ s. Tells s.tally s.desk (T.kept s.shelf) (T.counts s.shelf) (F.seen s.face) };
 
     fn poll(&mut self, cx: &mut Context<'_>) -> Poll<Poured>
-        requires { (first : ℕ → Option (List ℕ)) × (losses : ℕ)
-            × PourStands first losses self.old.tally self.old.desk (T.kept self.old.shelf) (T.faults self.old.shelf)
+        requires { (first : ℕ → Option (List ℕ)) × (losses : ShelfCounts)
+            × PourStands first losses self.old.tally self.old.desk (T.kept self.old.shelf) (T.counts self.old.shelf)
             (F.seen self.old.face) }
-        ensures again { OnPending result ((first : ℕ → Option (List ℕ)) × (losses : ℕ)
-            × PourStands first losses self.new.tally self.new.desk (T.kept self.new.shelf) (T.faults self.new.shelf)
+        ensures value { IfReady result (Tells self.old.tally self.old.desk (T.kept self.old.shelf) (T.counts self.old.shelf) (F.seen self.old.face)) }
+        ensures same { OnPending result ((x : Told)
+            → Tells self.new.tally self.new.desk (T.kept self.new.shelf) (T.counts self.new.shelf) (F.seen self.new.face) x
+            → Tells self.old.tally self.old.desk (T.kept self.old.shelf) (T.counts self.old.shelf) (F.seen self.old.face) x) }
+        ensures again { OnPending result ((first : ℕ → Option (List ℕ)) × (losses : ShelfCounts)
+            × PourStands first losses self.new.tally self.new.desk (T.kept self.new.shelf) (T.counts self.new.shelf)
             (F.seen self.new.face)) }
-        ensures registered { OnPending result (Covers cx.new (λ source. ⊥)) }
+        // A poll that is pending asks for another, whatever its sources do.
+        ensures woken { OnPending result (cx.new.is_woken ≡ true) }
+        ensures registered { OnPending result (Covers cx.new (λ source. ⊤)) }
         ensures kept { Keeps cx.old cx.new }
         // It gives what one turn gives.
-        ensures gives { (first : ℕ → Option (List ℕ)) (losses : ℕ)
-            → PourStands first losses self.old.tally self.old.desk (T.kept self.old.shelf) (T.faults self.old.shelf) (F.seen self.old.face)
-            → PollPours first losses self.new.tally self.new.desk (T.kept self.new.shelf) (T.faults self.new.shelf)
+        ensures gives { (first : ℕ → Option (List ℕ)) (losses : ShelfCounts)
+            → PourStands first losses self.old.tally self.old.desk (T.kept self.old.shelf) (T.counts self.old.shelf) (F.seen self.old.face)
+            → PollPours first losses self.new.tally self.new.desk (T.kept self.new.shelf) (T.counts self.new.shelf)
             (F.seen self.new.face) result }
         ensures does { PollDoes (λ look. F.tells look (app_gist (F.seen self.new.face)) (F.beside self.new.face)) self.old.tally.due
             self.old.desk self.new.desk (F.seen self.old.face) (F.seen self.new.face) result }
+        ensures scrubs { self.old.tally.stopped ≢ No → ScrubsIfQuiet (F.seen self.old.face) (F.seen self.new.face) }
         ensures beside { F.beside self.new.face ≡ F.beside self.old.face }
     {
         match self.turn() {

@@ -33,7 +33,7 @@ impl FrontSeen<'_> {
         self.keep(piece);
         self.records.see(piece);
         if let Some(progress) = &mut self.progress {
-            progress.count(piece.len(), self.records.count());
+            progress.count(piece, self.records.count());
         }
     }
 }

@@ -12,12 +12,13 @@ mod front;
 mod messages;
 mod progress;
 mod records;
+mod unfit;
 
 use descriptors::{hold_closed_streams, spare_files};
 use file_shelf::FileShelf;
 use front::Front;
-use messages::{say_lost, say_status, say_usage};
-use progress::Progress;
+use messages::{say_lost, say_status, say_unfit, say_usage};
+use progress::{Input, Progress};
 use replay_threads::NoGate;
 use std::alloc::AllocError;
 use std::collections::hash_map::RandomState;
@@ -52,9 +53,13 @@ fn memory_or(other: Fault, error: &io::Error) -> Fault {
     }
 }
 
-/// Whether the words are those of `replay`.
-fn is_replay(words: &[&str]) -> bool {
-    matches!(words, ["replay", ..])
+/// What the command of the words reads.
+fn input_of(words: &[&str]) -> Option<Input> {
+    match words {
+        ["replay", ..] => Some(Input::Capture),
+        ["check", ..] => Some(Input::Record),
+        _ => None,
+    }
 }
 
 /// How many bytes of each open file are gathered. What comes by a pipe, a socket or a terminal may still be going on, so its streams
@@ -94,8 +99,8 @@ fn start(rt: &HostRuntime, threads: &(impl Threads + Wait + Sync)) -> Result<u8,
         .map_err(|_| Fault::Memory)?;
     let input = BufReader::with_capacity(rt.alloc(), INPUT_BUFFER, rt.reader());
     let flows = AtomicU64::new(0);
-    let replays = is_replay(&words);
-    let progress = Progress::new(rt, &flows, replays);
+    let read = input_of(&words);
+    let progress = Progress::new(rt, read, &flows);
     let mut source = Front::new(StdSource::new(input.map_err(|_| Fault::Memory)?), progress);
     let shelves = make_shelves(rt, spare_files(rt), gathered(rt), &flows);
     let mut shelves = shelves.map_err(|_| Fault::Memory)?;
@@ -113,12 +118,16 @@ fn start(rt: &HostRuntime, threads: &(impl Threads + Wait + Sync)) -> Result<u8,
         &NoGate,
         &mut card,
     );
-    close(card);
     source.clear();
+    if let Card::Found(found) = &card {
+        say_unfit(rt, *found);
+    }
+    close(card);
     if status == Fault::Usage.number() {
         say_usage(rt, &words);
     }
     say_lost(rt, &shelves);
+    let replays = matches!(read, Some(Input::Capture));
     say_status(rt, replays, status, source.bytes(), source.place());
     Ok(status)
 }
@@ -128,7 +137,7 @@ fn close(card: Card)
     requires { IsClosed card }
 {
     match card {
-        Card::Blank => {}
+        Card::Blank | Card::Found(_) => {}
         card => {
             let _ended = card.free();
         }

@@ -1,8 +1,10 @@
 //! What the program says to people, on standard error. No clause speaks of it; where it can't be said nothing is.
 
 use crate::records::LastSeen;
+use crate::unfit::Words;
 use command_words::{USAGE, what_is_wrong};
 use file_shelf::FileShelf;
+use run_check::Checked;
 use std::rt::Files;
 use zr_kinds::Fault;
 
@@ -52,8 +54,7 @@ fn meaning(fault: Fault, front: &[u8]) -> &'static str {
         Fault::NotPcap => no_capture(front),
         Fault::Version =>
             "the capture's major version isn't 2, or that of a pcapng section isn't 1",
-        Fault::LinkType =>
-            "the capture, or an interface of its packets, isn't of Ethernet (capture at one interface, not at 'any')",
+        Fault::LinkType => "the capture, or an interface of its packets, isn't of Ethernet",
         Fault::Cut => cut_short(front),
         Fault::LongRecord =>
             "a record states more than 262144 bytes, so the capture is damaged there; what came before it was replayed",
@@ -69,10 +70,14 @@ fn meaning(fault: Fault, front: &[u8]) -> &'static str {
     }
 }
 
-/// What else to do about a fault of a replay.
-fn advice(fault: Fault) -> &'static str {
-    match fault {
-        Fault::Memory => " (fewer --buffers, or a smaller --size)",
+/// What else to do about a fault of a replay whose reading ended at `place`.
+fn advice(fault: Fault, place: Option<LastSeen>) -> &'static str {
+    match (fault, place) {
+        (Fault::Memory, _) => "; give fewer --buffers, or a smaller --size",
+        (Fault::LinkType, Some(LastSeen::Block(_, Some(_)))) => {
+            "; keep what came at Ethernet alone: tshark -r FILE -Y 'frame.interface_id == 0' -w OTHER, or editcap FILE OTHER and the numbers of the records to leave out"
+        }
+        (Fault::LinkType, _) => "; capture at one interface, not at 'any'",
         _ => "",
     }
 }
@@ -119,14 +124,20 @@ pub(crate) fn say_status(
         return;
     };
     let meaning = meaning(fault, front);
-    match place {
+    let advice = if replays { advice(fault, place) } else { "" };
+    let _ = match place {
         Some(place) if is_within(fault) => {
-            let _ = eprintln!(rt; "zcrx: status {status}: {meaning} (at {place})");
+            eprintln!(rt; "zcrx: status {status}: {meaning} (at {place}){advice}")
         }
-        _ => {
-            let advice = if replays { advice(fault) } else { "" };
-            let _ = eprintln!(rt; "zcrx: status {status}: {meaning}{advice}");
-        }
+        _ => eprintln!(rt; "zcrx: status {status}: {meaning}{advice}"),
+    };
+}
+
+/// Says why a line of a record is bad, if one is.
+pub(crate) fn say_unfit(rt: &HostRuntime, found: Checked) {
+    if let Checked::No { line, why } = found {
+        let words = Words(why);
+        let _ = eprintln!(rt; "zcrx: line {line}: {words}");
     }
 }
 

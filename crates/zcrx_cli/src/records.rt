@@ -52,15 +52,18 @@ impl Form {
 pub(crate) enum LastSeen {
     /// The number of a record, from 1, and how many bytes stand before it.
     Record(u64, u64),
-    /// How many bytes stand before a block.
-    Block(u64),
+    /// How many bytes stand before a block, and the number of the record that it is, from 1, where it is a packet's.
+    Block(u64, Option<u64>),
 }
 
 impl fmt::Display for LastSeen {
     fn fmt<W: fmt::Write>(&self, f: &mut fmt::Formatter<W>) -> fmt::Result {
         match self {
             LastSeen::Record(number, at) => write!(f, "record {number}, behind {at} bytes"),
-            LastSeen::Block(at) => write!(f, "the block behind {at} bytes"),
+            LastSeen::Block(at, None) => write!(f, "the block behind {at} bytes"),
+            LastSeen::Block(at, Some(number)) => {
+                write!(f, "record {number}, the block behind {at} bytes")
+            }
         }
     }
 }
@@ -80,6 +83,8 @@ pub(crate) struct RecordCounter {
     begin: u64,
     /// How many records or packets began.
     count: u64,
+    /// Whether the block that went by last is a packet's.
+    packet: bool,
 }
 
 impl RecordCounter {
@@ -92,6 +97,7 @@ impl RecordCounter {
             gone: 0,
             begin: 0,
             count: 0,
+            packet: false,
         }
     }
 
@@ -104,7 +110,10 @@ impl RecordCounter {
     pub(crate) fn place(&self) -> Option<LastSeen> {
         match self.form {
             Form::Unknown | Form::Other | Form::FileHeader(_) => None,
-            Form::Blocks(_) => Some(LastSeen::Block(self.begin)),
+            Form::Blocks(_) => {
+                let number = self.packet.then_some(self.count);
+                Some(LastSeen::Block(self.begin, number))
+            }
             Form::Records(_) if self.filled > 0 => {
                 Some(LastSeen::Record(self.count.saturating_add(1), self.begin))
             }
@@ -134,6 +143,7 @@ impl RecordCounter {
         let (part, rest) = piece.split_at(more);
         if self.filled == 0 && more > 0 {
             self.begin = self.gone;
+            self.packet = false;
         }
         self.gone = self.gone.saturating_add(more as u64);
         for byte in part {
@@ -186,6 +196,7 @@ impl RecordCounter {
             ENHANCED_PACKET | SIMPLE_PACKET
         ) {
             self.count = self.count.saturating_add(1);
+            self.packet = true;
         }
         let total = u64::from(order.number32(&self.header[MAGIC..]));
         self.skip = total.saturating_sub(BLOCK_HEADER as u64);

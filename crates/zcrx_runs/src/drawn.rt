@@ -14,7 +14,7 @@ const CAPTURES: u32 = 40;
 const FRAMES: u32 = 14;
 
 /// How a frame stands to those before it.
-#[derive(Clone, Copy, Debug)]
+#[derive(Clone, Copy)]
 enum Kind {
     NextBytes,
     SameBytesAgain,

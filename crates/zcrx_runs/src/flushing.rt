@@ -1,6 +1,6 @@
 //! Shelves whose flush fails, behind a run in which all went well.
-ghost use Rattle.std.specs.{Prelude.{ℕ, ◌≢◌, None}, Io.KnownBytes.{Keeps}};
-ghost use Rattle.zr_io.specs.Moved.{AddsPiece, HasCause};
+ghost use Rattle.std.specs.{Prelude.{◌≡◌, ℕ, ◌≢◌, None}, Io.KnownBytes.{Keeps}};
+ghost use Rattle.zr_io.specs.Moved.{AddsPiece, CountsPiece, HasCause};
 
 use replay_threads::NoGate;
 use sample_captures::{PSH_ACK, capture_of, to_9000, to_9001};
@@ -27,12 +27,14 @@ struct Flushed {
     fails: bool,
     flushes: u32,
     faults: u64,
+    appended: u64,
 }
 
 impl Flushed {
     /// Counts what failed.
     fn count(&mut self, outcome: Result<(), Failed>) -> Result<(), Failed>
         ensures cause { HasCause self.old.faults self.new.faults result }
+        ensures same { self.new.appended ≡ self.old.appended }
     {
         match outcome {
             Ok(()) => Ok(()),
@@ -47,20 +49,24 @@ impl Flushed {
 impl Shelf for Flushed {
     ghost kept = { λ _ _. None };
 
-    ghost faults = { λ s. s.faults };
+    ghost counts = { λ s. record { faults = s.faults; appended = s.appended } };
 
     fn append(&mut self, flow: u32, piece: &[u8]) -> Result<(), Failed>
         ensures bytes { AddsPiece None None result piece.now }
         ensures others { (other : ℕ) → other ≢ flow → Keeps None None }
         ensures cause { HasCause self.old.faults self.new.faults result }
+        ensures counted { CountsPiece self.old.appended self.new.appended result piece.now }
     {
         let added = self.shelf.append(flow, piece);
-        self.count(added)
+        self.count(added)?;
+        self.appended = self.appended.saturating_add(piece.len() as u64);
+        Ok(())
     }
 
     fn flush(&mut self) -> Result<(), Failed>
         ensures bytes { (flow : ℕ) → Keeps None None }
         ensures cause { HasCause self.old.faults self.new.faults result }
+        ensures counted { self.new.appended ≡ self.old.appended }
     {
         self.flushes = self.flushes.saturating_add(1);
         self.count(if self.fails { Err(Failed) } else { Ok(()) })
@@ -87,6 +93,7 @@ fn shelves(alloc: Global, fails: usize) -> Result<Vec<Flushed>, Fail> {
             fails: app == fails,
             flushes: 0,
             faults: 0,
+            appended: 0,
         })?;
     }
     Ok(shelves)

@@ -12,8 +12,8 @@ pub const APART: Option<usize> = Some(10);
 /// One, for which all go round in one thread.
 pub const TOGETHER: Option<usize> = Some(1);
 
-/// How often a role looks whether something has come.
-const LOOKS: u32 = 10_000_000;
+/// How often a role looks whether something has come: some 25 seconds where nobody else wants its processor.
+const LOOKS: u32 = 100_000_000;
 
 /// Looks until a number has come so far, which it mostly does. Answers whether it has.
 pub fn waits_for(number: &AtomicU64, wanted: u64) -> bool {

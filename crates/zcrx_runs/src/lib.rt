@@ -22,6 +22,8 @@ mod making;
 #[cfg(test)]
 mod plain;
 #[cfg(test)]
+mod processors;
+#[cfg(test)]
 mod reading;
 #[cfg(test)]
 mod threads;

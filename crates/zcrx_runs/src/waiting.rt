@@ -271,7 +271,7 @@ fn check_meeting(
 fn the_card_and_an_application_go_on_side_by_side(rt: HostRuntime) -> Result<(), Fail> {
     let made = made(&rt, &["make", "7", "2000"])?;
     check_meeting(&rt, &made, 0, 0)?;
-    check_meeting(&rt, &made, 1900, 100)
+    check_meeting(&rt, &made, 400, 100)
 }
 
 /// A source that gives one record only once the card has begun its turns.

@@ -22,13 +22,14 @@ pub record Drain : Type 0 where
   pub calls : ℕ
   pub faults : ℕ
 
--- a shelf of memory: what is kept of each flow that has room, and the rest as for a sink
+-- a shelf of memory: what is kept of each flow that has room, the rest as for a sink, and the bytes of the appends that went well
 pub record Rack : Type 0 where
   pub flows : List (List ℕ)
   pub room : ℕ
   pub fails : List (ℕ × ℕ)
   pub calls : ℕ
   pub faults : ℕ
+  pub appended : ℕ
 
 -- what the list of failing calls says of the next call: how many bytes go out before its fault
 abbrev pub next_entry : List (ℕ × ℕ) → ℕ → Option ℕ

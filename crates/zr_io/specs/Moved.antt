@@ -1,5 +1,5 @@
 -- What moved through a source, a sink or a shelf, where it tells its bytes, and why a call may fail.
-use Rattle.std.specs.{Prelude.{◌≡◌, ℕ, ◌+◌, ◌-◌, ◌^◌, ◌≤◌, min, List, ◌++◌, take, Option, None, Some, Result, OnOk, OnErr, MatchResult}, Io.KnownBytes.{Appends}}
+use Rattle.std.specs.{Prelude.{◌≡◌, ℕ, ◌+◌, ◌-◌, ◌^◌, ◌≤◌, min, List, ◌++◌, length, take, Option, None, Some, Result, OnOk, OnErr, MatchResult}, Io.KnownBytes.{Appends}}
 
 -- A count of faults rose; it stands still at the end of its type.
 abbrev pub Rose : ℕ → ℕ → Type 0
@@ -10,6 +10,19 @@ pub record HasCause {T E : Type 0} (before now : ℕ) (result : Result T E) : Ty
   pub later : before ≤ now
   pub still : OnOk result (now ≡ before)
   pub failed : OnErr result (Rose before now)
+
+-- what a shelf counts: how often it failed, and the bytes of all appends that answered `Ok`
+pub record ShelfCounts : Type 0 where
+  pub faults : ℕ
+  pub appended : ℕ
+
+-- a count with so many more: it stands still at the end of its type
+abbrev pub raised_by : ℕ → ℕ → ℕ
+raised_by count more = count + min more (2 ^ 64 - 1 - count)
+
+-- A count of bytes rose by those of the piece at `Ok`, and stood still at `Err`.
+abbrev pub CountsPiece : {T E : Type 0} → ℕ → ℕ → Result T E → List ℕ → Type 0
+CountsPiece before now result piece = MatchResult result (λ _. now ≡ raised_by before (length piece)) (λ _. now ≡ before)
 
 -- What was told before went on by the whole piece at `Ok`, and by a front of it at `Err`.
 abbrev pub AddsPiece : {T E : Type 0} → Option (List ℕ) → Option (List ℕ) → Result T E → List ℕ → Type 0

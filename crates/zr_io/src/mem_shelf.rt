@@ -1,6 +1,6 @@
 //! A shelf over memory.
 ghost use Rattle.std.specs.{Prelude.{◌≡◌, ℕ, ◌<◌, ◌+◌, ◌-◌, ◌++◌, ◌≢◌, ◌⊎◌, ◌↔◌, [], Some, length, replicate, nat_lt, slice_index_or, slice_set, IsErr, IsOk, IsSome, IfOk, MatchResult, if◌then◌else◌}, Io.KnownBytes.{Keeps}};
-ghost use Rattle.zr_io.specs.{Moved.{AddsPiece, HasCause}, Memory.{raised, next_entry, front_out, kept_of, room_of, flows_with}, Reserved.{AreReserved, bytes_of}};
+ghost use Rattle.zr_io.specs.{Moved.{AddsPiece, CountsPiece, HasCause, raised_by}, Memory.{raised, next_entry, front_out, kept_of, room_of, flows_with}, Reserved.{AreReserved, bytes_of}};
 
 use crate::calls::{entry_for, raise, receive};
 use crate::traits::{Failed, Shelf};
@@ -15,6 +15,7 @@ pub struct MemShelf {
     fails: Vec<(u64, usize)>,
     calls: u64,
     faults: u64,
+    appended: u64,
 }
 
 impl Model for MemShelf {
@@ -28,6 +29,7 @@ impl Model for MemShelf {
       fails = s.fails.items;
       calls = s.calls;
       faults = s.faults;
+      appended = s.appended;
     } };
 
     ghost invariant = { λ s. AreReserved s.room s.flows.items };
@@ -43,7 +45,7 @@ impl MemShelf {
         room: usize,
         fails: Vec<(u64, usize)>,
     ) -> Result<MemShelf, AllocError>
-        ensures { IfOk result (λ s. s ≡ record { flows = replicate flows []; room = room; fails = fails.items; calls = 0; faults = 0 }) }
+        ensures { IfOk result (λ s. s ≡ record { flows = replicate flows []; room = room; fails = fails.items; calls = 0; faults = 0; appended = 0 }) }
     {
         Ok(MemShelf {
             flows: reserve(alloc, flows, room)?,
@@ -51,6 +53,7 @@ impl MemShelf {
             fails,
             calls: 0,
             faults: 0,
+            appended: 0,
         })
     }
 
@@ -68,17 +71,22 @@ impl MemShelf {
 impl Shelf for MemShelf {
     ghost kept = { λ s flow. Some (kept_of s flow) };
 
-    ghost faults = { λ s. s.faults };
+    ghost counts = { λ s. record { faults = s.faults; appended = s.appended } };
 
     fn append(&mut self, flow: u32, piece: &[u8]) -> Result<(), Failed>
         ensures bytes { AddsPiece (Some (kept_of self.old flow)) (Some (kept_of self.new flow)) result piece.now }
         ensures others { (other : ℕ) → other ≢ flow → Keeps (Some (kept_of self.old other)) (Some (kept_of self.new other)) }
         ensures cause { HasCause self.old.faults self.new.faults result }
+        ensures counted { CountsPiece self.old.appended self.new.appended result piece.now }
 
         ensures fails { IsErr result ↔ (room_of self.old flow < length (kept_of self.old flow) + length piece.now)
             ⊎ IsSome (next_entry self.old.fails self.old.calls) }
         ensures after { let calls = raised self.old.calls in MatchResult result
-            (λ _. self.new ≡ record self.old { flows = flows_with self.old flow piece.now; calls = calls })
+            (λ _. self.new ≡ record self.old {
+              flows = flows_with self.old flow piece.now;
+              calls = calls;
+              appended = raised_by self.old.appended (length piece.now);
+            })
             (λ _. self.new ≡ record self.old {
               flows = flows_with self.old flow
                   (front_out (room_of self.old flow - length (kept_of self.old flow)) (next_entry self.old.fails self.old.calls) piece.now);
@@ -91,6 +99,8 @@ impl Shelf for MemShelf {
         let result = store(&mut self.flows, self.room, flow, entry, piece);
         if result.is_err() {
             raise(&mut self.faults);
+        } else {
+            self.appended = self.appended.saturating_add(piece.len() as u64);
         }
         result
     }
@@ -99,6 +109,7 @@ impl Shelf for MemShelf {
     fn flush(&mut self) -> Result<(), Failed>
         ensures bytes { (flow : ℕ) → Keeps (Some (kept_of self.old flow)) (Some (kept_of self.new flow)) }
         ensures cause { HasCause self.old.faults self.new.faults result }
+        ensures counted { self.new.appended ≡ self.old.appended }
 
         ensures after { IsOk result × (self.new ≡ self.old) }
     {

@@ -1,5 +1,5 @@
-ghost use Rattle.std.specs.{Prelude.{◌≢◌, ℕ, ◌<◌, List, Option, length}, Io.{ReadsAtMost, KnownBytes.{Keeps, ReadConsumes}}};
-ghost use Rattle.zr_io.specs.Moved.{AddsPiece, HasCause};
+ghost use Rattle.std.specs.{Prelude.{◌≡◌, ◌≢◌, ℕ, ◌<◌, List, Option, length}, Io.{ReadsAtMost, KnownBytes.{Keeps, ReadConsumes}}};
+ghost use Rattle.zr_io.specs.Moved.{AddsPiece, CountsPiece, HasCause, ShelfCounts};
 
 /// A call of a source, a sink or a shelf failed.
 #[derive(Clone, Copy, Debug, PartialEq, Eq)]
@@ -41,17 +41,20 @@ pub trait Shelf {
     /// What is kept of a flow, where the shelf tells it.
     ghost kept: { Self → ℕ → Option (List ℕ) };
 
-    /// How often it has failed. It rises in a call that fails, and stands still in one that succeeds.
-    ghost faults: { Self → ℕ };
+    /// How often it has failed, which rises in a call that fails and stands still in one that succeeds; and how many bytes the
+    /// appends that succeeded took.
+    ghost counts: { Self → ShelfCounts };
 
     /// Adds the whole piece to the flow's end, or at `Failed` a front of it. Other flows stay as they were.
     fn append(&mut self, flow: u32, piece: &[u8]) -> Result<(), Failed>
         ensures bytes { AddsPiece (kept self.old flow) (kept self.new flow) result piece.now }
         ensures others { (other : ℕ) → other ≢ flow → Keeps (kept self.old other) (kept self.new other) }
-        ensures cause { HasCause (faults self.old) (faults self.new) result };
+        ensures cause { HasCause (counts self.old).faults (counts self.new).faults result }
+        ensures counted { CountsPiece (counts self.old).appended (counts self.new).appended result piece.now };
 
     /// Hands on what it keeps back of any flow, as a buffered writer's flush does. What is kept of each stays as it was.
     fn flush(&mut self) -> Result<(), Failed>
         ensures bytes { (flow : ℕ) → Keeps (kept self.old flow) (kept self.new flow) }
-        ensures cause { HasCause (faults self.old) (faults self.new) result };
+        ensures cause { HasCause (counts self.old).faults (counts self.new).faults result }
+        ensures counted { (counts self.new).appended ≡ (counts self.old).appended };
 }

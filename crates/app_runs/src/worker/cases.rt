@@ -5,7 +5,7 @@ ghost use Rattle.app_runs.specs.Scene.{IsPlaying};
 
 use super::{Scene, all_free, card_step, open, turn_and_deal, turn_step, turns_until};
 use crate::card::{CardMove, Told};
-use crate::step::{Line, Step, move_of, same_bytes, same_line, same_told, went};
+use crate::step::{Line, Step, move_of, same_bytes, same_line, went};
 use app_worker::{AppState, Turn};
 use plain_board::PlainBoard;
 use std::alloc::Global;
@@ -101,7 +101,7 @@ fn step_once(
     let mut board = board;
     if let Some((call, wanted)) = call {
         let (then, told) = card_step(board, scene, call);
-        same_told(rt, name, number, told, wanted);
+        went(rt, name, number, told == wanted);
         board = then;
         if !matches!(&step, Step::Taken(..) | Step::ShortTaken(..)) {
             return board;

@@ -1,14 +1,14 @@
-//! Drawn lists of notes, against a plain copying receiver.
+//! Drawn lists of notes, against the marks that are worked out by the book.
 use super::cases::{CASE, Case, played};
-use crate::step::{Line, Step, part, piece, same_bytes, short};
+use crate::plain::{PlainMark, plain_marks};
+use crate::step::{Line, Step, length_of, part, piece, same_bytes, short};
 use app_worker::{Turn, Why};
+use board_face::TakenNote;
 use std::alloc::{AllocError, Global};
+use std::collections::LinkedList;
 use std::process::Abort;
 use std::test::*;
 use zr_kinds::Note;
-
-/// Positions of a flow are below this.
-const ROOM: u32 = 64;
 
 /// Pieces in a buffer of 4,096 bytes, which lie 64 bytes apart.
 const PIECES: u32 = 64;
@@ -34,45 +34,34 @@ impl Draws {
     }
 }
 
-/// The steps of a list, and what a copying receiver has of three flows: at each position the byte that came first.
+/// The steps of a list, and the notes that the card sends in them, with the bytes of each.
 #[derive(Drop)]
 struct List<'a> {
+    alloc: Global,
     steps: Vec<Step<'a>>,
-    placed: Vec<Option<u8>>,
+    notes: Vec<TakenNote>,
+    texts: Vec<&'a [u8]>,
     /// How many pieces lie in the card's buffer.
     used: u32,
 }
 
 impl<'a> List<'a> {
-    /// The flow gets the bytes of a note.
-    fn receive(&mut self, note: &Note, bytes: &[u8]) {
-        let mut at = note.seq.wrapping_add(note.at).wrapping_sub(note.base);
-        for byte in bytes {
-            if at < ROOM {
-                let place = note.flow.wrapping_mul(ROOM).wrapping_add(at) as usize;
-                if let Some(placed) = self.placed.get_mut(place) {
-                    *placed = placed.or(Some(*byte));
-                }
-            }
-            at = at.wrapping_add(1);
-        }
+    /// The byte at a mark.
+    fn byte_at(&self, mark: PlainMark) -> Option<u8> {
+        self.texts.get(mark.note)?.get(mark.place as usize).copied()
     }
 
-    /// The bytes of a flow up to the first position where none came.
-    fn stream(&self, alloc: Global, flow: u32) -> Result<Vec<u8>, AllocError> {
-        let mut stream = Vec::new(alloc);
-        for at in 0..ROOM {
-            let place = flow.wrapping_mul(ROOM).wrapping_add(at) as usize;
-            let Some(Some(byte)) = self.placed.get(place) else {
-                break;
-            };
-            stream.push(*byte)?;
+    /// The bytes at the marks of a flow.
+    fn stream(&self, flow: u32) -> Result<Vec<u8>, Fail> {
+        let mut stream = Vec::new(self.alloc);
+        for mark in &plain_marks(self.alloc, flow, &self.notes)? {
+            stream.push(self.byte_at(*mark).ok_or("a mark of no byte")?)?;
         }
         Ok(stream)
     }
 
     /// The card sends a note with its bytes. A piece that its buffer has no room for goes to the next.
-    fn send(&mut self, note: Note, bytes: &'a [u8]) -> Result<(), AllocError> {
+    fn send(&mut self, mut note: Note, bytes: &'a [u8]) -> Result<(), AllocError> {
         if note.split && self.used == PIECES {
             self.steps.push(Step::Next)?;
             self.used = 0;
@@ -80,7 +69,10 @@ impl<'a> List<'a> {
         if note.split {
             self.used = self.used.wrapping_add(1);
         }
-        self.receive(&note, bytes);
+        note.place.len = length_of(bytes);
+        let none = LinkedList::new(self.alloc);
+        self.notes.push(TakenNote { note, bytes: none })?;
+        self.texts.push(bytes)?;
         self.steps.push(Step::Drawn(note, bytes))?;
         Ok(())
     }
@@ -161,7 +153,7 @@ fn drawn_bytes(alloc: Global, draws: &mut Draws) -> Result<Vec<u8>, AllocError> 
     Ok(bytes)
 }
 
-/// Plays a drawn list, and compares each flow with what the copying receiver has.
+/// Plays a drawn list, and compares each flow with the bytes at its marks.
 fn drawn_list(
     rt: &impl Abort,
     alloc: Global,
@@ -170,8 +162,10 @@ fn drawn_list(
 ) -> Result<Line, Fail> {
     let hold = draws.below(3);
     let mut list = List {
+        alloc,
         steps: Vec::new(alloc),
-        placed: vec![in alloc; None; 192]?,
+        notes: Vec::new(alloc),
+        texts: Vec::new(alloc),
         used: 0,
     };
     list.draw(draws, noise)?;
@@ -183,7 +177,7 @@ fn drawn_list(
     };
     let (line, shelf) = played(rt, alloc, &case, &list.steps, b"")?;
     for flow in 0..3 {
-        let stream = list.stream(alloc, flow)?;
+        let stream = list.stream(flow)?;
         same_bytes(rt, case.name, flow, shelf.flow(flow), &stream);
     }
     Ok(line)

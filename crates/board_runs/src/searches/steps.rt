@@ -3,7 +3,7 @@ ghost use Rattle.board_face.specs.{AppCalls.{IsHere}, NicCalls.{IsOpen, HasNoTok
 ghost use Rattle.board_runs.specs.Played.{IsIdle};
 
 use board_face::{AppFace, NicFace, Own, Polled};
-use page_pool::{Pool, find_fresh, nic_drain};
+use page_pool::{Pool, SearchEnd, find_fresh, nic_drain};
 use std::alloc::AllocError;
 use zr_kinds::{Note, PoolStats, Rqe};
 
@@ -15,7 +15,7 @@ const VOID: Rqe = Rqe {
 };
 
 /// A step of the card or of an application. The application's number stands first.
-#[derive(Clone, Copy, Debug)]
+#[derive(Clone, Copy)]
 pub enum Step {
     /// The card takes so many buffers, sends so many pieces of a byte of each to an application, and closes it.
     Send(u32, u32, u32),
@@ -40,7 +40,7 @@ impl Step {
 }
 
 /// What a step answers.
-#[derive(Clone, Copy, Debug, PartialEq, Eq)]
+#[derive(Clone, Copy, PartialEq, Eq)]
 pub enum Told {
     Done,
     /// Whether so many buffers are cached, how many are, and where all searches so far have ended.
@@ -67,7 +67,9 @@ pub fn card_step<F: NicFace>(face: &mut F, stats: &mut PoolStats, step: Step) ->
             Some(Told::Done)
         }
         Step::Search(needed) if needed <= 64 => {
-            let found = find_fresh(face, stats, needed);
+            let end = find_fresh(face, stats, needed);
+            end.count(stats);
+            let found = !matches!(end, SearchEnd::Empty);
             Some(Told::Found(found, face.cached(), *stats))
         }
         Step::Drain => {

@@ -1,7 +1,7 @@
 -- A turn of an application goes on with its part of the run.
 use Rattle.std.proofs.Common.{◌≡◌, ◌≢◌, true, false, ◌∙◌, subst}
 use Rattle.app_worker.specs.{Turns.{Answers}, declared.turn.Turn.TheVariants.{Finished}}
-use Rattle.run_account.{specs.declared.run.Worker.{Worker}, proofs.Workers.{goes-on}}
+use Rattle.run_account.{specs.{declared.run.Worker.{Worker}, Behind.{behind}}, proofs.Workers.{goes-on}}
 use Rattle.app_lanes.proofs.seated.take_turn.Goals.{in-Finished, in_default}
 use Rattle.app_lanes.proofs.seated.take_turn.Goals as goal
 
@@ -24,7 +24,7 @@ returns g c =
       | in_default w ↦ w.in_default.not-Finished same
     ] in
     let finished = λ (left : w_now.left ≡ true). subst
-    (λ turn. Answers own.worker.state w_now.state old new (g.T.Shelf.faults shelf) (g.T.Shelf.faults shelf_now) turn) (is_left left) step.turns.answer in
+    (λ turn. Answers own.worker.state w_now.state old new (g.T.Shelf.counts shelf).faults (g.T.Shelf.counts shelf_now).faults turn) (is_left left) step.turns.answer in
     record {
       goes = record {
         board = step.beside;
@@ -36,9 +36,11 @@ returns g c =
             gone = λ left. ((finished left).1, (finished left).2);
           };
         };
-        runs = λ first count how runs. goes-on first (g.T.Shelf.kept shelf) (g.T.Shelf.kept shelf_now) count (g.T.Shelf.faults shelf)
-            (g.T.Shelf.faults shelf_now) how old new own.worker w_now result runs step.turns step.later is_left
+        runs = λ first count how runs. goes-on first (g.T.Shelf.kept shelf) (g.T.Shelf.kept shelf_now) count (g.T.Shelf.counts shelf)
+            (g.T.Shelf.counts shelf_now) how old new own.worker w_now result runs step.turns step.later is_left
             (record { fronts = step.fronts _; failed = step.failed _; whole = step.whole _; copies = step.copies; counts = step.counts })
-            (λ left. (finished left).2) step.still;
+            (λ left. (finished left).2) step.still step.appended;
+        comes = λ plan first count comes. (comes.0, comes.1, comes.2, behind _ _ comes.3 (result, step.turns));
       };
+      takes = ((result, step.turns), c.came_of.ensures);
     }

@@ -2,7 +2,7 @@
 use Rattle.std.specs.Prelude.{◌≡◌, ℕ, ◌+◌, ◌<◌, ◌≤◌, ◌++◌, map, reverse, false, All, vec_len, vec_capacity}
 use Rattle.board_face.specs.NicCalls.{apps_of}
 use Rattle.word_board.specs.Board.{was_given}
-use Rattle.card_feed.specs.{Plan.{how_of}, declared.plan.Plan.{Plan}}
+use Rattle.card_feed.specs.declared.plan.Plan.{Plan}
 use Rattle.app_lanes.{specs.{Lanes.{AreAtOpening}, Seated.{AreStarts, Begins, shelf_of}}, proofs.Starts.{AreStartsSoFar}}
 use Rattle.app_lanes.proofs.seating.open_lanes.Given as goal
 
@@ -18,7 +18,7 @@ invariant-loop-start g l = record {
   shelves_room : vec_capacity l.shelves ≡ vec_capacity l.fn.shelves;
   lanes : AreAtOpening l.board (vec_len l.starts) (reverse l.lanes.items);
   begin : (plan : Plan) → AreStarts plan l.fn.starts.items → AreStartsSoFar plan l.starts.items
-      × All (λ lane. Begins g.T.Shelf.kept g.T.Shelf.faults (how_of plan) lane.seated) l.lanes.items;
+      × All (λ lane. Begins g.T.Shelf.kept g.T.Shelf.counts plan lane.seated) l.lanes.items;
   kept : l.shelves.items ++ map (λ lane. shelf_of lane.seated) (reverse l.lanes.items) ≡ l.fn.shelves.items;
 }
 

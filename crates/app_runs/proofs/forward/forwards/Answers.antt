@@ -1,10 +1,9 @@
 -- At first nothing was taken. Each turn keeps the board and the number of the application, so that at the end both seats are back.
-use Rattle.std.proofs.Common.{◌≡◌, refl, sym, ap, subst, ◌∙◌}
-use Rattle.area_layout.specs.Layout.{Shape, pool_buffers}
-use Rattle.board_face.specs.{Ended.{IsEachOnce}, NicCalls.{apps_of}, Opened.{new_nic, new_app}, declared.views.parts.Setting.{Setting}}
+use Rattle.std.proofs.Common.{◌≡◌, refl, sym, ap, ◌∙◌}
+use Rattle.area_layout.specs.Layout.{Shape}
+use Rattle.board_face.specs.{NicCalls.{apps_of}, Opened.{new_nic, new_app}, declared.views.parts.Setting.{Setting}}
 use Rattle.word_board.specs.Board.{gave_role, new_desk}
-use Rattle.zc_forward.proofs.Apps.{turn-app}
-use Rattle.app_runs.proofs.{Seats.{all-back, only-pool}, forward.forwards.Goals.{After-new-work, in-Did, in-Idle}}
+use Rattle.app_runs.proofs.{Seats.{all-back}, forward.forwards.Goals.{After-new-work, in-Did, in-Idle}}
 use Rattle.app_runs.proofs.forward.forwards.Goals as goal
 
 -- the desk gave both seats, which are new
@@ -43,14 +42,8 @@ finish-requires-clause-back g c =
     let (desk, _, _) = given g (goal.at.finish-requires-clause-back g c).After-new-work in
     let many : apps_of c.in_ok-board.board.setting ≡ 1 = ap (λ (l : Shape). l.reserves) c.in_ok-board.ensures.setting in
     let number : c.parts-seat.result.0.side.view.app ≡ 0 =
-    ap (λ s. s.side.view.app) c.parts-seat.ensures.0 ∙ turn-app _ _ _ c.turn.ensures.does ∙ c.loop-turn.invariant.number in
+    ap (λ s. s.side.view.app) c.parts-seat.ensures.0 ∙ c.turn.ensures.same ∙ c.loop-turn.invariant.number in
     rw (c.back-in-Ended.ensures.desk, c.back.ensures.desk, c.loop-turn.invariant.desk, desk) (all-back _ _ _ _ _ many number)
-
-pub returns-in-Ended : goal.returns-in-Ended
-returns-in-Ended g c =
-    let pool : pool_buffers c.in_ok-board.board.setting.layout ≡ c.args.script.now.buffers =
-    ap pool_buffers c.in_ok-board.ensures.setting ∙ only-pool c.args.script.now.buffers in
-    subst (λ n. IsEachOnce n c.finish.result.free.items) pool c.finish.ensures.once
 
 pub loop-turn-preserved : goal.loop-turn-preserved
 loop-turn-preserved g c =
@@ -58,11 +51,11 @@ loop-turn-preserved g c =
     record {
       desk = c.loop-turn.invariant.desk;
       at = elim c.match-turn.branch [
-        | in-Did w ↦ rw w.hand-is c.loop-turn.invariant.at
-        | in-Idle w ↦ rw w.hand-is (w.feed.ensures ∙ c.loop-turn.invariant.at)
+        | in-Did w ↦ rw w.card-is c.loop-turn.invariant.at
+        | in-Idle w ↦ rw w.card-is (w.feed.ensures ∙ c.loop-turn.invariant.at)
       ];
       beside = c.turn.ensures.beside ∙ c.loop-turn.invariant.beside;
-      number = turn-app _ _ _ c.turn.ensures.does ∙ c.loop-turn.invariant.number;
+      number = c.turn.ensures.same ∙ c.loop-turn.invariant.number;
       stands = elim c.match-turn.branch [
         | in-Did w ↦ (first, losses, w.in-Did.ensures.gives first losses stands)
         | in-Idle w ↦ (first, losses, w.in-Idle.ensures.gives first losses stands)

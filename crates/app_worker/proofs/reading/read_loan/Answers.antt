@@ -73,6 +73,7 @@ loop-done-preserved g c =
       search rules,
       subst (λ k. IsReadUpTo w.reads (lent_piece taken l) (c.loop-done.done + k)) size
           (read-on taken v lie l c.loop-done.done c.read.new.into out c.read.ensures.copied inv.9),
+      omega (arith, c.in_ok-append.ensures.counted, inv.10, size),
     )
 
 pub returns-clause-through : goal.returns-clause-through

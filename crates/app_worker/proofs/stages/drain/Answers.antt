@@ -3,6 +3,7 @@ use Rattle.std.{specs.Prelude.{if◌then◌else◌}, proofs.lemmas.{Bool.{cases_
 use Rattle.app_worker.{specs.{State.{State}, StateOf.{state_of}, Whole.{ReadOne}, Stages.{kept_of}}, proofs.{Pushing.{back-did}, Moving.{looks-trans, rose-after}}}
 use Rattle.app_worker.proofs.Through.{write-stopped, write-later, read-did, through-none, through-then, through-read, through-gave, through-in-use}
 use Rattle.app_worker.proofs.{Quitting.{has-quit, quit-later}, stages.drain.Goals.{After-give_back}}
+use Rattle.zr_io.specs.Moved.{raised_by}
 use Rattle.app_worker.proofs.stages.drain.Goals as goal
 
 pub loop-face-init : goal.loop-face-init
@@ -19,6 +20,7 @@ loop-face-init g c = (
   λ on. (on, λ yes. absurd (cc)),
   λ off. inl off,
   c.requires.pushed,
+  λ had is. is,
 )
 
 pub returns-in-Failed-clause-reads : goal.returns-in-Failed-clause-reads
@@ -135,6 +137,7 @@ loop-face-preserved g c =
       λ off. off-too a b d e (sym (ap (λ (s : State). s.flush) gave.0.same) ∙ off) (ap (λ (s : State). s.unread) gave.0.same) inv.9 read.flushed
           (λ none. absurd (omega (arith, c.loop-face-test.true, c.len.ensures.len, ap length none))),
       gave.2,
+      λ had is. c.read_one.ensures.appended had (inv.11 had is) ∙ ap (raised_by had) (sym (ap (λ (s : State). s.written) gave.0.same)),
     )
 
 -- all that was to be read was
@@ -170,3 +173,20 @@ loop-face-smaller g c =
     (g.F.AppFace.seen c.give_back.new.face) c.give_back.result c.in_default-give_back.not-Part c.in_default-give_back.not-InUse read.due
     c.give_back.ensures.gives in
     omega (arith, read.unread, ap (λ (s : State). length s.unread) gave.0.same)
+
+-- what is counted as appended is what was written
+pub returns-in-Failed-clause-appended : goal.returns-in-Failed-clause-appended
+returns-in-Failed-clause-appended g c had is =
+    c.read_one.ensures.appended had (c.loop-face.invariant.11 had is) ∙ ap (raised_by had) (sym (ap (λ (s : State). s.written) c.let_go.ensures.done.same))
+
+pub returns-in-Quit-clause-appended : goal.returns-in-Quit-clause-appended
+returns-in-Quit-clause-appended g c had is =
+    c.read_one.ensures.appended had (c.loop-face.invariant.11 had is) ∙ ap (raised_by had) (sym (ap (λ (s : State). s.written) c.let_go-in-Quit.ensures.done.same))
+
+pub returns-in-Part-clause-appended : goal.returns-in-Part-clause-appended
+returns-in-Part-clause-appended g c had is =
+    c.read_one.ensures.appended had (c.loop-face.invariant.11 had is) ∙ ap (raised_by had) (sym (ap (λ (s : State). s.written) c.in-Part.ensures.gives.0.same))
+
+pub returns-in-InUse-clause-appended : goal.returns-in-InUse-clause-appended
+returns-in-InUse-clause-appended g c had is =
+    c.read_one.ensures.appended had (c.loop-face.invariant.11 had is) ∙ ap (raised_by had) (sym (ap (λ (s : State). s.written) c.in-InUse.ensures.gives.0))

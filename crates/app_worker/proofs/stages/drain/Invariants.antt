@@ -1,6 +1,6 @@
 -- Some were read and given back, or nothing happened yet.
 use Rattle.std.specs.Prelude.{◌⊎◌, ◌≡◌, ◌≢◌, ◌<◌, ◌≤◌, true, false, None, [], length}
-use Rattle.app_worker.specs.{State.{app_steps}, StateOf.{state_of}, Stages.{Through, Untouched, kept_of}}
+use Rattle.app_worker.specs.{State.{app_steps}, StateOf.{state_of}, Moves.{CountsOn}, Stages.{Through, Untouched, kept_of}}
 use Rattle.app_worker.proofs.stages.drain.Given as goal
 
 abbrev pub invariant-loop-face : goal.invariant-loop-face
@@ -10,13 +10,14 @@ invariant-loop-face g l =
     × (l.did ≡ true → app_steps (state_of l.fn.st) (g.F.AppFace.seen l.fn.face) < app_steps (state_of l.st) (g.F.AppFace.seen l.face))
     × (l.did ≡ false → Untouched (state_of l.fn.st) (state_of l.st) (g.F.AppFace.seen l.fn.face) (g.F.AppFace.seen l.face) (g.T.Shelf.kept l.fn.shelf)
     (g.T.Shelf.kept l.shelf))
-    × (g.T.Shelf.faults l.shelf ≡ g.T.Shelf.faults l.fn.shelf)
+    × ((g.T.Shelf.counts l.shelf).faults ≡ (g.T.Shelf.counts l.fn.shelf).faults)
     × (g.F.AppFace.beside l.face ≡ g.F.AppFace.beside l.fn.face)
     × (l.least ≡ kept_of l.fn.keep (state_of l.fn.st))
     × (l.did ≡ true → l.least ≤ length l.st.unread.items)
     × (l.st.flush ≡ true → (l.fn.st.flush ≡ true) × (l.did ≡ true → l.st.unread.items ≢ []))
     × (l.st.flush ≡ false → (l.fn.st.flush ≡ false) ⊎ (l.st.unread.items ≡ []))
     × (l.st.stray.left ≡ 0)
+    × CountsOn l.fn.st.written l.st.written (g.T.Shelf.counts l.fn.shelf).appended (g.T.Shelf.counts l.shelf).appended
 
 abbrev pub decreases-loop-face : goal.decreases-loop-face
 decreases-loop-face g l = length l.st.unread.items

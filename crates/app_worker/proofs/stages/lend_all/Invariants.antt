@@ -1,6 +1,6 @@
 -- All that was lent is reaped, and enough of it read.
 use Rattle.std.specs.Prelude.{◌≡◌, ◌-◌, ◌<◌, ◌≤◌, true, false, None, length}
-use Rattle.app_worker.specs.{State.{app_steps, furthest}, StateOf.{state_of}, Whole.{HasNext}, Stages.{Through, Untouched}}
+use Rattle.app_worker.specs.{State.{app_steps, furthest}, StateOf.{state_of}, Moves.{CountsOn}, Whole.{HasNext}, Stages.{Through, Untouched}}
 use Rattle.app_worker.proofs.stages.lend_all.Given as goal
 
 abbrev pub invariant-loop-end : goal.invariant-loop-end
@@ -10,12 +10,13 @@ invariant-loop-end g l =
     × (l.did ≡ true → app_steps (state_of l.fn.st) (g.F.AppFace.seen l.fn.face) < app_steps (state_of l.st) (g.F.AppFace.seen l.face))
     × (l.did ≡ false → Untouched (state_of l.fn.st) (state_of l.st) (g.F.AppFace.seen l.fn.face) (g.F.AppFace.seen l.face) (g.T.Shelf.kept l.fn.shelf)
     (g.T.Shelf.kept l.shelf))
-    × (g.T.Shelf.faults l.shelf ≡ g.T.Shelf.faults l.fn.shelf)
+    × ((g.T.Shelf.counts l.shelf).faults ≡ (g.T.Shelf.counts l.fn.shelf).faults)
     × (g.F.AppFace.beside l.face ≡ g.F.AppFace.beside l.fn.face)
     × (length l.st.unread.items ≤ l.st.how.hold)
     × (l.st.stray.left ≡ 0)
     × (l.st.flush ≡ false)
     × (l.did ≡ true → HasNext (state_of l.fn.st))
+    × CountsOn l.fn.st.written l.st.written (g.T.Shelf.counts l.fn.shelf).appended (g.T.Shelf.counts l.shelf).appended
 
 abbrev pub decreases-loop-end : goal.decreases-loop-end
 decreases-loop-end g l = furthest l.st.how.stray (g.F.AppFace.seen l.face) - app_steps (state_of l.st) (g.F.AppFace.seen l.face)

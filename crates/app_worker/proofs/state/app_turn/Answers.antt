@@ -23,8 +23,8 @@ returns-clause-whole g c = λ first is going whole shelved.
     let e : State = state_of c.turn.new.st in
     let u : AppView = g.F.AppFace.seen c.args.face.now in
     let w : AppView = g.F.AppFace.seen c.turn.new.face in
-    let answer : Answers a e u w (g.T.Shelf.faults c.args.shelf.now) (g.T.Shelf.faults c.turn.new.shelf) Finished = subst
-    (Answers a e u w (g.T.Shelf.faults c.args.shelf.now) (g.T.Shelf.faults c.turn.new.shelf)) is c.turn.ensures.turns.answer in
+    let answer : Answers a e u w (g.T.Shelf.counts c.args.shelf.now).faults (g.T.Shelf.counts c.turn.new.shelf).faults Finished = subst
+    (Answers a e u w (g.T.Shelf.counts c.args.shelf.now).faults (g.T.Shelf.counts c.turn.new.shelf).faults) is c.turn.ensures.turns.answer in
     stands-all first (g.T.Shelf.kept c.turn.new.shelf) e w c.turn.ensures.turns.stands answer.2 going whole shelved
 
 pub returns-clause-within : goal.returns-clause-within
@@ -48,5 +48,5 @@ returns-clause-counts g c = loans-few (state_of c.turn.new.st) (g.F.AppFace.seen
 pub returns-clause-keeps : goal.returns-clause-keeps
 returns-clause-keeps g c = rw (← c.st.view_is)
     (λ off live notes lent read. turns-keep (state_of c.st.inside.stack) (state_of c.turn.new.st) (g.F.AppFace.seen c.args.face.now)
-    (g.F.AppFace.seen c.turn.new.face) (g.T.Shelf.kept c.args.shelf.now) (g.T.Shelf.kept c.turn.new.shelf) (g.T.Shelf.faults c.args.shelf.now)
-    (g.T.Shelf.faults c.turn.new.shelf) c.turn.result c.turn.ensures.turns off live notes lent read)
+    (g.F.AppFace.seen c.turn.new.face) (g.T.Shelf.kept c.args.shelf.now) (g.T.Shelf.kept c.turn.new.shelf) (g.T.Shelf.counts c.args.shelf.now).faults
+    (g.T.Shelf.counts c.turn.new.shelf).faults c.turn.result c.turn.ensures.turns off live notes lent read)

@@ -69,7 +69,7 @@ returns-in-Err-clause-reads g c =
     (g.F.AppFace.seen c.read_loan-result.new.face) found.unread c.requires.due c.requires.pushed found.within
     c.index_mut-own.ensures.value found.number c.read_loan-result.ensures.only c.requires.working c.requires.common c.requires.reaped
     c.still_flushes-st.result found.flush_on found.flush_off c.requires.more
-    c.read_loan-result.new.bytes c.saturating_add-st.result most (g.T.Shelf.faults c.args.shelf.now) (g.T.Shelf.faults c.read_loan-result.new.shelf)
+    c.read_loan-result.new.bytes c.saturating_add-st.result most (g.T.Shelf.counts c.args.shelf.now).faults (g.T.Shelf.counts c.read_loan-result.new.shelf).faults
     (g.T.Shelf.kept c.args.shelf.now) (g.T.Shelf.kept c.read_loan-result.new.shelf) counted.0 found.part counted.1 count
     (subst (Quits st.how.quit c.saturating_add-st.result) (sym c.requires.working.going) quits)
     (search rules) c.read_loan-result.ensures.gained c.read_loan-result.ensures.others)

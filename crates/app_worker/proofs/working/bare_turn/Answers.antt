@@ -1,5 +1,5 @@
 use Rattle.std.proofs.Common.{true, None, ◌∙◌}
-use Rattle.app_worker.{specs.{State.{State}, StateOf.{state_of}}, proofs.BareLemmas.{bare-finished, bare-not-quiet, out-ended, then-loans, then-done, scrubs-done}}
+use Rattle.app_worker.{specs.{State.{State}, StateOf.{state_of}}, proofs.BareLemmas.{bare-finished, bare-not-quiet, out-ended, then-nothing, then-done}}
 use Rattle.app_worker.proofs.Closing.{turns-finished, turns-not-quiet}
 use Rattle.app_worker.proofs.working.bare_turn.Goals as goal
 
@@ -30,37 +30,27 @@ returns-else-leave-2-clause-turns g c = λ kept faults.
     (g.F.AppFace.seen c.leave-in_default.new.face) kept kept faults faults c.leave-in_default.new.scrubbed out.0 out.1 c.if-leave-2.ensures.leaves
 
 pub returns-then-st-2-clause-turns : goal.returns-then-st-2-clause-turns
-returns-then-st-2-clause-turns g c = λ kept faults. c.in-Some.ensures.passes (state_of c.args.st.now) kept faults c.requires.bare
-    c.requires.is_bare c.requires.common c.requires.reaped c.if-st.false
+returns-then-st-2-clause-turns g c = λ kept faults.
+    let passed = c.in-Some.ensures.passes (state_of c.args.st.now) kept faults c.requires.bare c.requires.is_bare c.requires.common c.if-st.false in
+    then-nothing _ _ _ _ _ _ c.requires.is_bare c.requires.reaped passed (c.requires.common.scrubbed ∙ c.if-st-2.true)
 
 pub scrub-did-requires-clause-here : goal.scrub-did-requires-clause-here
 scrub-did-requires-clause-here g c =
-    let turns = c.in-Some.ensures.passes (state_of c.args.st.now) (λ _. None) 0 c.requires.bare
-    c.requires.is_bare c.requires.common c.requires.reaped c.if-st.false in
-    turns.here (c.pass_note.ensures.busy c.in-Some.turn c.in-Some.is) ∙ c.requires.here
+    let passed = c.in-Some.ensures.passes (state_of c.args.st.now) (λ _. None) 0 c.requires.bare c.requires.is_bare c.requires.common c.if-st.false in
+    passed.here ∙ c.requires.here
 
 pub scrub-did-requires-clause-loans : goal.scrub-did-requires-clause-loans
 scrub-did-requires-clause-loans g c =
-    let turns = c.in-Some.ensures.passes (state_of c.args.st.now) (λ _. None) 0 c.requires.bare
-    c.requires.is_bare c.requires.common c.requires.reaped c.if-st.false in
-    then-loans _ _ _ _ _ _ _ c.requires.is_bare turns
+    let passed = c.in-Some.ensures.passes (state_of c.args.st.now) (λ _. None) 0 c.requires.bare c.requires.is_bare c.requires.common c.if-st.false in
+    passed.bare.loans
 
 pub scrub-did-requires-clause-known : goal.scrub-did-requires-clause-known
 scrub-did-requires-clause-known g c =
-    let turns = c.in-Some.ensures.passes (state_of c.args.st.now) (λ _. None) 0 c.requires.bare
-    c.requires.is_bare c.requires.common c.requires.reaped c.if-st.false in
-    turns.stands.common.scrubbed
+    let passed = c.in-Some.ensures.passes (state_of c.args.st.now) (λ _. None) 0 c.requires.bare c.requires.is_bare c.requires.common c.if-st.false in
+    passed.common.scrubbed
 
 pub returns-clause-turns : goal.returns-clause-turns
 returns-clause-turns g c = λ kept faults.
-    let turns = c.in-Some.ensures.passes (state_of c.args.st.now) kept faults c.requires.bare
-    c.requires.is_bare c.requires.common c.requires.reaped c.if-st.false in
-    rw c.after.ensures (then-done _ _ _ _ _ _ _ c.requires.is_bare turns (g.F.AppFace.seen c.scrub-did.new.face) c.scrub-did.new.scrubbed
-    c.scrub-did.result c.if-st-2.false c.scrub-did.ensures.scrubs)
-
-pub returns-clause-scrubs : goal.returns-clause-scrubs
-returns-clause-scrubs g c =
-    let turns = c.in-Some.ensures.passes (state_of c.args.st.now) (λ _. None) 0 c.requires.bare
-    c.requires.is_bare c.requires.common c.requires.reaped c.if-st.false in
-    scrubs-done (g.F.AppFace.seen c.args.face.now) (g.F.AppFace.seen c.pass_note.new.face) (g.F.AppFace.seen c.scrub-did.new.face)
-    c.args.st.now.scrubbed c.scrub-did.new.scrubbed c.scrub-did.result turns.goes.moves.looks c.pass_note.ensures.unasked c.scrub-did.ensures.scrubs
+    let passed = c.in-Some.ensures.passes (state_of c.args.st.now) kept faults c.requires.bare c.requires.is_bare c.requires.common c.if-st.false in
+    rw c.after.ensures (then-done _ _ _ _ _ _ c.requires.is_bare c.requires.reaped passed (g.F.AppFace.seen c.scrub-did.new.face)
+    c.scrub-did.new.scrubbed c.scrub-did.result c.if-st-2.false c.scrub-did.ensures.scrubs)

@@ -3,6 +3,7 @@ use Rattle.board_face.specs.declared.views.app.AppView.{AppView}
 use Rattle.app_worker.specs.{State.{State, Working, Common}, StateOf.{state_of}, Whole.{TookOne}, Turns.{MayPoll, Turns}}
 use Rattle.app_worker.proofs.{Looking.{took-failed, took-did, ended-working, ended-common, turns-ended, turns-memory}, TurnLemmas.{turns-saw}}
 use Rattle.app_worker.{specs.declared.turn.Why.TheVariants.{NoNote}, proofs.{LentAll.{none-in-reserve, leaves-none}, working.look.Goals.{After-take_note}}}
+use Rattle.zr_io.specs.Moved.{raised_by}
 use Rattle.app_worker.proofs.working.look.Goals as goal
 
 pub close-requires-clause-working : goal.close-requires-clause-working
@@ -52,6 +53,7 @@ returns-in_default g c =
       told = λ why is. absurd (cc);
       later = c.lend_all.ensures.later;
       still = λ other. c.lend_all.ensures.still c.in_default.not-Failed;
+      appended = λ had is. c.lend_all.ensures.appended had (is ∙ ap (raised_by had) (sym (ap (λ (s : State). s.written) took.same)));
       beside = c.lend_all.ensures.beside ∙ c.take_note.ensures.beside;
     }
 
@@ -61,11 +63,11 @@ returns-in-Ended-clause-turns g c =
     let u : AppView = g.F.AppFace.seen c.args.face.now in
     let v : AppView = g.F.AppFace.seen c.take_note.new.face in
     let k : ℕ → Option (List ℕ) = g.T.Shelf.kept c.args.shelf.now in
-    let f : ℕ = g.T.Shelf.faults c.args.shelf.now in
+    let f : ℕ = (g.T.Shelf.counts c.args.shelf.now).faults in
     let e : State = state_of c.close.new.st in
     let w : AppView = g.F.AppFace.seen c.close.new.face in
     let m : ℕ → Option (List ℕ) = g.T.Shelf.kept c.close.new.shelf in
-    let f2 : ℕ = g.T.Shelf.faults c.close.new.shelf in
+    let f2 : ℕ = (g.T.Shelf.counts c.close.new.shelf).faults in
     let takes = c.in-Ended.ensures.takes in
     turns-ended a e u v w k m f f2 c.close.result c.requires.working c.requires.common c.requires.here c.requires.more takes.1 c.close.ensures.busy
     (subst (λ s. Turns (record s { ended = true }) e v w k m f f2 c.close.result) takes.0 c.close.ensures.turns)

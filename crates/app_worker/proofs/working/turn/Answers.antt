@@ -1,10 +1,11 @@
-use Rattle.std.proofs.Common.{rules, true, ◌≡◌, ap, ◌∙◌, refl}
-use Rattle.app_worker.specs.{State.{Working}, StateOf.{state_of}, declared.turn.Why.TheVariants.{RefillFull}, Turns.{turn_after}}
+use Rattle.std.proofs.Common.{rules, true, ◌≡◌, sym, ap, ◌∙◌, refl}
+use Rattle.zr_io.specs.Moved.{raised_by}
+use Rattle.app_worker.specs.{State.{State, Working}, StateOf.{state_of}, declared.turn.Why.TheVariants.{RefillFull}, Turns.{turn_after}}
 use Rattle.app_worker.proofs.TurnLemmas.{turns-saw, turns-gave, turns-later, begins-gave}
 use Rattle.app_worker.proofs.working.turn.Goals as goal
 
 pub returns-then-st-clause-turns : goal.returns-then-st-clause-turns
-returns-then-st-clause-turns g c = c.bare_turn.ensures.turns (g.T.Shelf.kept c.args.shelf.now) (g.T.Shelf.faults c.args.shelf.now)
+returns-then-st-clause-turns g c = c.bare_turn.ensures.turns (g.T.Shelf.kept c.args.shelf.now) (g.T.Shelf.counts c.args.shelf.now).faults
 
 pub returns-in-Part-clause-turns : goal.returns-in-Part-clause-turns
 returns-in-Part-clause-turns g c =
@@ -30,3 +31,12 @@ pub returns-in-Did-clause-still : goal.returns-in-Did-clause-still
 returns-in-Did-clause-still g c other =
     let is : c.after.result ≡ turn_after true c.work-turn.result = search rules in
     c.work-turn.ensures.still (λ same. other (is ∙ ap (turn_after true) same))
+
+pub returns-then-st-clause-appended : goal.returns-then-st-clause-appended
+returns-then-st-clause-appended g c had is =
+    let turns = c.bare_turn.ensures.turns (g.T.Shelf.kept c.args.shelf.now) (g.T.Shelf.counts c.args.shelf.now).faults in
+    is ∙ ap (raised_by had) (sym (ap (λ (s : State). s.written) (turns.rests (search rules)).state))
+
+pub returns-in-Did-clause-appended : goal.returns-in-Did-clause-appended
+returns-in-Did-clause-appended g c had is =
+    c.work-turn.ensures.appended had (is ∙ ap (raised_by had) (sym (ap (λ (s : State). s.written) c.in-Did.ensures.gives.0.same)))

@@ -23,3 +23,6 @@ returns-in-Did-clause-still g c other =
     let is : c.after.result ≡ turn_after true c.go_on-turn.result = search rules in
     c.go_on-turn.ensures.still (λ same. other (is ∙ ap (turn_after true) same))
     ∙ c.drain.ensures.still (λ e. let f : Did ≡ Failed = sym c.in-Did.is ∙ e in absurd (cc))
+
+pub returns-in-Did-clause-appended : goal.returns-in-Did-clause-appended
+returns-in-Did-clause-appended g c had is = c.go_on-turn.ensures.appended had (c.drain.ensures.appended had is)

@@ -24,8 +24,8 @@ face_rows-requires g c =
     (rw app at c.app.ensures.given).2 in
     rw (card-new, app-new) record { card = c.new-card.ensures _; app = c.new-app.ensures _ 0 }
 
-pub finish-requires-clause-back : goal.finish-requires-clause-back
-finish-requires-clause-back g c =
+pub closed_free-requires-clause-back : goal.closed_free-requires-clause-back
+closed_free-requires-clause-back g c =
     let many : apps_of c.in_ok-board.board.setting ≡ 1 = rw c.in_ok-board.ensures.setting c.requires.one in
     let nic : c.nic.result ≡ Some c.in_ok-nic.nic = search rules in
     let app : c.app.result ≡ Some c.in_ok-seat.seat = search rules in

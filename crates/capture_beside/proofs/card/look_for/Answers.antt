@@ -9,7 +9,7 @@ returns-then-found c =
     let now = record was { feed = c.nic_prepare-found.new.feed; seat = c.nic_prepare-found.new.face } in
     let look = c.nic_prepare-found.ensures in
     record {
-      goes = goes_prepared c.args.needed was now c.requires.ready look.ready look.beside refl look.looks.0 look.looks.1 look.knows;
+      goes = goes_prepared c.args.needed was now c.requires.few c.requires.ready look.ready look.beside refl look.looks.0 look.looks.1 look.knows;
     }
 
 pub returns-else-found : goal.returns-else-found
@@ -18,5 +18,5 @@ returns-else-found c =
     let now = record was { feed = c.nic_prepare-found.new.feed; seat = c.nic_prepare-found.new.face } in
     let look = c.nic_prepare-found.ensures in
     record {
-      goes = goes_prepared c.args.needed was now c.requires.ready look.ready look.beside refl look.looks.0 look.looks.1 look.knows;
+      goes = goes_prepared c.args.needed was now c.requires.few c.requires.ready look.ready look.beside refl look.looks.0 look.looks.1 look.knows;
     }

@@ -1,7 +1,7 @@
 -- Nothing was taken, and the step was made.
-use Rattle.std.proofs.Common.{refl}
+use Rattle.std.proofs.Common.{inl, refl}
 use Rattle.card_feed.specs.declared.arrived.Arrived.TheVariants.{Nothing}
-use Rattle.capture_beside.proofs.{CardTurns.{goes_turn}, Rings.{consumer-same}}
+use Rattle.capture_beside.proofs.{CardTurns.{goes_turn, when-so}, Rings.{consumer-same}}
 use Rattle.capture_beside.proofs.card.quiet_turn.Goals as goal
 
 pub returns : goal.returns
@@ -12,6 +12,7 @@ returns g c =
     let now = record came_by { feed = c.nic_step-did.new.feed; seat = c.nic_step-did.new.face } in
     record {
       goes = goes_turn was came_by now now Nothing c.requires.ready
-          (record { seat = refl; feed = refl; ring = consumer-same was.frames; came_is = refl }) _
+          (record { seat = refl; feed = refl; ring = consumer-same was.frames; came_is = refl; gone = refl }) _
           step.ready step.beside step.ports refl step.steps (record { board = refl; feed = refl; frames = refl; view = refl });
+      did = λ is. inl (when-so _ c.nic_step-did.result is step.answer);
     }

@@ -2,5 +2,5 @@
 use Rattle.capture_beside.specs.Reader.{ReaderGoes}
 use Rattle.capture_beside.proofs.reading.read_turns.Given as goal
 
-abbrev pub invariant-loop : goal.invariant-loop
-invariant-loop g l = ReaderGoes g.S.Source.left g.S.Source.faults l.fn.source l.source l.fn.reader l.reader
+abbrev pub invariant-loop-looks : goal.invariant-loop-looks
+invariant-loop-looks g l = ReaderGoes g.S.Source.left g.S.Source.faults l.fn.source l.source l.fn.reader l.reader

@@ -1,7 +1,6 @@
 -- The new lane is of the next application.
 use Rattle.std.proofs.{Common.{sym, arith, refl}, lemmas.List.{length_push, Elements.{All-push}}}
-use Rattle.note_stream.specs.Halves.{IsReceiver}
-use Rattle.note_stream.proofs.LaneLists.{AreAt-push}
+use Rattle.note_stream.{specs.Halves.{IsReceiver}, proofs.LaneLists.{AreAt-push}}
 use Rattle.note_stream.proofs.lanes.open_lanes.Goals as goal
 
 pub loop-app-preserved : goal.loop-app-preserved

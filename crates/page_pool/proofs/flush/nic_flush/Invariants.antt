@@ -13,6 +13,7 @@ invariant-loop-pending g l = record {
     short = l.pool-inside.short;
     pieces = l.pool-inside.pieces;
     stats = l.pool-inside.stats;
+    ahead = l.pool-inside.ahead;
   }) (g.F.NicFace.seen l.face);
   sends : OnlySends l.fn.pool (record {
     split = l.pool-inside.split;
@@ -20,6 +21,7 @@ invariant-loop-pending g l = record {
     short = l.pool-inside.short;
     pieces = l.pool-inside.pieces;
     stats = l.pool-inside.stats;
+    ahead = l.pool-inside.ahead;
   }) (g.F.NicFace.seen l.fn.face) (g.F.NicFace.seen l.face);
   beside : g.F.NicFace.beside l.face ≡ g.F.NicFace.beside l.fn.face;
 }

@@ -83,7 +83,7 @@ returns-clause-ran g c =
     (c.move_last.ensures.moved ∙ ap (λ l. l ++ reverse c.args.shelves.now.items) c.in_ok-lanes.ensures.aside.0) in
     let none : length c.move_last-2.new.from.items ≡ 0 = sym c.move_last-2.new.from.ok.0 ∙ c.move_last-2.ensures.kept in
     let last = put-back c.move_last-2.new.to.items c.play_seated-feed.new.shelves.items aside c.move_last-2.new.from.items c.move_last-2.ensures.moved none in
-    run-told g.S.Source.left g.S.Source.faults g.T.Shelf.kept g.T.Shelf.faults c.args.source.now c.play_seated-feed.new.source c.args.shelves.now.items
+    run-told g.S.Source.left g.S.Source.faults g.T.Shelf.kept g.T.Shelf.counts c.args.source.now c.play_seated-feed.new.source c.args.shelves.now.items
     c.move_last.new.from.items c.play_seated-feed.new.shelves.items c.move_last-2.new.to.items (reverse aside) c.args.plan.now c.play_seated-feed.new.desk
     c.play_seated-feed.result.0 (map left_end c.play_seated-feed.result.1.items) first last c.play_seated-feed.ensures.played c.runs_end_well.ensures
     c.in_ok-outcome.outcome
@@ -98,7 +98,7 @@ returns-in_err-outcome-clause-lacks g c =
     (c.move_last.ensures.moved ∙ ap (λ l. l ++ reverse c.args.shelves.now.items) c.in_ok-lanes.ensures.aside.0) in
     let none : length c.move_last-2.new.from.items ≡ 0 = sym c.move_last-2.new.from.ok.0 ∙ c.move_last-2.ensures.kept in
     let last = put-back c.move_last-2.new.to.items c.play_seated-feed.new.shelves.items aside c.move_last-2.new.from.items c.move_last-2.ensures.moved none in
-    on-err _ _ (run-lacks g.S.Source.left g.S.Source.faults g.T.Shelf.kept g.T.Shelf.faults c.args.source.now c.play_seated-feed.new.source
+    on-err _ _ (run-lacks g.S.Source.left g.S.Source.faults g.T.Shelf.kept g.T.Shelf.counts c.args.source.now c.play_seated-feed.new.source
     c.args.shelves.now.items c.move_last.new.from.items c.play_seated-feed.new.shelves.items c.move_last-2.new.to.items (reverse aside) c.args.plan.now
     c.play_seated-feed.new.desk c.play_seated-feed.result.0 (map left_end c.play_seated-feed.result.1.items) first last c.play_seated-feed.ensures.played
     c.runs_are_told.ensures)

@@ -4,7 +4,7 @@ use Rattle.area_layout.specs.Layout.{Shape}
 use Rattle.board_face.specs.declared.views.nic.Dealt.{Dealt}
 use Rattle.card_feed.specs.{Feed.{FeedState}, Plan.{layout_of}}
 use Rattle.plain_board.specs.Board.{Board, new_board}
-use Rattle.run_account.proofs.{NewWorkers.{new-fits, new-runs}, Places.{get-within}}
+use Rattle.run_account.{specs.Behind.{begins}, proofs.{NewWorkers.{new-fits, new-goes}, Places.{get-within}}}
 use Rattle.replay_turns.proofs.News.{begun}
 use Rattle.replay_turns.proofs.opening.open.Goals as goal
 
@@ -59,9 +59,10 @@ returns-clause-runs g c source shelves enough =
           (ap (λ (b : Board). b.nic.view.used) c.in_ok-board.ensures));
       setting = rw c.in_ok-board.ensures (rw layout_is refl);
       many = many;
+      turns = (c.in_ok-board.board.nic.view.setting, rw (c.in_ok-feed.ensures.value, c.in_ok-board.ensures) begins);
       worker = λ a w is. let within = get-within c.in_ok-workers.workers.items a w is in
-          new-runs c.args.plan.now _ a _ w (begun c.in_ok-board.board c.unwrap-layout.result c.args.plan.now.ring c.room.result a c.in_ok-board.ensures
-          (omega (arith, within, many, reserves))) (c.in_ok-workers.ensures.each a w is) _ _;
+          new-goes c.args.plan.now _ a _ w (begun c.in_ok-board.board c.unwrap-layout.result c.args.plan.now.ring c.room.result a c.in_ok-board.ensures
+          (omega (arith, within, many, reserves))) (c.in_ok-workers.ensures.each a w is) c.requires.turns_only _ _;
       many_shelves = refl;
       beyond = refl;
       records = let none = ap (λ (f : FeedState). f.tally.records) c.in_ok-feed.ensures.value in omega (arith, none);

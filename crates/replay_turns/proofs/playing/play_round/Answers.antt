@@ -13,8 +13,8 @@ loop-app-init g c = (
 pub loop-app-preserved : goal.loop-app-preserved
 loop-app-preserved g c =
     let round = c.loop-app.invariant in (
-      plays-through g.S.Source.left g.S.Source.faults g.T.Shelf.kept g.T.Shelf.faults _ _ _ _ _ _ _ _ _ _ _ _ round.0 c.step-next.ensures.plays,
-      follows-app g.S.Source.left g.S.Source.faults g.T.Shelf.kept g.T.Shelf.faults c.loop-app.app _ _ _ round.1 c.step-next.ensures.moves,
+      plays-through g.S.Source.left g.S.Source.faults g.T.Shelf.kept g.T.Shelf.counts _ _ _ _ _ _ _ _ _ _ _ _ round.0 c.step-next.ensures.plays,
+      follows-app g.S.Source.left g.S.Source.faults g.T.Shelf.kept g.T.Shelf.counts c.loop-app.app _ _ _ round.1 c.step-next.ensures.moves,
       turns c.args.board c.loop-app.board c.step-next.result.0 c.args.run.now c.loop-app.run c.step-next.new.run c.loop-app.did c.step-next.result.1
           c.loop-app.app (length c.loop-app.shelves) round.0.fits round.2 c.step-next.ensures.answer,
     )
@@ -26,8 +26,8 @@ returns g c =
     omega (arith, c.loop-app-test.false, c.loop-app.auto.app-end, c.len-apps.ensures, c.args.run.now.workers.ok) in
     let round = c.loop-app.invariant in
     record {
-      plays = plays-through g.S.Source.left g.S.Source.faults g.T.Shelf.kept g.T.Shelf.faults _ _ _ _ _ _ _ _ _ _ _ _ first.plays round.0;
-      follows = subst (λ n. Follows g.S.Source.left g.S.Source.faults g.T.Shelf.kept g.T.Shelf.faults (round_of n)
+      plays = plays-through g.S.Source.left g.S.Source.faults g.T.Shelf.kept g.T.Shelf.counts _ _ _ _ _ _ _ _ _ _ _ _ first.plays round.0;
+      follows = subst (λ n. Follows g.S.Source.left g.S.Source.faults g.T.Shelf.kept g.T.Shelf.counts (round_of n)
           (moment c.args.source.now c.args.shelves.now c.args.board c.args.run.now)
           (moment c.loop-app.source c.loop-app.shelves c.loop-app.board c.loop-app.run)) all round.1;
       answer = ends c.args.board c.loop-app.board c.args.run.now c.loop-app.run c.loop-app.did c.loop-app.app round.2

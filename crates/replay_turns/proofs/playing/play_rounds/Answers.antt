@@ -10,18 +10,18 @@ loop-alloc-init g c = (record { fits = c.requires.fits; workers = refl; many = r
 pub loop-alloc-preserved : goal.loop-alloc-preserved
 loop-alloc-preserved g c =
     let so_far = c.loop-alloc.invariant in (
-      plays-through g.S.Source.left g.S.Source.faults g.T.Shelf.kept g.T.Shelf.faults
+      plays-through g.S.Source.left g.S.Source.faults g.T.Shelf.kept g.T.Shelf.counts
           _ _ _ _ _ _ _ _ _ _ _ _ so_far.0 c.play_round-next.ensures.plays,
       suc so_far.1,
-      follows-round g.S.Source.left g.S.Source.faults g.T.Shelf.kept g.T.Shelf.faults (length c.args.run.now.workers.items) _ so_far.1 _ _ _
+      follows-round g.S.Source.left g.S.Source.faults g.T.Shelf.kept g.T.Shelf.counts (length c.args.run.now.workers.items) _ so_far.1 _ _ _
           so_far.0.workers so_far.2 c.play_round-next.ensures.follows,
     )
 
 pub loop-alloc-smaller : goal.loop-alloc-smaller
 loop-alloc-smaller g c =
     let round = c.play_round-next.ensures in
-    left-falls g.S.Source.left g.S.Source.faults g.T.Shelf.kept g.T.Shelf.faults _ _ _ _ _ _ _ _
-    (still-of g.S.Source.left g.S.Source.faults g.T.Shelf.kept g.T.Shelf.faults _ _ _ _ _ _ _ _ c.requires.plan c.loop-alloc.invariant.0)
+    left-falls g.S.Source.left g.S.Source.faults g.T.Shelf.kept g.T.Shelf.counts _ _ _ _ _ _ _ _
+    (still-of g.S.Source.left g.S.Source.faults g.T.Shelf.kept g.T.Shelf.counts _ _ _ _ _ _ _ _ c.requires.plan c.loop-alloc.invariant.0)
     round.plays
     (subst (λ did. MatchBool did (run_steps c.loop-alloc.board c.loop-alloc.run < run_steps c.play_round-next.result.0 c.play_round-next.new.run)
     (AreStuck c.play_round-next.result.0 c.play_round-next.new.run)) c.if-not-did.false round.answer)
@@ -34,11 +34,11 @@ returns g c =
       over = stuck-over c.play_round-next.result.0 c.play_round-next.new.run (length c.play_round-next.new.shelves) round.plays.fits
           (subst (λ did. MatchBool did (run_steps c.loop-alloc.board c.loop-alloc.run < run_steps c.play_round-next.result.0 c.play_round-next.new.run)
           (AreStuck c.play_round-next.result.0 c.play_round-next.new.run)) c.if-not-did.true round.answer);
-      plays = plays-through g.S.Source.left g.S.Source.faults g.T.Shelf.kept g.T.Shelf.faults
+      plays = plays-through g.S.Source.left g.S.Source.faults g.T.Shelf.kept g.T.Shelf.counts
           _ _ _ _ _ _ _ _ _ _ _ _ so_far.0 round.plays;
       follows = (
         suc so_far.1,
-        follows-round g.S.Source.left g.S.Source.faults g.T.Shelf.kept g.T.Shelf.faults (length c.args.run.now.workers.items) _ so_far.1 _ _ _
+        follows-round g.S.Source.left g.S.Source.faults g.T.Shelf.kept g.T.Shelf.counts (length c.args.run.now.workers.items) _ so_far.1 _ _ _
             so_far.0.workers so_far.2 round.follows,
       );
     }

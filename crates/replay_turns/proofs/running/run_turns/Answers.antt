@@ -1,17 +1,8 @@
 -- A whole run.
-use Rattle.std.proofs.Common.{◌≡◌, ℕ, List, length, inl, refl, sym, ap, subst, ◌∙◌, arith}
+use Rattle.std.proofs.Common.{length, inl, refl, sym, ap, subst, ◌∙◌, arith}
 use Rattle.plain_board.specs.Board.{Board}
-use Rattle.card_feed.specs.declared.outcome.Outcome.{Outcome}
-use Rattle.run_account.specs.{Ran.{TellsOf, TellsOfEnds}, Running.{ends_of}, declared.run.{Run.{Run}, Worker.{Worker}}}
-use Rattle.replay_turns.{specs.Schedule.{AreTurns}, proofs.WholeRun.{on-err, whole-runs, text-fits, text-plan, run-by, run-told, run-lacks}}
+use Rattle.replay_turns.{specs.Schedule.{AreTurns}, proofs.{Sweeping.{each-swept}, Telling.{told}, WholeRun.{on-err, whole-runs, text-fits, text-plan, run-by, run-few, run-told, run-lacks}}}
 use Rattle.replay_turns.proofs.running.run_turns.Goals as goal
-
--- what was told of the lists that it was given is told of the run
-told : (run : Run) (workers : List Worker) (ports its_ports : List ℕ) (outcome : Outcome) → workers ≡ run.workers.items → ports ≡ its_ports
-    → TellsOfEnds run.feed (ends_of workers) ports outcome → TellsOf run its_ports outcome
-told run workers ports its_ports outcome same same_ports tells =
-    subst (λ l. TellsOfEnds run.feed (ends_of run.workers.items) l outcome) same_ports
-    (subst (λ ws. TellsOfEnds run.feed (ends_of ws) ports outcome) same tells)
 
 pub returns-clause-ran : goal.returns-clause-ran
 returns-clause-ran g c = run-told _ _ _ _ _ _ _ _ _ _ _ _ c.args.shelves.now.len c.args.plan.now _ _ _ _ _ _
@@ -27,6 +18,14 @@ returns-clause-follows g c = run-by _ _ _ _ _ _ _ _ _ _ _ _ c.args.shelves.now.l
     c.args.turns.now c.in_ok-board.ensures.opened c.play_text-board.ensures.follows c.play_rounds-board.ensures.follows
     c.in_ok-outcome.outcome (told c.play_rounds-board.new.run c.deref.result.now c.deref-2.result.now c.args.plan.now.ports.items c.in_ok-outcome.outcome c.deref.ensures.value
     c.deref-2.ensures.value c.in_ok-outcome.ensures)
+
+pub returns-clause-swept : goal.returns-clause-swept
+returns-clause-swept g c = each-swept _ _ _ _ _ _ _ _ _ _ _ _ (returns-clause-follows g c)
+    (run-few _ _ _ _ _ _ _ _ _ _ _ _ c.args.shelves.now.len c.args.plan.now _ _ _ _ _ _
+    (omega (arith, c.args.shelves.now.ok)) c.requires.shelves c.deref_mut.ensures.value c.deref_mut-2.ensures.value
+    c.in_ok-board.ensures.runs c.play_text-board.ensures.plays c.play_rounds-board.ensures.plays c.play_rounds-board.ensures.over
+    c.in_ok-outcome.outcome (told c.play_rounds-board.new.run c.deref.result.now c.deref-2.result.now c.args.plan.now.ports.items c.in_ok-outcome.outcome c.deref.ensures.value
+    c.deref-2.ensures.value c.in_ok-outcome.ensures))
 
 pub returns-clause-room : goal.returns-clause-room
 returns-clause-room g c =

@@ -7,7 +7,7 @@ use Rattle.card_feed.specs.Account.{kept_in}
 use Rattle.replay_turns.specs.{Rounds.{DidNothing}, Running.{RunFits}, Steps.{run_steps}, declared.role.Role.TheVariants.{App}}
 use Rattle.replay_turns.proofs.{Answering.{gone-idle, app-idles, app-rises}, Rising.{turns-rise}, Turns.{app-fits, app-runs}}
 use Rattle.replay_turns.proofs.stepping.app_turn.Goals.{in-Finished, in_default, in-Idle, in_default-matches}
-use Rattle.run_account.{specs.{Running.{losses_in}, declared.run.{Run.{Run}, Worker.{Worker}}}, proofs.Workers.{goes-on}}
+use Rattle.run_account.{specs.{Behind.{behind}, Running.{losses_in}, declared.run.{Run.{Run}, Worker.{Worker}}}, proofs.Workers.{goes-on}}
 use Rattle.replay_turns.proofs.stepping.app_turn.Goals as goal
 
 pub returns-then-index : goal.returns-then-index
@@ -69,7 +69,7 @@ returns g c =
     let says : Bool → Type 0 = λ did. MatchBool did (run_steps board c.args.run.now < run_steps board_now run_now)
     (DidNothing (App c.args.app) board board_now c.args.run.now run_now) in
     let finished = λ (left : w_now.left ≡ true). subst
-    (λ turn. Answers w_was.state w_now.state old new (g.T.Shelf.faults shelf) (g.T.Shelf.faults shelf_now) turn) (is_left left) step.turns.answer in
+    (λ turn. Answers w_was.state w_now.state old new (g.T.Shelf.counts shelf).faults (g.T.Shelf.counts shelf_now).faults turn) (is_left left) step.turns.answer in
     record {
       plays = λ source. record {
         fits = subst (λ n. RunFits board_now run_now n) (sym (length-set c.args.shelves.now c.args.app shelf_now))
@@ -81,13 +81,16 @@ returns g c =
         room = step.room;
         runs = λ first firsts plan runs.
             app-runs board board_now c.args.run.now run_now c.args.app w_was w_now is_was refl refl step.card step.others step.many step.sound
-            g.S.Source.left g.S.Source.faults g.T.Shelf.kept g.T.Shelf.faults first source firsts c.args.shelves.now plan
+            g.S.Source.left g.S.Source.faults g.T.Shelf.kept g.T.Shelf.counts first source firsts c.args.shelves.now plan
             shelf shelf_now shelf_is runs
-            (λ was_runs. goes-on (kept_in g.T.Shelf.kept firsts c.args.app) (g.T.Shelf.kept shelf) (g.T.Shelf.kept shelf_now)
-            (losses_in g.T.Shelf.faults firsts c.args.app) (g.T.Shelf.faults shelf) (g.T.Shelf.faults shelf_now) plan.how old new w_was w_now
-            c.app_step-board.result.1 was_runs step.turns step.later is_left
-            (record { fronts = step.fronts _; failed = step.failed _; whole = step.whole _; copies = step.copies; counts = step.counts })
-            (λ left. (finished left).2) step.still);
+            (λ was_goes. record {
+              runs = goes-on (kept_in g.T.Shelf.kept firsts c.args.app) (g.T.Shelf.kept shelf) (g.T.Shelf.kept shelf_now)
+                  (losses_in g.T.Shelf.counts firsts c.args.app) (g.T.Shelf.counts shelf) (g.T.Shelf.counts shelf_now) plan.how old new w_was w_now
+                  c.app_step-board.result.1 was_goes.runs step.turns step.later is_left
+                  (record { fronts = step.fronts _; failed = step.failed _; whole = step.whole _; copies = step.copies; counts = step.counts })
+                  (λ left. (finished left).2) step.still step.appended;
+              came = (was_goes.came.0, was_goes.came.1, was_goes.came.2, behind _ _ was_goes.came.3 (c.app_step-board.result.1, step.turns));
+            });
       };
       answer = elim c.match-matches-2.branch [
         | in-Idle w ↦ subst (λ is. says (not is)) (sym w.matches-is)

@@ -11,7 +11,7 @@ returns-in-App g c = record {
   plays = c.app_turn.ensures.plays c.args.source.now;
   answer = subst (λ role. MatchBool c.app_turn.result.1 (run_steps c.args.board c.args.run.now < run_steps c.app_turn.result.0 c.app_turn.new.run)
       (DidNothing role c.args.board c.app_turn.result.0 c.args.run.now c.app_turn.new.run)) (sym c.in-App.is) c.app_turn.ensures.answer;
-  moves = subst (λ role. Moves g.S.Source.left g.S.Source.faults g.T.Shelf.kept g.T.Shelf.faults role
+  moves = subst (λ role. Moves g.S.Source.left g.S.Source.faults g.T.Shelf.kept g.T.Shelf.counts role
       (moment c.args.source.now c.args.shelves.now c.args.board c.args.run.now)
       (moment c.args.source.now c.app_turn.new.shelves c.app_turn.result.0 c.app_turn.new.run)) (sym c.in-App.is) (c.app_turn.ensures.moves c.args.source.now);
 }
@@ -28,16 +28,15 @@ returns-in-Card g c =
         many = refl;
         room = step.room;
         runs = λ first firsts plan runs.
-            let turns = step.turns first plan.ports.items plan.split runs.frames runs.feed in
             card-runs c.args.board c.card_step-turn.result.0 c.args.run.now run_now refl step.apps step.sound step.ready
-            g.S.Source.left g.S.Source.faults g.T.Shelf.kept g.T.Shelf.faults first c.args.source.now c.card_step-turn.new.source firsts c.args.shelves.now
-            plan fits runs turns.more turns.stands
-            (subst (λ n. n ≤ most_records) c.records.ensures.count c.records.ensures.most) turns.read turns.plays;
+            g.S.Source.left g.S.Source.faults g.T.Shelf.kept g.T.Shelf.counts first c.args.source.now c.card_step-turn.new.source firsts c.args.shelves.now
+            plan fits runs (step.turns first plan.ports.items plan.split runs.frames runs.feed)
+            (subst (λ n. n ≤ most_records) c.records.ensures.count c.records.ensures.most);
       };
       answer = subst (λ role. MatchBool c.card_step-turn.result.1 (run_steps c.args.board c.args.run.now < run_steps c.card_step-turn.result.0 run_now)
           (DidNothing role c.args.board c.card_step-turn.result.0 c.args.run.now run_now)) (sym c.in-Card.is)
           (card-answers c.args.board c.card_step-turn.result.0 c.args.run.now run_now refl step.apps c.card_step-turn.result.1 step.answer);
-      moves = subst (λ role. Moves g.S.Source.left g.S.Source.faults g.T.Shelf.kept g.T.Shelf.faults role
+      moves = subst (λ role. Moves g.S.Source.left g.S.Source.faults g.T.Shelf.kept g.T.Shelf.counts role
           (moment c.args.source.now c.args.shelves.now c.args.board c.args.run.now)
           (moment c.card_step-turn.new.source c.args.shelves.now c.card_step-turn.result.0 run_now)) (sym c.in-Card.is)
           (record {

@@ -2,4 +2,4 @@ use Rattle.run_account.proofs.Ended.{end-told}
 use Rattle.run_account.proofs.laws.runs_are_told.Goals as goal
 
 pub returns : goal.returns
-returns g c = end-told g.S.Source.left g.S.Source.faults g.T.Shelf.kept g.T.Shelf.faults
+returns g c = end-told g.S.Source.left g.S.Source.faults g.T.Shelf.kept g.T.Shelf.counts

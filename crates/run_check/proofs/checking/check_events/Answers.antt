@@ -1,9 +1,10 @@
 -- No line, the end with holders, the end, more, an event too many, and one that may not come; and one more event.
-use Rattle.std.{proofs.{Common.{◌≡◌, ◌∙◌, length, refl, true, false, sym, ap, subst, inl, inr, arith}, lemmas.Bool.{false≢true}}, specs.Prelude.{codes}}
+use Rattle.std.{proofs.{Common.{◌≡◌, ◌∙◌, length, refl, true, false, sym, ap, subst, Some, None, arith}, lemmas.Bool.{false≢true}}, specs.Prelude.{codes}}
 use Rattle.zr_kinds.specs.declared.fault.Fault.{Fault}
-use Rattle.run_check.{specs.{Coming.{ReadsLine, ahead}, Holding.{LineChanges, holdings_of}, Reading.{event_of}}, proofs.SettingText.{same_text}}
-use Rattle.run_check.proofs.{Telling.{answers_bad, answers_early, answers_ends, answers_no_line, comes_first, comes_more, not_text}, Alike.{after-few}}
+use Rattle.run_check.{specs.{Coming.{ReadsLine, ahead}, Holding.{LineChanges, holdings_of}, Reading.{event_of}, Unfit.{IsUnfitEvent}}, proofs.SettingText.{same_text}}
+use Rattle.run_check.proofs.{Telling.{answers_ends, answers_no_line, answers_unfit, comes_first, comes_more, not_text}, Alike.{after-few}, Lacking.{no_last, unfit_read}}
 use Rattle.run_check.proofs.Weighing.{length-same}
+use Rattle.run_check.specs.declared.unfit.Unfit.TheVariants as unfit
 use Rattle.run_check.proofs.checking.check_events.Goals as goal
 
 pub returns-then-not-branch-clause-judges : goal.returns-then-not-branch-clause-judges
@@ -17,9 +18,10 @@ returns-then-not-are_none-clause-judges g c =
     let reads = c.in_ok-read.ensures.reads in
     let found = c.if-not-branch.false in
     let took : ReadsLine (ahead c.loop-events.lines.bytes (g.S.Source.left c.loop-events.source)) (ahead c.read.new.self.bytes (g.S.Source.left c.read.new.source)) c.read.new.self.line.items true = subst (ReadsLine (ahead c.loop-events.lines.bytes (g.S.Source.left c.loop-events.source)) (ahead c.read.new.self.bytes (g.S.Source.left c.read.new.source)) c.read.new.self.line.items) found reads in
-    answers_early c.args.setting.now (ahead c.args.lines.now.bytes (g.S.Source.left c.args.source.now)) (ahead c.loop-events.lines.bytes (g.S.Source.left c.loop-events.source)) (ahead c.read.new.self.bytes (g.S.Source.left c.read.new.source)) (holdings_of c.loop-events.holders.buffers.items) c.loop-events.events c.read.new.self.line.items c.loop-events.invariant.come took.0 took.1
-    (sym c.line.ensures ∙ same_text c.line.result.now (codes "end") (sym c.is_word.ensures ∙ c.if-is_word.true))
-    (λ none. false≢true (sym c.if-not-are_none.true ∙ c.are_none.ensures.1 none))
+    answers_unfit c.args.setting.now (ahead c.args.lines.now.bytes (g.S.Source.left c.args.source.now)) (ahead c.loop-events.lines.bytes (g.S.Source.left c.loop-events.source)) (ahead c.read.new.self.bytes (g.S.Source.left c.read.new.source)) (holdings_of c.loop-events.holders.buffers.items) c.loop-events.events c.read.new.self.line.items unfit.Held c.loop-events.invariant.come took.0 took.1 (
+      sym c.line.ensures ∙ same_text c.line.result.now (codes "end") (sym c.is_word.ensures ∙ c.if-is_word.true),
+      λ none. false≢true (sym c.if-not-are_none.true ∙ c.are_none.ensures.1 none),
+    )
 
 pub returns-then-is_word-clause-judges : goal.returns-then-is_word-clause-judges
 returns-then-is_word-clause-judges g c =
@@ -49,10 +51,10 @@ returns-then-events-eq-MOST_EVENTS-clause-judges g c =
     λ is. not_text c.line.result.now (codes "end") (sym c.is_word.ensures ∙ c.if-is_word.false) (c.line.ensures ∙ is) in
     let no_more : c.read.new.self.line.items ≡ codes "more" → ⊥ =
     λ is. not_text c.line-in-loop-events.result.now (codes "more") (sym c.is_word-in-loop-events.ensures ∙ c.if-is_word-2.false) (c.line-in-loop-events.ensures ∙ is) in
-    answers_bad c.args.setting.now (ahead c.args.lines.now.bytes (g.S.Source.left c.args.source.now)) (ahead c.loop-events.lines.bytes (g.S.Source.left c.loop-events.source)) (ahead c.read.new.self.bytes (g.S.Source.left c.read.new.source)) (holdings_of c.loop-events.holders.buffers.items) c.loop-events.events c.read.new.self.line.items c.loop-events.invariant.come took.0 took.1 no_end no_more (inr (omega arith))
+    answers_unfit c.args.setting.now (ahead c.args.lines.now.bytes (g.S.Source.left c.args.source.now)) (ahead c.loop-events.lines.bytes (g.S.Source.left c.loop-events.source)) (ahead c.read.new.self.bytes (g.S.Source.left c.read.new.source)) (holdings_of c.loop-events.holders.buffers.items) c.loop-events.events c.read.new.self.line.items unfit.TooMany c.loop-events.invariant.come took.0 took.1 (no_last c.read.new.self.line.items no_end no_more, omega arith)
 
-pub returns-then-not-branch-2-clause-judges : goal.returns-then-not-branch-2-clause-judges
-returns-then-not-branch-2-clause-judges g c =
+pub returns-in-Some-clause-judges : goal.returns-in-Some-clause-judges
+returns-in-Some-clause-judges g c =
     let reads = c.in_ok-read.ensures.reads in
     let found = c.if-not-branch.false in
     let took : ReadsLine (ahead c.loop-events.lines.bytes (g.S.Source.left c.loop-events.source)) (ahead c.read.new.self.bytes (g.S.Source.left c.read.new.source)) c.read.new.self.line.items true = subst (ReadsLine (ahead c.loop-events.lines.bytes (g.S.Source.left c.loop-events.source)) (ahead c.read.new.self.bytes (g.S.Source.left c.read.new.source)) c.read.new.self.line.items) found reads in
@@ -60,26 +62,27 @@ returns-then-not-branch-2-clause-judges g c =
     λ is. not_text c.line.result.now (codes "end") (sym c.is_word.ensures ∙ c.if-is_word.false) (c.line.ensures ∙ is) in
     let no_more : c.read.new.self.line.items ≡ codes "more" → ⊥ =
     λ is. not_text c.line-in-loop-events.result.now (codes "more") (sym c.is_word-in-loop-events.ensures ∙ c.if-is_word-2.false) (c.line-in-loop-events.ensures ∙ is) in
-    let changes = c.in_ok-change.ensures.changes in
-    let none : LineChanges c.args.setting.now (holdings_of c.loop-events.holders.buffers.items) c.line-in-loop-events-2.result.now (holdings_of c.change.new.holders.buffers.items) false =
-    subst (LineChanges c.args.setting.now (holdings_of c.loop-events.holders.buffers.items) c.line-in-loop-events-2.result.now (holdings_of c.change.new.holders.buffers.items)) c.if-not-branch-2.true changes in
-    answers_bad c.args.setting.now (ahead c.args.lines.now.bytes (g.S.Source.left c.args.source.now)) (ahead c.loop-events.lines.bytes (g.S.Source.left c.loop-events.source)) (ahead c.read.new.self.bytes (g.S.Source.left c.read.new.source)) (holdings_of c.loop-events.holders.buffers.items) c.loop-events.events c.read.new.self.line.items c.loop-events.invariant.come took.0 took.1 no_end no_more
-    (inl (λ e read. none e (ap event_of c.line-in-loop-events-2.ensures ∙ read)))
+    let changes = c.in_ok-why.ensures.changes in
+    let none : LineChanges c.args.setting.now (holdings_of c.loop-events.holders.buffers.items) c.line-in-loop-events-2.result.now (holdings_of c.change.new.holders.buffers.items) (Some c.in-Some.why) =
+    subst (LineChanges c.args.setting.now (holdings_of c.loop-events.holders.buffers.items) c.line-in-loop-events-2.result.now (holdings_of c.change.new.holders.buffers.items)) c.in-Some.is changes in
+    answers_unfit c.args.setting.now (ahead c.args.lines.now.bytes (g.S.Source.left c.args.source.now)) (ahead c.loop-events.lines.bytes (g.S.Source.left c.loop-events.source)) (ahead c.read.new.self.bytes (g.S.Source.left c.read.new.source)) (holdings_of c.loop-events.holders.buffers.items) c.loop-events.events c.read.new.self.line.items c.in-Some.why c.loop-events.invariant.come took.0 took.1
+    (unfit_read c.args.setting.now c.loop-events.events (holdings_of c.loop-events.holders.buffers.items) c.read.new.self.line.items c.in-Some.why (no_last c.read.new.self.line.items no_end no_more)
+    (subst (λ l. IsUnfitEvent c.args.setting.now (holdings_of c.loop-events.holders.buffers.items) l c.in-Some.why) c.line-in-loop-events-2.ensures none))
 
 pub loop-events-preserved : goal.loop-events-preserved
 loop-events-preserved g c =
     let reads = c.in_ok-read.ensures.reads in
     let found = c.if-not-branch.false in
     let took : ReadsLine (ahead c.loop-events.lines.bytes (g.S.Source.left c.loop-events.source)) (ahead c.read.new.self.bytes (g.S.Source.left c.read.new.source)) c.read.new.self.line.items true = subst (ReadsLine (ahead c.loop-events.lines.bytes (g.S.Source.left c.loop-events.source)) (ahead c.read.new.self.bytes (g.S.Source.left c.read.new.source)) c.read.new.self.line.items) found reads in
-    let changes = c.in_ok-change.ensures.changes in
-    let some : LineChanges c.args.setting.now (holdings_of c.loop-events.holders.buffers.items) c.line-in-loop-events-2.result.now (holdings_of c.change.new.holders.buffers.items) true =
-    subst (LineChanges c.args.setting.now (holdings_of c.loop-events.holders.buffers.items) c.line-in-loop-events-2.result.now (holdings_of c.change.new.holders.buffers.items)) c.if-not-branch-2.false changes in
-    let here : LineChanges c.args.setting.now (holdings_of c.loop-events.holders.buffers.items) c.read.new.self.line.items (holdings_of c.change.new.holders.buffers.items) true =
+    let changes = c.in_ok-why.ensures.changes in
+    let some : LineChanges c.args.setting.now (holdings_of c.loop-events.holders.buffers.items) c.line-in-loop-events-2.result.now (holdings_of c.change.new.holders.buffers.items) None =
+    subst (LineChanges c.args.setting.now (holdings_of c.loop-events.holders.buffers.items) c.line-in-loop-events-2.result.now (holdings_of c.change.new.holders.buffers.items)) c.in_default-2.is changes in
+    let here : LineChanges c.args.setting.now (holdings_of c.loop-events.holders.buffers.items) c.read.new.self.line.items (holdings_of c.change.new.holders.buffers.items) None =
     (some.0, ap event_of (sym c.line-in-loop-events-2.ensures) ∙ some.1, some.2) in
     let cause = c.in_ok-read.ensures.cause in
     let after = some.2 in
     record {
-      count = c.in_ok-change.ensures.count;
+      count = c.in_ok-why.ensures.count;
       few = λ b. omega (
         arith,
         c.loop-events.invariant.few b,

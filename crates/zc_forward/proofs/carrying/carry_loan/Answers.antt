@@ -1,6 +1,6 @@
 use Rattle.std.proofs.Common.{rules, ◌≡◌, ◌≢◌, ◌∙◌, ap, nat_eq, Option, Some, ℕ, ◌+◌, ◌-◌, ◌≤◌, length, take, drop, length-append, subst, arith, min}
 use Rattle.std.{specs.{Prelude.{IfSome}, Map.{lookup}, Io.KnownBytes.{Appends, Keeps}}, proofs.{KnownBytes.{Keeps-trans}, lemmas.List.{length-drop}}}
-use Rattle.zr_io.{specs.Moved.{AddsPiece, Gained}, proofs.Moved.{Gained-weaker}}
+use Rattle.zr_io.{specs.Moved.{AddsPiece, Gained, raised_by}, proofs.Moved.{Gained-weaker}}
 use Rattle.board_face.specs.declared.views.app.AppView.{AppView}
 use Rattle.flow_queues.{proofs.ReadLemmas.{IsReadTo, read-of, still-out}, specs.Core.{IsReadOf, lent_piece}}
 use Rattle.zc_poll.proofs.Appending.{read-more, one-more-at, some-more-at}
@@ -52,7 +52,9 @@ loop-done-preserved g c =
     let others : (other : ℕ) → other ≢ c.args.sent.now.flow → Keeps (g.C.Carrier.got c.loop-done.carrier other) (g.C.Carrier.got c.carry.new.self other) =
     subst (λ (o : Option ℕ). IfSome o (λ flow. (other : ℕ) → other ≢ flow → Keeps (g.C.Carrier.got c.loop-done.carrier other) (g.C.Carrier.got c.carry.new.self other))) known
     c.carry.ensures.others in
-    let added : Appends before after c.read.new.into = search rules in (
+    let added : Appends before after c.read.new.into = search rules in
+    let counted : (g.C.Carrier.counts c.carry.new.self).appended ≡ raised_by (g.C.Carrier.counts c.loop-done.carrier).appended (length c.read.new.into) =
+    search rules in (
       omega (arith, n, inv.0),
       inv.1,
       omega (arith, length-append c.read.new.into (drop c.min-n.result c.loop-done.chunk), length-drop c.min-n.result c.loop-done.chunk, size, n, inv.2),
@@ -67,6 +69,7 @@ loop-done-preserved g c =
       search rules,
       search rules,
       search rules,
+      omega (arith, counted, inv.12, size),
     )
 
 pub returns-clause-gained : goal.returns-clause-gained

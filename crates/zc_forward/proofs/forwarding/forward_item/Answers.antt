@@ -23,10 +23,10 @@ returns-then-is_err-clause-gives g c =
       pressed = c.room_for.new.work.pressed;
     } in
     λ first losses st v before item only.
-    wants first (g.C.Carrier.got c.args.carrier.now) losses (g.C.Carrier.faults c.args.carrier.now) (outbox_of c.args.work.now) st c.args.stream.now.desk
+    wants first (g.C.Carrier.got c.args.carrier.now) losses (g.C.Carrier.counts c.args.carrier.now) (outbox_of c.args.work.now) st c.args.stream.now.desk
     (g.C.Carrier.tags c.args.carrier.now) v (g.F.AppFace.seen c.args.stream.now.face) before c.requires.none c.args.lent item only c.requires.stands
     (tally_of c.room_for.new.work.tally) roomy adds (g.F.AppFace.seen c.stop.new.self.face) c.stop.new.self.desk (outbox_of k) c.stop.ensures.view
-    c.stop.ensures.items c.stop.ensures.stands c.stop.ensures.stopped.0 c.stop.ensures.stopped.1 refl c.room_for.ensures.beside.0 refl
+    c.stop.ensures.items c.stop.ensures.stands c.stop.ensures.stopped.0 c.stop.ensures.stopped.1 refl c.room_for.ensures.beside.0 refl c.requires.few
 
 pub returns-then-is_err-clause-had : goal.returns-then-is_err-clause-had
 returns-then-is_err-clause-had g c = λ st v looks later item only.
@@ -37,6 +37,7 @@ returns-then-is_err-clause-had g c = λ st v looks later item only.
       lent = c.args.lent;
       item = item;
       only = only;
+      pressed = c.room_for.ensures.beside.2;
       read = v1;
       reads = only-reads-none v1;
       went = inr (c.stop.ensures.stopped.0, inl (c.stop.ensures.view, refl, refl));
@@ -65,21 +66,21 @@ returns-then-done-len-clause-gives g c =
     let none : g.C.Carrier.tags c.fail.new.carrier ≡ [] = gone.tags in
     λ first losses st v before item only.
     let stands : ForwardStands first losses (outbox_of c.fail.new.work) c.fail.new.stream.desk [] (g.C.Carrier.got c.fail.new.carrier)
-    (g.C.Carrier.faults c.send-done.new.carrier) (g.F.AppFace.seen c.fail.new.stream.face) =
-    fails first (g.C.Carrier.got c.args.carrier.now) losses (g.C.Carrier.faults c.args.carrier.now) (outbox_of c.args.work.now) st c.args.stream.now.desk
+    (g.C.Carrier.counts c.send-done.new.carrier) (g.F.AppFace.seen c.fail.new.stream.face) =
+    fails first (g.C.Carrier.got c.args.carrier.now) losses (g.C.Carrier.counts c.args.carrier.now) (outbox_of c.args.work.now) st c.args.stream.now.desk
     (g.C.Carrier.tags c.args.carrier.now) v (g.F.AppFace.seen c.args.stream.now.face) before c.requires.none c.args.lent item only c.requires.stands
     (tally_of c.room_for.new.work.tally) roomy adds (g.C.Carrier.got c.send-done.new.carrier) y (tally_of c.count.new.work) c.send-done.result read.only
     read.counted read.gained read.others (ap tally_of c.count.ensures.same) c.count.ensures.adds c.count.ensures.many (g.C.Carrier.got c.fail.new.carrier)
-    (g.C.Carrier.faults c.send-done.new.carrier) gone.gave_up.0 (g.F.AppFace.seen c.fail.new.stream.face) c.fail.new.stream.desk (outbox_of c.fail.new.work)
+    (g.C.Carrier.counts c.send-done.new.carrier) gone.gave_up.0 (g.F.AppFace.seen c.fail.new.stream.face) c.fail.new.stream.desk (outbox_of c.fail.new.work)
     gone.got gone.gave_up.1 gone.gave_up.2 gone.none
     (λ items given. gone.items items (subst (λ (d : Desk). HasGiven items d.flows y.taken) (sym read.desk) given))
     gone.stands gone.stopped.0 (ap tally_of gone.work.0) gone.work.1 (gone.work.2 ∙ c.room_for.ensures.beside.1)
     (λ ended. (let e : true ≡ false = sym ended ∙ gone.stopped.1 ∙ ap (λ (d : Desk). d.ended) read.desk ∙ item.more in absurd (cc)))
-    read.later (read.cause part) in
+    read.later (read.cause part) read.appended in
     subst (λ n. ForwardStands first losses (outbox_of c.fail.new.work) c.fail.new.stream.desk (g.C.Carrier.tags c.fail.new.carrier)
-    (g.C.Carrier.got c.fail.new.carrier) n (g.F.AppFace.seen c.fail.new.stream.face)) (sym gone.faults)
+    (g.C.Carrier.got c.fail.new.carrier) n (g.F.AppFace.seen c.fail.new.stream.face)) (sym gone.counts)
     (subst (λ (ts : Tags). ForwardStands first losses (outbox_of c.fail.new.work) c.fail.new.stream.desk ts (g.C.Carrier.got c.fail.new.carrier)
-    (g.C.Carrier.faults c.send-done.new.carrier) (g.F.AppFace.seen c.fail.new.stream.face)) (sym none) stands)
+    (g.C.Carrier.counts c.send-done.new.carrier) (g.F.AppFace.seen c.fail.new.stream.face)) (sym none) stands)
 
 pub returns-else-done-len-clause-gives : goal.returns-else-done-len-clause-gives
 returns-else-done-len-clause-gives g c =
@@ -105,14 +106,14 @@ returns-else-done-len-clause-gives g c =
     } in
     λ first losses st v before item only.
     let stands : ForwardStands first losses (outbox_of k) c.args.stream.now.desk (g.C.Carrier.tags c.args.carrier.now ++ (tag, c.args.lent.flow) ∷ [])
-    (g.C.Carrier.got c.send-done.new.carrier) (g.C.Carrier.faults c.send-done.new.carrier) y =
-    carries first (g.C.Carrier.got c.args.carrier.now) losses (g.C.Carrier.faults c.args.carrier.now) (outbox_of c.args.work.now) st c.args.stream.now.desk
+    (g.C.Carrier.got c.send-done.new.carrier) (g.C.Carrier.counts c.send-done.new.carrier) y =
+    carries first (g.C.Carrier.got c.args.carrier.now) losses (g.C.Carrier.counts c.args.carrier.now) (outbox_of c.args.work.now) st c.args.stream.now.desk
     (g.C.Carrier.tags c.args.carrier.now) v (g.F.AppFace.seen c.args.stream.now.face) before c.requires.none c.args.lent item only c.requires.stands
     (tally_of c.room_for.new.work.tally) roomy adds (g.C.Carrier.got c.send-done.new.carrier) y (tally_of c.count.new.work) c.send-done.result read.only
     read.counted read.gained read.others (ap tally_of c.count.ensures.same) c.count.ensures.adds c.count.ensures.many
-    (g.C.Carrier.faults c.send-done.new.carrier) tag (outbox_of k) refl out c.room_for.ensures.beside.1 free c.requires.few full
-    (subst (λ (d : Desk). StreamStands d y) read.desk read.stands) (read.still full) in
+    (g.C.Carrier.counts c.send-done.new.carrier) tag (outbox_of k) refl out c.room_for.ensures.beside.1 free c.requires.few full
+    (subst (λ (d : Desk). StreamStands d y) read.desk read.stands) (read.still full) read.appended in
     subst (λ (ts : Tags). ForwardStands first losses (outbox_of k) c.send-done.new.stream.desk ts (g.C.Carrier.got c.send-done.new.carrier)
-    (g.C.Carrier.faults c.send-done.new.carrier) y) (sym (read.tags full))
+    (g.C.Carrier.counts c.send-done.new.carrier) y) (sym (read.tags full))
     (subst (λ (d : Desk). ForwardStands first losses (outbox_of k) d (g.C.Carrier.tags c.args.carrier.now ++ (tag, c.args.lent.flow) ∷ [])
-    (g.C.Carrier.got c.send-done.new.carrier) (g.C.Carrier.faults c.send-done.new.carrier) y) (sym read.desk) stands)
+    (g.C.Carrier.got c.send-done.new.carrier) (g.C.Carrier.counts c.send-done.new.carrier) y) (sym read.desk) stands)

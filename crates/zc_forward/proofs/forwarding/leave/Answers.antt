@@ -1,11 +1,11 @@
-use Rattle.std.proofs.Common.{rules, ◌≡◌, ◌∙◌, true, None, Option, refl, sym, ap, subst}
+use Rattle.std.proofs.Common.{rules, ◌≡◌, ◌∙◌, true, None, Option, refl, sym, ap, subst, inl, inr}
 use Rattle.zr_kinds.specs.declared.place.Place.{Place}
 use Rattle.board_face.specs.declared.views.app.{AppLook.TheVariants.{NotQuiet}, AppView.{AppView}}
 use Rattle.flow_queues.specs.{Ends.{AppEnd, HasLeft}, Returned.{HasReturned}}
 use Rattle.zc_poll.{specs.{Standing.{Desk}, Pouring.{OnlyDue}, PourTurns.{pour_end}, TallyOf.{tally_of}}, proofs.PourEnds.{left-pours, returned-pours, work_end}}
 use Rattle.zc_poll.proofs.PourTurns.{saw-pours}
 use Rattle.zc_forward.specs.{declared.outbox.Outbox.{Outbox as Kept}, OutboxOf.{outbox_of}, Sending.{tags_of}, Forwarding.{ForwardStands}}
-use Rattle.zc_forward.proofs.Ends.{ends-pours, may-give-up, waits-forwards}
+use Rattle.zc_forward.proofs.{Ends.{ends-pours, may-give-up, waits-forwards}, Scrubs.{quiet-aside}}
 use Rattle.zc_forward.proofs.forwarding.leave.Goals as goal
 
 pub give_up_uncarried-requires-clause-out : goal.give_up_uncarried-requires-clause-out
@@ -53,3 +53,12 @@ returns-clause-gives g c = λ first got losses now tags before how.
           (returned-pours first got losses now (tally_of c.args.work.now.tally) c.give_up_uncarried.new.stream.desk
           (g.F.AppFace.seen c.give_up_uncarried.new.stream.face) poured c.requires.due ended how leak stray)),
     )
+
+pub returns-then-not-leave-clause-scrubs : goal.returns-then-not-leave-clause-scrubs
+returns-then-not-leave-clause-scrubs g c =
+    let saw = c.if-not-leave.ensures.left.1 in
+    quiet-aside c.args.work.now.uncarried (g.F.AppFace.seen c.args.stream.now.face) (g.F.AppFace.seen c.give_up_uncarried.new.stream.face)
+    (g.F.AppFace.seen c.leave.new.self.face) c.give_up_uncarried.ensures.view (λ no. inr (saw.rose, ap (λ (v : AppView). v.quiet) saw.event))
+
+pub returns-clause-scrubs : goal.returns-clause-scrubs
+returns-clause-scrubs g c = λ no. inl (ap (λ (v : AppView). v.scrubbed) c.if-not-leave.ensures.left)

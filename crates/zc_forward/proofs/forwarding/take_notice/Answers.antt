@@ -1,7 +1,8 @@
-use Rattle.std.proofs.Common.{◌≤◌, length, refl, arith}
+use Rattle.std.proofs.Common.{refl}
 use Rattle.zr_kinds.specs.declared.place.Place.{Place}
 use Rattle.board_face.specs.declared.views.app.AppView.{AppView}
-use Rattle.zc_forward.{specs.{declared.outbox.Outbox.{Outbox as Kept}, OutboxOf.{outbox_of}}, proofs.{Live.{has-out}, Forwards.{goes-back, sent-out, told-forwards}}}
+use Rattle.zc_forward.{specs.{declared.outbox.Outbox.{Outbox as Kept}, OutboxOf.{outbox_of}}, proofs.Live.{has-out}}
+use Rattle.zc_forward.proofs.Forwards.{goes-back, sent-out, told-forwards, back-pressed}
 use Rattle.zc_forward.proofs.forwarding.take_notice.Goals as goal
 
 pub give_back-requires-clause-out : goal.give_back-requires-clause-out
@@ -15,10 +16,9 @@ give_back-requires-clause-out g c =
 pub returns-clause-gives : goal.returns-clause-gives
 returns-clause-gives g c = λ first got losses now was tags before took.
     let mid : Kept = record c.args.work.now { out = c.take_sent-loan.new.out } in
-    let fewer : length mid.out.items ≤ length c.args.work.now.out.items = omega (arith, c.take_sent-loan.ensures.many) in
     c.give_back.ensures.gives first got losses now tags
     (told-forwards first got losses now (outbox_of c.args.work.now) (outbox_of mid) c.args.stream.now.desk was tags c.args.tag c.take_sent-loan.result
-    (g.F.AppFace.seen c.args.stream.now.face) before took c.requires.due c.take_sent-loan.ensures.tags c.take_sent-loan.ensures.loans fewer refl)
+    (g.F.AppFace.seen c.args.stream.now.face) before took c.requires.due c.take_sent-loan.ensures.tags c.take_sent-loan.ensures.loans c.take_sent-loan.ensures.many refl)
 
 pub returns-clause-told : goal.returns-clause-told
 returns-clause-told g c = λ was tags looks later took.
@@ -31,4 +31,6 @@ returns-clause-told g c = λ was tags looks later took.
       back = goes-back c.take_sent-loan.result (outbox_of mid) (outbox_of c.give_back.new.work) (g.F.AppFace.seen c.args.stream.now.face)
           (g.F.AppFace.seen c.give_back.new.stream.face) c.give_back.result c.give_back.ensures.back c.requires.due;
       desk = c.give_back.ensures.desk;
+      pressed = back-pressed c.take_sent-loan.result (outbox_of mid) (outbox_of c.give_back.new.work) (g.F.AppFace.seen c.args.stream.now.face)
+          (g.F.AppFace.seen c.give_back.new.stream.face) c.give_back.result c.give_back.ensures.back;
     }

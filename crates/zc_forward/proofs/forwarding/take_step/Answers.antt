@@ -1,36 +1,64 @@
-use Rattle.std.proofs.Common.{◌≡◌, ◌∙◌, true, false, refl, sym}
-use Rattle.zr_kinds.specs.declared.behaviour.Stopped.TheVariants as stop
-use Rattle.zc_poll.{proofs.PourTurns.{same-counts}, specs.TallyOf.{tally_of}}
-use Rattle.zc_forward.{specs.{declared.outbox.Outbox.{Outbox as Kept}, OutboxOf.{outbox_of}}, proofs.Forwards.{step-forwards, memory-forwards}}
+use Rattle.std.proofs.Common.{◌≡◌, ◌⊎◌, ap, inl, inr, ⊎_elim, sym, subst, ◌∙◌, ◌<◌, length, true}
+use Rattle.board_face.specs.declared.views.app.AppView.{AppView}
+use Rattle.zc_poll.proofs.Scrubbing.{scrubs-then}
+use Rattle.zc_forward.{specs.{declared.outbox.Outbox.{Outbox as Kept}, OutboxOf.{outbox_of}, Sending.{most_out}, Turns.{CarriedItem, Stage, stage_of}}, proofs.Scrubs.{carried-first, step-does}}
 use Rattle.zc_forward.proofs.forwarding.take_step.Goals as goal
 
-pub returns-in-Waiting-clause-gives : goal.returns-in-Waiting-clause-gives
-returns-in-Waiting-clause-gives g c =
-    let steps = c.in-Waiting.ensures.steps in
-    let k : Kept = record c.args.work.now { pressed = c.eq-work.result } in
-    λ first losses before.
-    step-forwards first (g.C.Carrier.got c.args.carrier.now) losses (g.C.Carrier.faults c.args.carrier.now) (outbox_of c.args.work.now) (outbox_of k)
-    c.args.stream.now.desk c.step.new.self.desk (g.C.Carrier.tags c.args.carrier.now) (g.F.AppFace.seen c.args.stream.now.face)
-    (g.F.AppFace.seen c.step.new.self.face) before steps.0 c.step.ensures.only c.step.ensures.stands (same-counts (tally_of c.args.work.now.tally)) refl refl refl
-    (λ ended. (let e : true ≡ false = sym ended ∙ steps.3 in absurd (cc))) refl steps.2
+pub scrub_stopped-requires-clause-stands : goal.scrub_stopped-requires-clause-stands
+scrub_stopped-requires-clause-stands g c =
+    let (first, losses, before) = c.requires.stands in
+    (first, g.C.Carrier.got c.args.carrier.now, losses, g.C.Carrier.counts c.args.carrier.now, g.C.Carrier.tags c.args.carrier.now, before)
 
-pub returns-in-Memory-clause-gives : goal.returns-in-Memory-clause-gives
-returns-in-Memory-clause-gives g c =
-    let steps = c.in-Memory.ensures.steps in
-    let k : Kept = record c.args.work.now { tally = record c.args.work.now.tally { stopped = stop.Memory }; pressed = false } in
-    λ first losses before.
-    memory-forwards first (g.C.Carrier.got c.args.carrier.now) losses (g.C.Carrier.faults c.args.carrier.now) (outbox_of c.args.work.now) (outbox_of k)
-    c.args.stream.now.desk c.step.new.self.desk (g.C.Carrier.tags c.args.carrier.now) (g.F.AppFace.seen c.args.stream.now.face)
-    (g.F.AppFace.seen c.step.new.self.face) before steps.0 c.step.ensures.only c.step.ensures.stands
-    (record { counts = refl; written = refl; loans = refl; copied = refl; flows = refl; room = refl }) refl refl refl
-    (λ ended. (let e : true ≡ false = sym ended ∙ steps.3 in absurd (cc))) refl steps.1 steps.2
+pub step_once-requires-clause-stands : goal.step_once-requires-clause-stands
+step_once-requires-clause-stands g c =
+    let (first, losses, before) = c.requires.stands in (
+      first,
+      losses,
+      c.scrub_stopped.ensures.gives first (g.C.Carrier.got c.args.carrier.now) losses (g.C.Carrier.counts c.args.carrier.now)
+          (g.C.Carrier.tags c.args.carrier.now) before,
+    )
 
-pub returns-in-Ended-clause-gives : goal.returns-in-Ended-clause-gives
-returns-in-Ended-clause-gives g c =
-    let steps = c.in-Ended.ensures.steps in
-    let k : Kept = record c.args.work.now { pressed = true } in
-    λ first losses before.
-    step-forwards first (g.C.Carrier.got c.args.carrier.now) losses (g.C.Carrier.faults c.args.carrier.now) (outbox_of c.args.work.now) (outbox_of k)
-    c.args.stream.now.desk c.step.new.self.desk (g.C.Carrier.tags c.args.carrier.now) (g.F.AppFace.seen c.args.stream.now.face)
-    (g.F.AppFace.seen c.step.new.self.face) before steps.0 c.step.ensures.only c.step.ensures.stands (same-counts (tally_of c.args.work.now.tally)) refl refl refl
-    (λ _. refl) refl steps.1
+pub step_once-requires-clause-more : goal.step_once-requires-clause-more
+step_once-requires-clause-more g c = c.scrub_stopped.ensures.desk.1 ∙ c.requires.more
+
+pub step_once-requires-clause-none : goal.step_once-requires-clause-none
+step_once-requires-clause-none g c = ap (λ (k : Kept). (outbox_of k).tally.due) c.scrub_stopped.ensures.work ∙ c.requires.none
+
+pub step_once-requires-clause-few : goal.step_once-requires-clause-few
+step_once-requires-clause-few g c =
+    subst (λ out. length out < most_out) (sym (ap (λ (k : Kept). (outbox_of k).out) c.scrub_stopped.ensures.work)) c.requires.few
+
+pub returns-clause-gives : goal.returns-clause-gives
+returns-clause-gives g c = λ first losses before.
+    c.step_once.ensures.gives first losses
+    (c.scrub_stopped.ensures.gives first (g.C.Carrier.got c.args.carrier.now) losses (g.C.Carrier.counts c.args.carrier.now)
+    (g.C.Carrier.tags c.args.carrier.now) before)
+
+pub returns-clause-does : goal.returns-clause-does
+returns-clause-does g c = λ looks.
+    let tags = g.C.Carrier.tags c.args.carrier.now in
+    let was : Stage = stage_of (outbox_of c.args.work.now) c.args.stream.now.desk tags looks (g.F.AppFace.seen c.args.stream.now.face) in
+    let mid : Stage = stage_of (outbox_of c.scrub_stopped.new.work) c.scrub_stopped.new.stream.desk tags looks
+    (g.F.AppFace.seen c.scrub_stopped.new.stream.face) in
+    let now : Stage = stage_of (outbox_of c.step_once.new.work) c.step_once.new.stream.desk (g.C.Carrier.tags c.step_once.new.carrier)
+    (g.C.Carrier.looks c.step_once.new.carrier) (g.F.AppFace.seen c.step_once.new.stream.face) in
+    step-does was now c.step_once.result c.requires.none
+    (record { stage = mid; first = c.scrub_stopped.ensures.first tags looks; does = c.step_once.ensures.does looks })
+
+pub returns-clause-rest : goal.returns-clause-rest
+returns-clause-rest g c = λ looks.
+    let tags = g.C.Carrier.tags c.args.carrier.now in
+    let was : Stage = stage_of (outbox_of c.args.work.now) c.args.stream.now.desk tags looks (g.F.AppFace.seen c.args.stream.now.face) in
+    let mid : Stage = stage_of (outbox_of c.scrub_stopped.new.work) c.scrub_stopped.new.stream.desk tags looks
+    (g.F.AppFace.seen c.scrub_stopped.new.stream.face) in
+    let now : Stage = stage_of (outbox_of c.step_once.new.work) c.step_once.new.stream.desk (g.C.Carrier.tags c.step_once.new.carrier)
+    (g.C.Carrier.looks c.step_once.new.carrier) (g.F.AppFace.seen c.step_once.new.stream.face) in
+    ⊎_elim (λ (same : c.step_once.new.carrier ≡ c.args.carrier.now). inl same)
+    (λ (item : CarriedItem mid now). inr (carried-first was mid now (c.scrub_stopped.ensures.first tags looks) item)) (c.step_once.ensures.rest looks)
+
+pub returns-clause-scrubs : goal.returns-clause-scrubs
+returns-clause-scrubs g c = λ not out.
+    let (first, losses, before) = c.requires.stands in
+    let stopped : c.scrub_stopped.new.stream.desk.stopped ≡ true = c.scrub_stopped.ensures.desk.0 ∙ before.over not in
+    scrubs-then (g.F.AppFace.seen c.args.stream.now.face) (g.F.AppFace.seen c.scrub_stopped.new.stream.face) (g.F.AppFace.seen c.step_once.new.stream.face)
+    (c.scrub_stopped.ensures.scrubs not out) (c.step_once.ensures.only stopped)

@@ -1,6 +1,6 @@
 use Rattle.std.{proofs.Common.{rules, ◌≡◌, ℕ, ◌+◌, ◌-◌, ◌≤◌, length, take, drop, length-append, subst, arith, min}, specs.Io.KnownBytes.{Appends}}
 use Rattle.std.proofs.{KnownBytes.{Keeps-trans}, lemmas.List.{length-drop}}
-use Rattle.zr_io.{specs.Moved.{Gained}, proofs.Moved.{Gained-weaker}}
+use Rattle.zr_io.{specs.Moved.{Gained, raised_by}, proofs.Moved.{Gained-weaker}}
 use Rattle.board_face.specs.declared.views.app.AppView.{AppView}
 use Rattle.flow_queues.{proofs.ReadLemmas.{IsReadTo, read-of, still-out}, specs.Core.{IsReadOf, lent_piece}}
 use Rattle.zc_poll.proofs.Appending.{read-more, one-more-at, some-more-at}
@@ -41,7 +41,9 @@ loop-done-preserved g c =
     let size : length c.read.new.into ≡ c.min-n.result = search rules in
     let n : c.min-n.result ≡ min (c.args.loan.now.len - c.loop-done.done) 4096 = search rules in
     let fits : c.loop-done.done + length c.read.new.into ≤ c.args.loan.now.len = omega (arith, size, n, inv.0, inv.1) in
-    let added : Appends before after c.read.new.into = search rules in (
+    let added : Appends before after c.read.new.into = search rules in
+    let counted : (g.T.Shelf.counts c.append.new.self).appended ≡ raised_by (g.T.Shelf.counts c.loop-done.shelf).appended (length c.read.new.into) =
+    search rules in (
       omega (arith, n, inv.0),
       inv.1,
       omega (arith, length-append c.read.new.into (drop c.min-n.result c.loop-done.chunk), length-drop c.min-n.result c.loop-done.chunk, size, n, inv.2),
@@ -54,6 +56,7 @@ loop-done-preserved g c =
       λ other away. Keeps-trans _ _ _ (inv.7 other away) (c.append.ensures.others other away),
       search rules,
       search rules,
+      omega (arith, counted, inv.10, size),
     )
 
 pub returns-clause-gained : goal.returns-clause-gained

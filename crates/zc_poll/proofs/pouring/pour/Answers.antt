@@ -23,8 +23,8 @@ returns-then-is_err-clause-pours g c =
     let none : c.give_up.new.work.due ≡ None = search rules in
     λ first losses st v before item only.
     subst (λ (d : Option Place). PourStands first losses (record (tally_of c.give_up.new.work) { due = d }) c.give_up.new.stream.desk
-    (g.T.Shelf.kept c.args.shelf.now) (g.T.Shelf.faults c.args.shelf.now) (g.F.AppFace.seen c.give_up.new.stream.face)) none
-    (wants first (g.T.Shelf.kept c.args.shelf.now) losses (g.T.Shelf.faults c.args.shelf.now) (tally_of c.args.work.now) st c.args.stream.now.desk v
+    (g.T.Shelf.kept c.args.shelf.now) (g.T.Shelf.counts c.args.shelf.now) (g.F.AppFace.seen c.give_up.new.stream.face)) none
+    (wants first (g.T.Shelf.kept c.args.shelf.now) losses (g.T.Shelf.counts c.args.shelf.now) (tally_of c.args.work.now) st c.args.stream.now.desk v
     (g.F.AppFace.seen c.args.stream.now.face) before c.requires.none c.args.lent item only c.requires.stands (tally_of c.make_room.new.work) roomy adds
     (g.F.AppFace.seen c.give_up.new.stream.face) c.give_up.new.stream.desk (tally_of c.give_up.new.work) c.give_up.ensures.view c.give_up.ensures.items
     c.give_up.ensures.stands c.give_up.ensures.stopped (ap tally_of c.give_up.ensures.work))
@@ -43,13 +43,13 @@ returns-then-done-place-clause-pours g c =
     let none : c.give_up-then-done-place.new.work.due ≡ None = search rules in
     λ first losses st v before item only.
     subst (λ (d : Option Place). PourStands first losses (record (tally_of c.give_up-then-done-place.new.work) { due = d })
-    c.give_up-then-done-place.new.stream.desk (g.T.Shelf.kept c.append_loan-done.new.shelf) (g.T.Shelf.faults c.append_loan-done.new.shelf)
+    c.give_up-then-done-place.new.stream.desk (g.T.Shelf.kept c.append_loan-done.new.shelf) (g.T.Shelf.counts c.append_loan-done.new.shelf)
     (g.F.AppFace.seen c.give_up-then-done-place.new.stream.face)) none
-    (fails first (g.T.Shelf.kept c.args.shelf.now) losses (g.T.Shelf.faults c.args.shelf.now) (tally_of c.args.work.now) st c.args.stream.now.desk v
+    (fails first (g.T.Shelf.kept c.args.shelf.now) losses (g.T.Shelf.counts c.args.shelf.now) (tally_of c.args.work.now) st c.args.stream.now.desk v
     (g.F.AppFace.seen c.args.stream.now.face) before c.requires.none c.args.lent item only c.requires.stands (tally_of c.make_room.new.work) roomy adds
-    (g.T.Shelf.kept c.append_loan-done.new.shelf) (g.T.Shelf.faults c.append_loan-done.new.shelf) (g.F.AppFace.seen c.append_loan-done.new.stream.face)
+    (g.T.Shelf.kept c.append_loan-done.new.shelf) (g.T.Shelf.counts c.append_loan-done.new.shelf) (g.F.AppFace.seen c.append_loan-done.new.stream.face)
     (tally_of c.count.new.work) c.append_loan-done.result read.only read.counted read.gained read.others (ap tally_of c.count.ensures.same)
-    c.count.ensures.adds c.count.ensures.many read.stands.common.apart (g.F.AppFace.seen c.give_up-then-done-place.new.stream.face)
+    c.count.ensures.adds c.count.ensures.many read.stands.common.apart read.appended (g.F.AppFace.seen c.give_up-then-done-place.new.stream.face)
     c.give_up-then-done-place.new.stream.desk (tally_of c.give_up-then-done-place.new.work) gone.view
     (λ items given. gone.items items
     (subst (λ (d : Desk). HasGiven items d.flows (g.F.AppFace.seen c.append_loan-done.new.stream.face).taken) (sym read.desk) given))
@@ -71,10 +71,10 @@ returns-clause-pours g c =
     let due : TallyState = record (tally_of c.count.new.work) { due = Some c.args.lent.loan } in
     λ first losses st v before item only.
     subst (λ (d : Desk). PourStands first losses due d (g.T.Shelf.kept c.append_loan-done.new.shelf)
-    (g.T.Shelf.faults c.append_loan-done.new.shelf) (g.F.AppFace.seen c.append_loan-done.new.stream.face)) (sym read.desk)
-    (wrote first (g.T.Shelf.kept c.args.shelf.now) losses (g.T.Shelf.faults c.args.shelf.now) (tally_of c.args.work.now) st c.args.stream.now.desk v
+    (g.T.Shelf.counts c.append_loan-done.new.shelf) (g.F.AppFace.seen c.append_loan-done.new.stream.face)) (sym read.desk)
+    (wrote first (g.T.Shelf.kept c.args.shelf.now) losses (g.T.Shelf.counts c.args.shelf.now) (tally_of c.args.work.now) st c.args.stream.now.desk v
     (g.F.AppFace.seen c.args.stream.now.face) before c.requires.none c.args.lent item only c.requires.stands (tally_of c.make_room.new.work) roomy adds
-    (g.T.Shelf.kept c.append_loan-done.new.shelf) (g.T.Shelf.faults c.append_loan-done.new.shelf) (g.F.AppFace.seen c.append_loan-done.new.stream.face)
+    (g.T.Shelf.kept c.append_loan-done.new.shelf) (g.T.Shelf.counts c.append_loan-done.new.shelf) (g.F.AppFace.seen c.append_loan-done.new.stream.face)
     (tally_of c.count.new.work) c.append_loan-done.result read.only read.counted read.gained read.others (ap tally_of c.count.ensures.same)
-    c.count.ensures.adds c.count.ensures.many read.stands.common.apart due refl full
+    c.count.ensures.adds c.count.ensures.many read.stands.common.apart read.appended due refl full
     (subst (λ (d : Desk). StreamStands d (g.F.AppFace.seen c.append_loan-done.new.stream.face)) read.desk read.stands) (read.still full))

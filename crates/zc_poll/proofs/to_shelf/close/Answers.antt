@@ -1,4 +1,4 @@
-use Rattle.std.proofs.Common.{rules, ◌≡◌, sym, subst}
+use Rattle.std.proofs.Common.{rules, ◌≡◌, ap, inl, inr, sym, subst}
 use Rattle.board_face.specs.declared.views.app.{AppLook.TheVariants.{NotQuiet}, AppView.{AppView}}
 use Rattle.flow_queues.specs.{Ends.{AppEnd, HasLeft}, Returned.{HasReturned}}
 use Rattle.zc_poll.{specs.{PourTurns.{pour_end}, TallyOf.{tally_of}}, proofs.{PourEnds.{left-pours, returned-pours, work_end}, PourTurns.{saw-pours}}}
@@ -24,3 +24,10 @@ returns-clause-gives g c = λ first kept losses now before how.
           (returned-pours first kept losses now (tally_of c.args.work.now) c.args.stream.now.desk (g.F.AppFace.seen c.args.stream.now.face) before c.requires.due
           c.requires.ended how leak stray)),
     )
+
+pub returns-then-not-leave-clause-scrubs : goal.returns-then-not-leave-clause-scrubs
+returns-then-not-leave-clause-scrubs g c =
+    let saw = c.if-not-leave.ensures.left.1 in λ no. inr (saw.rose, ap (λ (v : AppView). v.quiet) saw.event)
+
+pub returns-clause-scrubs : goal.returns-clause-scrubs
+returns-clause-scrubs g c = λ no. inl (ap (λ (v : AppView). v.scrubbed) c.if-not-leave.ensures.left)

@@ -22,4 +22,5 @@ invariant_of-words c =
         many,
         ap table_words keyed,
       );
+      slotless = made.1;
     }

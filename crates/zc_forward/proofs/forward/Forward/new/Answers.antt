@@ -8,7 +8,7 @@ pub returns-clause-stands : goal.returns-clause-stands
 returns-clause-stands g c =
     let (app, desk, fresh) = c.requires.fresh in
     let got = g.C.Carrier.got c.args.carrier in
-    let losses = g.C.Carrier.faults c.args.carrier in
+    let losses = g.C.Carrier.counts c.args.carrier in
     let tags = g.C.Carrier.tags c.args.carrier in
     let room : ℕ = vec_capacity c.new-2.result in
     let v = g.F.AppFace.seen c.args.stream.face in

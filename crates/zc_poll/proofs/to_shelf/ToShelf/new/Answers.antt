@@ -7,7 +7,7 @@ pub returns-clause-stands : goal.returns-clause-stands
 returns-clause-stands g c =
     let (app, desk, fresh) = c.requires.fresh in
     let kept = g.T.Shelf.kept c.args.shelf in
-    let losses = g.T.Shelf.faults c.args.shelf in
+    let losses = g.T.Shelf.counts c.args.shelf in
     let room : ℕ = vec_capacity c.new-2.result in
     let v = g.F.AppFace.seen c.args.stream.face in
     let same : new_tally room ≡ tally_of (record {

@@ -1,19 +1,51 @@
-use Rattle.std.proofs.Common.{rules, ℕ, List, Option}
-use Rattle.zc_poll.specs.Pouring.{PourStands}
+use Rattle.std.proofs.Common.{rules, ℕ, List, Option, ap}
+use Rattle.board_face.specs.declared.views.app.AppView.{AppView}
+use Rattle.zc_poll.{specs.Pouring.{PourStands}, proofs.Waiting.{tells-then}}
 use Rattle.zc_poll.proofs.to_shelf.ToShelfFuture.poll.Goals as goal
+use Rattle.zr_io.specs.Moved.{ShelfCounts}
 
 pub returns-in-Did-clause-again : goal.returns-in-Did-clause-again
 returns-in-Did-clause-again g c =
     let (first, losses, stands) = c.requires in
-    let on : (first : ℕ → Option (List ℕ)) × (losses : ℕ) × PourStands first losses c.turn.new.self.tally c.turn.new.self.desk
-    (g.T.Shelf.kept c.turn.new.self.shelf) (g.T.Shelf.faults c.turn.new.self.shelf) (g.F.AppFace.seen c.turn.new.self.face) =
+    let on : (first : ℕ → Option (List ℕ)) × (losses : ShelfCounts) × PourStands first losses c.turn.new.self.tally c.turn.new.self.desk
+    (g.T.Shelf.kept c.turn.new.self.shelf) (g.T.Shelf.counts c.turn.new.self.shelf) (g.F.AppFace.seen c.turn.new.self.face) =
     (first, losses, c.in-Did.ensures.gives first losses stands) in
     search rules
 
 pub returns-in-Idle-clause-again : goal.returns-in-Idle-clause-again
 returns-in-Idle-clause-again g c =
     let (first, losses, stands) = c.requires in
-    let on : (first : ℕ → Option (List ℕ)) × (losses : ℕ) × PourStands first losses c.turn.new.self.tally c.turn.new.self.desk
-    (g.T.Shelf.kept c.turn.new.self.shelf) (g.T.Shelf.faults c.turn.new.self.shelf) (g.F.AppFace.seen c.turn.new.self.face) =
+    let on : (first : ℕ → Option (List ℕ)) × (losses : ShelfCounts) × PourStands first losses c.turn.new.self.tally c.turn.new.self.desk
+    (g.T.Shelf.kept c.turn.new.self.shelf) (g.T.Shelf.counts c.turn.new.self.shelf) (g.F.AppFace.seen c.turn.new.self.face) =
     (first, losses, c.in-Idle.ensures.gives first losses stands) in
     search rules
+
+pub returns-in-Ended-clause-value : goal.returns-in-Ended-clause-value
+returns-in-Ended-clause-value g c = λ first losses stands. (
+  g.T.Shelf.kept c.turn.new.self.shelf,
+  g.T.Shelf.counts c.turn.new.self.shelf,
+  g.F.AppFace.seen c.turn.new.self.face,
+  record {
+    due = c.args.self.now.tally.due;
+    was = c.args.self.now.desk;
+    now = c.turn.new.self.desk;
+    old = g.F.AppFace.seen c.args.self.now.face;
+    tally = c.turn.new.self.tally;
+    gives = c.in-Ended.ensures.gives first losses stands;
+    does = c.in-Ended.ensures.does;
+    left = ap (λ (v : AppView). v.left) c.in-Ended.ensures.does.2;
+    same = c.turn.ensures.same;
+  },
+)
+
+pub returns-in-Did-clause-same : goal.returns-in-Did-clause-same
+returns-in-Did-clause-same g c = rw c.yield_now.ensures.pending (λ x.
+    tells-then c.args.self.now.tally c.turn.new.self.tally c.args.self.now.desk c.turn.new.self.desk (g.T.Shelf.kept c.args.self.now.shelf)
+    (g.T.Shelf.kept c.turn.new.self.shelf) (g.T.Shelf.counts c.args.self.now.shelf) (g.T.Shelf.counts c.turn.new.self.shelf)
+    (g.F.AppFace.seen c.args.self.now.face) (g.F.AppFace.seen c.turn.new.self.face) x c.in-Did.ensures.gives c.turn.ensures.same)
+
+pub returns-in-Idle-clause-same : goal.returns-in-Idle-clause-same
+returns-in-Idle-clause-same g c = rw c.yield_now-in-Idle.ensures.pending (λ x.
+    tells-then c.args.self.now.tally c.turn.new.self.tally c.args.self.now.desk c.turn.new.self.desk (g.T.Shelf.kept c.args.self.now.shelf)
+    (g.T.Shelf.kept c.turn.new.self.shelf) (g.T.Shelf.counts c.args.self.now.shelf) (g.T.Shelf.counts c.turn.new.self.shelf)
+    (g.F.AppFace.seen c.args.self.now.face) (g.F.AppFace.seen c.turn.new.self.face) x c.in-Idle.ensures.gives c.turn.ensures.same)
