@@ -61,7 +61,7 @@ module _ {T : Type 0} (kept : T → ℕ → Option (List ℕ)) (losses : T → S
   has-come plan first count (Turning own) comes left = by_turns own.worker.state refl comes
   has-come plan first count (Pouring own) comes left =
       let (poured, some) = is-there own.poured left in
-      by_polls own.stream.tally.due own.stream.desk poured (ap poured_end some)
+      by_polls (poll_moment own).stage poured refl (ap poured_end some)
       (subst (λ found. PolledSince plan (record (poll_moment own) { poured = found })) some comes)
   has-come plan first count (Forwarding own) comes left =
       let (poured, some) = is-there own.poured left in

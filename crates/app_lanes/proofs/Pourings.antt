@@ -73,7 +73,7 @@ module _ {T : Type 0} (kept : T → ℕ → Option (List ℕ)) (losses : T → S
         on-runs Since Now was.stream.face.side.view now.stream.face.side.view was.poured now.poured here fits none gives first
             (kept was.stream.shelf) (kept now.stream.shelf) count (losses was.stream.shelf) (losses now.stream.shelf) runs.1,
       );
-      comes = λ plan first count comes. (comes.0, comes.1, comes.2, comes.3, behind _ _ comes.4 does);
+      comes = λ plan first count comes. (comes.0, comes.1, comes.2, behind _ _ comes.3 does);
     }
 
     pub pours-out : (poured : Poured) → now.poured ≡ Some poured
@@ -91,7 +91,7 @@ module _ {T : Type 0} (kept : T → ℕ → Option (List ℕ)) (losses : T → S
         end-runs Since Now was.stream.face.side.view now.stream.face.side.view was.poured now.poured here fits poured some
             (kept now.stream.shelf) (losses now.stream.shelf) gives first (kept was.stream.shelf) count (losses was.stream.shelf) runs.1,
       );
-      comes = λ plan first count comes. (comes.0, comes.1, comes.2, comes.3, behind _ _ comes.4 does);
+      comes = λ plan first count comes. (comes.0, comes.1, comes.2, behind _ _ comes.3 does);
     }
 
   -- ---- by a carrier over a shelf
@@ -118,7 +118,7 @@ module _ {T : Type 0} (kept : T → ℕ → Option (List ℕ)) (losses : T → S
             (kept was.forward.carrier.shelf) (kept now.forward.carrier.shelf) count (losses was.forward.carrier.shelf)
             (losses now.forward.carrier.shelf) runs.1,
       );
-      comes = λ plan first count comes. (comes.0, comes.1, comes.2, comes.3, comes.4, comes.5, comes.6, behind _ _ comes.7 does);
+      comes = λ plan first count comes. (comes.0, comes.1, comes.2, comes.3, comes.4, behind _ _ comes.5 does);
     }
 
     pub forwards-out : (poured : Poured) → now.poured ≡ Some poured
@@ -137,5 +137,5 @@ module _ {T : Type 0} (kept : T → ℕ → Option (List ℕ)) (losses : T → S
             (kept now.forward.carrier.shelf) (losses now.forward.carrier.shelf) gives first (kept was.forward.carrier.shelf) count
             (losses was.forward.carrier.shelf) runs.1,
       );
-      comes = λ plan first count comes. (comes.0, comes.1, comes.2, comes.3, comes.4, comes.5, comes.6, behind _ _ comes.7 does);
+      comes = λ plan first count comes. (comes.0, comes.1, comes.2, comes.3, comes.4, behind _ _ comes.5 does);
     }

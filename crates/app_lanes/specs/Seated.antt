@@ -6,8 +6,8 @@ use Rattle.zr_io.specs.Moved.{ShelfCounts}
 use Rattle.board_face.specs.declared.views.app.AppView.{AppView}
 use Rattle.flow_queues.specs.{Ends.{AppEnd, HasLeft}, Returned.{HasReturned}}
 use Rattle.app_worker.specs.{State.{State}, StateOf.{end_of as worker_end}}
-use Rattle.zc_forward.specs.{Carriage.{Carriage}, Forwarding.{ForwardStands}, Turns.{ForwardView, Stage, stage_of}}
-use Rattle.zc_poll.specs.{Pouring.{PourStands}, PourTurns.{PourView, pour_end}, declared.to_shelf.Poured.{Poured}}
+use Rattle.zc_forward.specs.{Carriage.{Carriage, pace_of}, Forwarding.{ForwardStands}, Turns.{ForwardView, Stage, stage_of}}
+use Rattle.zc_poll.specs.{Pouring.{PourStands}, PourTurns.{PourView, pour_end, pour_stage}, declared.to_shelf.Poured.{Poured}}
 use Rattle.card_feed.specs.{Plan.{TakesTurns, how_of, plain_behaviour}, declared.plan.Plan.{Plan}}
 use Rattle.run_account.specs.Running.{IsNew, WorkerFits, WorkerRuns}
 use Rattle.run_account.specs.Ways.{DidOwn, DidPoll, ForwardMoment, ForwardTurns, ForwardedSince, OwnMoment, OwnTurn, PollMoment, PollTurns, PolledSince, TurnedSince}
@@ -103,11 +103,10 @@ abbrev pub own_moment : {T : Type 0} → (T → ℕ → Option (List ℕ)) → (
 own_moment kept losses shelf state v = record { state = state; view = v; kept = kept shelf; losses = losses shelf }
 
 abbrev pub poll_moment : {T : Type 0} → Pouring T → PollMoment
-poll_moment own =
-    record { due = own.stream.tally.due; desk = own.stream.desk; view = own.stream.face.side.view; poured = own.poured }
+poll_moment own = record { stage = pour_stage own.stream.tally.due own.stream.desk own.stream.face.side.view; poured = own.poured }
 
 abbrev pub stage_now : {T : Type 0} → ForwardView TheApp (Carriage T) → Stage
-stage_now forward = stage_of forward.work forward.desk forward.carrier.out forward.carrier.looks forward.face.side.view
+stage_now forward = stage_of forward.work forward.desk forward.carrier.out (pace_of forward.carrier) forward.face.side.view
 
 abbrev pub forward_moment : {T : Type 0} → Forwarding T → ForwardMoment
 forward_moment own = record { stage = stage_now own.forward; poured = own.poured }

@@ -104,7 +104,7 @@ impl<T: Shelf> Carrier for Moody<T> {
 
     ghost counts = { λ c. record { faults = c.faults; appended = c.appended } };
 
-    ghost looks = { λ c. c.looks };
+    ghost pace = { λ c. record { delay = 0; looks = c.looks } };
 
     fn begin(&mut self, tag: u32, flow: u32) -> Result<(), Failed> {
         if self.fails() {

@@ -1,15 +1,14 @@
 -- In which way an application takes its loans: in turns of its own, polled as a stream, or handed on. One turn comes behind another, from
 -- a side at which nothing was done.
-use Rattle.std.specs.Prelude.{◌≡◌, ◌≢◌, ℕ, true, List, [], Option, Some, None, ⊤}
-use Rattle.zr_kinds.specs.declared.place.Place.{Place}
+use Rattle.std.specs.Prelude.{◌≡◌, ℕ, true, List, [], Option, Some, None, ⊤}
 use Rattle.zr_io.specs.Moved.{ShelfCounts}
 use Rattle.board_face.specs.{Opened.{new_app_view}, declared.views.{parts.Setting.{Setting}, app.AppView.{AppView}}}
 use Rattle.flow_queues.specs.Ends.{AppEnd}
 use Rattle.app_worker.specs.{Kept.{new_state}, State.{State}, StateOf.{end_of}, Turns.{Turns}, declared.turn.{Turn.{Turn, TheVariants.{Idle as idle}}}}
-use Rattle.zc_poll.specs.{Fresh.{new_desk}, PourTurns.{TurnDoes as poll_does, pour_end}, Standing.{Desk}}
+use Rattle.zc_poll.specs.{Fresh.{new_desk}, PourTurns.{PourStage, TurnDoes as poll_does, pour_end, pour_stage}}
 use Rattle.zc_poll.specs.declared.{step.Waits.TheVariants.{Enough}, to_shelf.{Poured.{Poured}, Rests.TheVariants.{Stream}}}
 use Rattle.zc_poll.specs.declared.to_shelf.PollTurn.{PollTurn, TheVariants.{Did, Ended, Idle as waiting}}
-use Rattle.zc_forward.specs.Turns.{Stage, TurnDoes as forward_does}
+use Rattle.zc_forward.specs.{Sending.{new_outbox}, Turns.{KeepsDelay, Stage, TurnDoes as forward_does, stage_of}}
 use Rattle.card_feed.specs.{Plan.{TakesTurns}, declared.plan.Plan.{Plan}}
 use Rattle.run_account.specs.Behind.{Behind}
 
@@ -23,11 +22,9 @@ pub record OwnMoment : Type 0 where
 abbrev pub OwnTurn : OwnMoment → OwnMoment → Type 0
 OwnTurn was now = (turn : Turn) × Turns was.state now.state was.view now.view was.kept now.kept was.losses.faults now.losses.faults turn
 
--- between two turns of what pours a stream's loans: the loan that is due, what the stream keeps, what was seen, and what it ended with
+-- between two turns of what pours a stream's loans, and what it ended with
 pub record PollMoment : Type 0 where
-  pub due : Option Place
-  pub desk : Desk
-  pub view : AppView
+  pub stage : PourStage
   pub poured : Option Poured
 
 -- between two turns of what hands them on
@@ -43,10 +40,12 @@ poured_by (Ended poured) = Some poured
 
 abbrev pub PollTurns : PollMoment → PollMoment → Type 0
 PollTurns was now = (turn : PollTurn) × (was.poured ≡ None) × (now.poured ≡ poured_by turn)
-    × poll_does was.due was.desk now.desk was.view now.view turn
+    × poll_does was.stage now.stage turn
 
+-- A turn of handing on, by a carrier that keeps to one delay.
 abbrev pub ForwardTurns : ForwardMoment → ForwardMoment → Type 0
-ForwardTurns was now = (turn : PollTurn) × (was.poured ≡ None) × (now.poured ≡ poured_by turn) × forward_does was.stage now.stage turn
+ForwardTurns was now = (turn : PollTurn) × (was.poured ≡ None) × (now.poured ≡ poured_by turn)
+    × forward_does was.stage now.stage turn × KeepsDelay was.stage now.stage
 
 -- the turn did something
 abbrev pub DidOwn : Turn → Type 0
@@ -66,20 +65,22 @@ TurnedSince plan first count now = TakesTurns plan × (setting : Setting) × (a 
     × Behind OwnTurn (record { state = new_state a plan.ring plan.how; view = new_app_view setting a; kept = first; losses = count }) now
 
 abbrev pub PolledSince : Plan → PollMoment → Type 0
-PolledSince plan now = (plan.polled ≡ true) × (setting : Setting) × (a : ℕ) × (due : Option Place)
-    × Behind PollTurns (record { due = due; desk = new_desk a; view = new_app_view setting a; poured = None }) now
+PolledSince plan now = (plan.polled ≡ true) × (setting : Setting) × (a : ℕ)
+    × Behind PollTurns (record { stage = pour_stage None (new_desk a) (new_app_view setting a); poured = None }) now
+
+abbrev pub first_stage : Setting → ℕ → ℕ → ℕ → Stage
+first_stage setting a room delay = stage_of (new_outbox room) (new_desk a) [] (record { delay = delay; looks = 0 }) (new_app_view setting a)
 
 abbrev pub ForwardedSince : Plan → ForwardMoment → Type 0
-ForwardedSince plan now = (plan.forward ≢ None) × (setting : Setting) × (a : ℕ) × (first : Stage)
-    × (first.desk ≡ new_desk a) × (first.view ≡ new_app_view setting a) × (first.tags ≡ [])
-    × Behind ForwardTurns (record { stage = first; poured = None }) now
+ForwardedSince plan now = (setting : Setting) × (a room delay : ℕ) × (plan.forward ≡ Some delay)
+    × Behind ForwardTurns (record { stage = first_stage setting a room delay; poured = None }) now
 
 -- An application came to its view, and left with this, in the way that the plan says, since its shelf had `first` and had failed
 -- `count` times.
 pub data HasCome (plan : Plan) (first kept : ℕ → Option (List ℕ)) (count losses : ShelfCounts) (v : AppView) (end : AppEnd) : Type 0 where
   by_turns : (state : State) → end ≡ end_of state
       → TurnedSince plan first count (record { state = state; view = v; kept = kept; losses = losses }) → HasCome plan first kept count losses v end
-  by_polls : (due : Option Place) (desk : Desk) (poured : Poured) → end ≡ pour_end poured
-      → PolledSince plan (record { due = due; desk = desk; view = v; poured = Some poured }) → HasCome plan first kept count losses v end
+  by_polls : (now : PourStage) (poured : Poured) → now.view ≡ v → end ≡ pour_end poured
+      → PolledSince plan (record { stage = now; poured = Some poured }) → HasCome plan first kept count losses v end
   by_forwards : (now : Stage) (poured : Poured) → now.view ≡ v → end ≡ pour_end poured
       → ForwardedSince plan (record { stage = now; poured = Some poured }) → HasCome plan first kept count losses v end

@@ -7,11 +7,11 @@ use Rattle.zr_io.{specs.Moved.{Rose, ShelfCounts, raised_by}, proofs.Moved.{Gain
 use Rattle.board_face.specs.{AppEvents.{app_saw, gave, entry_of}, declared.views.app.{AppLook.{AppLook}, LentPiece.{LentPiece}, AppView.{AppView}}}
 use Rattle.flow_queues.{specs.{Core.{total, IsIn}, Totals.{lent_len, loan_entries}, Ends.{bytes_in}}, proofs.Tokens.{in-total}}
 use Rattle.zc_poll.specs.{declared.to_shelf.PollTurn.{PollTurn, TheVariants.{Did, Idle, Ended}}, Counting.{TallyState}, Standing.{Desk, StreamStands}}
-use Rattle.zc_poll.specs.{Items.{Given, HasGiven, marks_given}, Steps.{OnlySteps, Unlent}, Pouring.{IsPoured, HasPoured}}
+use Rattle.zc_poll.specs.{Items.{Given, HasGiven, marks_given}, PourTurns.{GoesBack}, Steps.{OnlySteps, Unlent}, Pouring.{IsPoured, HasPoured}}
 use Rattle.zc_poll.proofs.{ItemPoured.{SameCounts, poured-moved, poured-all, same-kept}, EntriesFirst.{first-same, first-gave}, PouredOn.{sees-still}}
 use Rattle.zc_poll.proofs.{PourTurns.{same-counts}, Pours.{is-no, no-write}}
 use Rattle.zc_forward.specs.{declared.sent.Sent.{Sent}, Tags.{FlowsKeep, Tags, TakesTag}, Sending.{AreLoans, OutboxState, of_one, of_sent, tags_of, many_out, most_out}}
-use Rattle.zc_forward.specs.{Forwarding.{ForwardStands}, Turns.{GivesBack, GoesBack, with_due}}
+use Rattle.zc_forward.specs.{Forwarding.{ForwardStands}, Turns.{GivesBack, with_due}}
 use Rattle.zc_forward.proofs.{Live.{IsOut, counted-out, at_place, at-itself, went, went-places, went-many, went-lent, gave-entry, gave-returned}, Sents.{still-once}}
 
 -- ---- the carrier told, or had none
@@ -348,15 +348,19 @@ sent-out w loans s are there =
     let here : at_place s.loan s.loan ≤ of_sent (at_place s.loan) w.out = in-total (λ (x : Sent). at_place s.loan x.loan) s w.out there in
     counted-out s.loan loans (omega (arith, are (at_place s.loan), here, at-itself s.loan))
 
-pub goes-back : (loan : Place) (w z : OutboxState) (old new : AppView) (ran : PollTurn) → GivesBack loan w z old new ran → w.tally.due ≡ None → GoesBack loan z old new
-goes-back loan w z old new Did back none = inl (ap (λ (o : OutboxState). o.tally.due) back.0 ∙ none, back.1)
-goes-back loan w z old new (Idle why) back none = inr (ap (λ (o : OutboxState). o.tally.due) back.1, back.2)
+pub goes-back : (loan : Place) (w z : OutboxState) (old new : AppView) (ran : PollTurn) → GivesBack loan w z old new ran → w.tally.due ≡ None
+    → GoesBack loan z.tally.due old new
+goes-back loan w z old new Did back none =
+    subst (λ due. GoesBack loan due old new) (sym (ap (λ (o : OutboxState). o.tally.due) back.0 ∙ none)) back.1
+goes-back loan w z old new (Idle why) back none =
+    subst (λ due. GoesBack loan due old new) (sym (ap (λ (o : OutboxState). o.tally.due) back.1)) (refl, back.2, back.3)
 goes-back loan w z old new (Ended poured) back none = absurd back
 
 pub if-none : (told : Option ℕ) (P : Type 0) → IfNone told P → told ≡ None → P
 if-none told P holds is = subst (λ o. IfNone o P) is holds
 
-pub back-pressed : (loan : Place) (w z : OutboxState) (old new : AppView) (ran : PollTurn) → GivesBack loan w z old new ran → z.pressed ≡ w.pressed
-back-pressed loan w z old new Did back = ap (λ (o : OutboxState). o.pressed) back.0
-back-pressed loan w z old new (Idle why) back = ap (λ (o : OutboxState). o.pressed) back.1
-back-pressed loan w z old new (Ended poured) back = absurd back
+-- and nothing else that is kept changed but what is due
+pub back-work : (loan : Place) (w z : OutboxState) (old new : AppView) (ran : PollTurn) → GivesBack loan w z old new ran → z ≡ with_due w z.tally.due
+back-work loan w z old new Did back = subst (λ (o : OutboxState). o ≡ with_due w o.tally.due) (sym back.0) refl
+back-work loan w z old new (Idle why) back = subst (λ (o : OutboxState). o ≡ with_due w o.tally.due) (sym back.1) refl
+back-work loan w z old new (Ended poured) back = absurd back

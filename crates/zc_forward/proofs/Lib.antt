@@ -8,3 +8,4 @@ pub mod Fronts
 pub mod Scrubs
 pub mod AllGone
 pub mod Waiting
+pub mod Delays

@@ -1,12 +1,12 @@
 -- A stopped one scrubs, once no tag is out, or it saw a refill slot in use.
-use Rattle.std.specs.{Prelude.{IsSome, nat_eq}, Map.{lookup}}
+use Rattle.std.specs.{Prelude.{IsSome, MatchOption, nat_eq}, Map.{lookup}}
 use Rattle.std.proofs.Common.{◌≡◌, ◌≢◌, ◌≤◌, ℕ, true, false, List, [], ◌∷◌, Option, Some, None, refl, sym, ap, subst, ◌∙◌, ◌⊎◌, inl, inr, ⊎_elim, length, arith}
 use Rattle.zr_kinds.specs.declared.place.Place.{Place}
 use Rattle.board_face.specs.{Looks.{AppRose}, declared.views.app.{AppLook.TheVariants.{NotQuiet as not_quiet}, AppView.{AppView}}}
 use Rattle.board_face.specs.AppEvents.{abandoned}
 use Rattle.zc_poll.specs.{Standing.{Desk}, PourTurns.{ScrubsIfQuiet}, declared.to_shelf.PollTurn.{PollTurn, TheVariants.{Did, Idle, Ended}}}
 use Rattle.zc_poll.{specs.declared.to_shelf.Rests.TheVariants.{Stream, RefillFull, NotQuiet, NoNotice}, proofs.Scrubbing.{scrubbed-desk}}
-use Rattle.zc_forward.specs.{Sending.{OutboxState, many_kept, most_out, of_one, without_uncarried}, Tags.{Tags, TakesTag}, Turns.{CarriedItem, Scrubbed, ScrubsFirst, Stage, TookStep, TurnDoes}}
+use Rattle.zc_forward.specs.{Sending.{OutboxState, many_kept, most_out, of_one, without_uncarried}, Tags.{Tags, TakesTag}, Turns.{CarriedItem, GaveDue, Scrubbed, ScrubsFirst, Stage, Told, TookStep, TurnDoes}}
 
 -- a loan that is given up changes nothing of it
 pub quiet-aside : (aside : Option Place) (old mid new : AppView) → mid ≡ without_uncarried aside old → ScrubsIfQuiet mid new → ScrubsIfQuiet old new
@@ -21,14 +21,15 @@ aside-app (Some loan) v = refl
 
 -- an item that came is behind no scrub
 pub carried-first : (was mid now : Stage) → ScrubsFirst was mid → CarriedItem mid now → CarriedItem was now
-carried-first was mid now first item = ⊎_elim (λ (same : mid ≡ was). subst (λ (s : Stage). CarriedItem s now) same item)
+carried-first was mid now first item = ⊎_elim
+    (λ (idle : ((was.desk.stopped ≡ false) ⊎ (was.work.out ≢ [])) × (mid ≡ was)). subst (λ (s : Stage). CarriedItem s now) idle.1 item)
     (λ (scrubbed : Scrubbed was mid).
     let desk = scrubbed-desk was.desk mid.desk (without_uncarried was.work.uncarried was.view) mid.view scrubbed.done scrubbed.scrubs in
     let clash : true ≡ false = sym scrubbed.stopped ∙ sym (ap (λ (d : Desk). d.stopped) desk) ∙ item.item.going.0 in absurd (cc))
     first
 
 pub step-does : (was now : Stage) (ran : PollTurn) → was.work.tally.due ≡ None → TookStep was now ran → TurnDoes was now ran
-step-does was now Did due took = inr (inr took)
+step-does was now Did due took = subst (λ d. MatchOption d (Told was now ⊎ TookStep was now Did) (GaveDue was now)) (sym due) (inr took)
 step-does was now (Idle (Stream why)) due took = (due, took)
 step-does was now (Idle RefillFull) due took = absurd took.does
 step-does was now (Idle NotQuiet) due took = absurd took.does

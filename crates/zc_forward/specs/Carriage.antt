@@ -1,8 +1,8 @@
 -- What a contract sees of a carrier over a shelf.
-use Rattle.std.specs.{Prelude.{◌≡◌, ℕ, ◌<◌, length, nat_eq, nat_le, Bool, true, false, Option, Some, None, ◌∷◌, if◌then◌else◌}, List.{IsDistinct}, Map.{keys_of}}
+use Rattle.std.specs.{Prelude.{◌≡◌, ℕ, ◌<◌, length, nat_eq, nat_le, Bool, true, false, is_none, Option, Some, None, ◌∷◌, if◌then◌else◌}, List.{IsDistinct}, Map.{keys_of}}
 use Rattle.futures.specs.declared.task.Poll.{Poll, TheVariants.{Ready, Pending}}
 use Rattle.zr_io.specs.Memory.{raised}
-use Rattle.zc_forward.specs.Tags.{Tags}
+use Rattle.zc_forward.specs.Tags.{Pace, Tags}
 
 -- the shelf, how many tags it keeps out, these in the order in which they went out, and how often it had no notice
 pub record Carriage (T : Type 0) : Type 0 where
@@ -23,6 +23,13 @@ is_pending (Ready tag) = false
 abbrev pub TellsOldest : {T : Type 0} → Carriage T → Carriage T → Option ℕ → Type 0
 TellsOldest old new None = new ≡ record old { looks = raised old.looks }
 TellsOldest old new (Some tag) = (flow : ℕ) × (old.out ≡ (tag, flow) ∷ new.out) × (new ≡ record old { out = new.out })
+
+abbrev pub pace_of : {T : Type 0} → Carriage T → Pace
+pace_of carriage = record { delay = carriage.delay; looks = carriage.looks }
+
+-- none is told exactly where so few are out, and else the oldest
+abbrev pub AnswersLate : {T : Type 0} → Bool → Carriage T → Carriage T → Option ℕ → Type 0
+AnswersLate urge old new told = (is_none told ≡ is_waiting old urge) × TellsOldest old new told
 
 -- no tag is out twice
 pub record AreOut (delay : ℕ) (out : Tags) : Type 0 where

@@ -1,9 +1,9 @@
 -- The loans that are out, by their tags, and what forwarding keeps beside its stream and its carrier.
-use Rattle.std.specs.Prelude.{◌≡◌, ℕ, ◌+◌, ◌==◌, ◌||◌, Bool, true, false, List, length, map, Option, Some, None}
+use Rattle.std.specs.Prelude.{◌≡◌, ℕ, ◌+◌, ◌==◌, ◌||◌, Bool, true, false, List, [], length, map, Option, Some, None}
 use Rattle.zr_kinds.specs.declared.place.Place.{Place}
 use Rattle.board_face.specs.{AppEvents.{abandoned}, declared.views.app.{LentPiece.{LentPiece}, AppView.{AppView}}}
 use Rattle.flow_queues.specs.Core.{total}
-use Rattle.zc_poll.specs.{Counting.{TallyState}, declared.step.Waits.{Waits, TheVariants.{NoNote, ReserveHeld, Enough}}}
+use Rattle.zc_poll.specs.{Counting.{TallyState, new_tally}, declared.step.Waits.{Waits, TheVariants.{NoNote, ReserveHeld, Enough}}}
 use Rattle.zc_forward.specs.{declared.sent.Sent.{Sent}, Tags.{Tags}}
 
 -- their tags, each with its flow
@@ -20,6 +20,10 @@ pub record OutboxState : Type 0 where
   pub uncarried : Option Place
   -- the stream waits for a buffer, or has ended
   pub pressed : Bool
+
+-- nothing was handed out yet, with room for so many flows
+abbrev pub new_outbox : ℕ → OutboxState
+new_outbox room = record { tally = new_tally room; out = []; uncarried = None; pressed = false }
 
 -- how many loans may be out
 abbrev pub most_out : ℕ

@@ -1,5 +1,5 @@
 -- The tags that are out.
-use Rattle.std.specs.{Prelude.{◌≡◌, ℕ, List, Option, Some, None, IsSome, nat_eq}, Map.{lookup, remove_entry}, Io.KnownBytes.{Keeps}}
+use Rattle.std.specs.{Prelude.{◌≡◌, ℕ, ◌≤◌, List, Option, Some, None, IsSome, nat_eq}, Map.{lookup, remove_entry}, Io.KnownBytes.{Keeps}}
 use Rattle.futures.specs.declared.task.Poll.{Poll, TheVariants.{Ready, Pending}}
 
 -- each tag with its flow
@@ -15,6 +15,14 @@ TakesTag old new (Some tag) = IsSome (lookup (nat_eq tag) old) × (new ≡ remov
 abbrev pub polled : Poll ℕ → Option ℕ
 polled (Ready tag) = Some tag
 polled Pending = None
+
+-- how many tags a carrier keeps out where nothing urges it, if it keeps to a number; and how often it was asked for a notice and had none
+pub record Pace : Type 0 where
+  pub delay : ℕ
+  pub looks : ℕ
+
+abbrev pub PaceGoes : Pace → Pace → Type 0
+PaceGoes old new = (new.delay ≡ old.delay) × (old.looks ≤ new.looks)
 
 -- no flow got anything
 abbrev pub FlowsKeep : (ℕ → Option (List ℕ)) → (ℕ → Option (List ℕ)) → Type 0

@@ -2,7 +2,7 @@
 ghost use Rattle.std.specs.Prelude.{◌≡◌, IfNone, None};
 ghost use Rattle.futures.specs.Task.{Keeps};
 ghost use Rattle.zr_io.specs.Moved.{Rose};
-ghost use Rattle.zc_forward.specs.{OutboxOf.{outbox_of}, Asking.{Asked, AskedBy}};
+ghost use Rattle.zc_forward.specs.{OutboxOf.{outbox_of}, Tags.{PaceGoes}, Asking.{Asked, AskedBy}};
 
 use crate::carrier::Carrier;
 use crate::outbox::{Outbox, is_urgent};
@@ -12,8 +12,9 @@ use futures::task::{Context, Poll};
 pub fn ask<C: Carrier>(carrier: &mut C, work: &Outbox) -> Option<u32>
     ensures by { AskedBy C.answers (outbox_of work.now) carrier.old carrier.new result }
     ensures asked { Asked (outbox_of work.now) (C.got carrier.old) (C.got carrier.new) (C.tags carrier.old) (C.tags carrier.new) result }
-    ensures looked { IfNone result (work.now.tally.due ≡ None → Rose (C.looks carrier.old) (C.looks carrier.new)) }
+    ensures looked { IfNone result (work.now.tally.due ≡ None → Rose (C.pace carrier.old).looks (C.pace carrier.new).looks) }
     ensures counts { C.counts carrier.new ≡ C.counts carrier.old }
+    ensures pace { PaceGoes (C.pace carrier.old) (C.pace carrier.new) }
 {
     if work.tally.due.is_some() {
         return None;
@@ -25,8 +26,9 @@ pub fn ask<C: Carrier>(carrier: &mut C, work: &Outbox) -> Option<u32>
 pub fn poll_ask<C: Carrier>(carrier: &mut C, work: &Outbox, cx: &mut Context<'_>) -> Option<u32>
     ensures by { AskedBy C.answers (outbox_of work.now) carrier.old carrier.new result }
     ensures asked { Asked (outbox_of work.now) (C.got carrier.old) (C.got carrier.new) (C.tags carrier.old) (C.tags carrier.new) result }
-    ensures looked { IfNone result (work.now.tally.due ≡ None → Rose (C.looks carrier.old) (C.looks carrier.new)) }
+    ensures looked { IfNone result (work.now.tally.due ≡ None → Rose (C.pace carrier.old).looks (C.pace carrier.new).looks) }
     ensures counts { C.counts carrier.new ≡ C.counts carrier.old }
+    ensures pace { PaceGoes (C.pace carrier.old) (C.pace carrier.new) }
     ensures kept { Keeps cx.old cx.new }
 {
     if work.tally.due.is_some() {

@@ -4,8 +4,8 @@ ghost use Rattle.zr_kinds.specs.declared.{place.Place.{Place}, behaviour.Stopped
 ghost use Rattle.zr_io.specs.Moved.{Gained, Rose, raised_by};
 ghost use Rattle.board_face.specs.{AppCalls.{HasLoan}, declared.views.app.{LentPiece.{LentPiece}, AppView.{AppView}}};
 ghost use Rattle.flow_queues.specs.{declared.queues.Lending.{Lending}, Core.{total, IsIn, lent_piece, OnlyReads, IsReadOf}};
-ghost use Rattle.zc_poll.specs.{Standing.{StreamStands}, Items.{Given, HasGiven}};
-ghost use Rattle.zc_forward.specs.{Sending.{of_sent}, Tags.{FlowsKeep}, GivenUp.{GaveUp}};
+ghost use Rattle.zc_poll.specs.{Standing.{StreamStands, stopped_with}, Items.{Given, HasGiven}};
+ghost use Rattle.zc_forward.specs.{Sending.{of_sent}, Tags.{FlowsKeep}, GivenUp.{GaveAllUp, GaveUp}};
 
 use crate::carrier::Carrier;
 use crate::outbox::Outbox;
@@ -41,7 +41,7 @@ fn carry_loan<F: AppFace, C: Carrier>(
     ensures still { result ≡ sent.now.loan.len → (C.counts carrier.new).faults ≡ (C.counts carrier.old).faults }
     ensures cause { result < sent.now.loan.len → Rose (C.counts carrier.old).faults (C.counts carrier.new).faults }
     ensures appended { (C.counts carrier.new).appended ≡ raised_by (C.counts carrier.old).appended result }
-    ensures looks { C.looks carrier.old ≤ C.looks carrier.new }
+    ensures pace { C.pace carrier.new ≡ C.pace carrier.old }
     ensures beside { F.beside stream.new.face ≡ F.beside stream.old.face }
 {
     let mut chunk = [0; CHUNK];
@@ -80,7 +80,7 @@ pub fn send<F: AppFace, C: Carrier>(stream: &mut LoanStream<F>, carrier: &mut C,
     ensures still { result ≡ sent.now.loan.len → (C.counts carrier.new).faults ≡ (C.counts carrier.old).faults }
     ensures cause { result < sent.now.loan.len → Rose (C.counts carrier.old).faults (C.counts carrier.new).faults }
     ensures appended { (C.counts carrier.new).appended ≡ raised_by (C.counts carrier.old).appended result }
-    ensures looks { C.looks carrier.old ≤ C.looks carrier.new }
+    ensures pace { C.pace carrier.new ≡ C.pace carrier.old }
     ensures beside { F.beside stream.new.face ≡ F.beside stream.old.face }
 {
     if carrier.begin(sent.tag, sent.flow).is_err() {
@@ -109,8 +109,8 @@ pub fn fail<F: AppFace, C: Carrier>(stream: &mut LoanStream<F>, carrier: &mut C,
     requires stands { StreamStands stream.old.desk (F.seen stream.old.face) }
     requires loans { (f : Place → ℕ) → total (λ (l : LentPiece). f l.place) (F.seen stream.old.face).loans ≡ of_sent f work.old.out.items }
     ensures stands { StreamStands stream.new.desk (F.seen stream.new.face) }
-    ensures stopped { (stream.new.desk.stopped ≡ true) × (stream.new.desk.ended ≡ stream.old.desk.ended) }
-    ensures gave_up { (view : AppView) × GaveUp (F.seen stream.old.face) view × (F.seen stream.new.face ≡ record view { helds = [] }) }
+    ensures stopped { stream.new.desk ≡ stopped_with stream.old.desk stream.new.desk.flows }
+    ensures gave_up { GaveAllUp (F.seen stream.old.face) (F.seen stream.new.face) }
     ensures none { (F.seen stream.new.face).loans ≡ [] }
     ensures items { (items : List Given) → HasGiven items stream.old.desk.flows (F.seen stream.old.face).taken
         → HasGiven items stream.new.desk.flows (F.seen stream.new.face).taken }
@@ -119,7 +119,7 @@ pub fn fail<F: AppFace, C: Carrier>(stream: &mut LoanStream<F>, carrier: &mut C,
     ensures tags { C.tags carrier.new ≡ [] }
     ensures got { FlowsKeep (C.got carrier.old) (C.got carrier.new) }
     ensures counts { C.counts carrier.new ≡ C.counts carrier.old }
-    ensures looks { C.looks carrier.old ≤ C.looks carrier.new }
+    ensures pace { C.pace carrier.new ≡ C.pace carrier.old }
     ensures beside { F.beside stream.new.face ≡ F.beside stream.old.face }
 {
     carrier.cancel();

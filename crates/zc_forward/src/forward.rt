@@ -5,7 +5,7 @@ ghost use Rattle.board_face.specs.{AppEvents.{app_gist}, declared.views.app.AppV
 ghost use Rattle.zr_kinds.specs.declared.behaviour.Stopped.TheVariants.{No};
 ghost use Rattle.zc_poll.specs.{PourTurns.{IsTold, ScrubsIfQuiet}, Fresh.{HasDoneNothing, new_desk}, Standing.{StreamStands}};
 ghost use Rattle.zc_poll.specs.{PourTurns.{pour_end}, Stops.{HasStopped, IsStill, quit_by}, declared.to_shelf.Poured.{Poured as Told}};
-ghost use Rattle.zc_forward.specs.{Forwarding.{ForwardStands}, GivenUp.{GaveUp}, Polls.{Tells}, Tags.{FlowsKeep}, Turns.{ForwardGives, PollDoes, PollForwards, TurnDoes, stage_of, Asks}};
+ghost use Rattle.zc_forward.specs.{Forwarding.{ForwardStands}, GivenUp.{GaveAllUp}, Polls.{Tells}, Sending.{new_outbox}, Tags.{FlowsKeep, PaceGoes}, Turns.{ForwardGives, PollDoes, PollForwards, TurnDoes, stage_of, Asks}};
 ghost use Rattle.zr_io.specs.Moved.{ShelfCounts};
 
 use crate::asking::{ask, poll_ask};
@@ -43,7 +43,8 @@ impl<F: AppFace, C: Carrier> Forward<F, C> {
         requires fresh { (app : ℕ) × (stream.desk ≡ new_desk app) × HasDoneNothing app (F.seen stream.face) }
         requires stands { StreamStands stream.desk (F.seen stream.face) }
         requires none { C.tags carrier ≡ [] }
-        ensures parts { (result.face ≡ stream.face) × (result.carrier ≡ carrier) × (result.desk ≡ stream.desk) }
+        ensures parts { (result.face ≡ stream.face) × (result.carrier ≡ carrier) × (result.desk ≡ stream.desk)
+            × (result.work ≡ new_outbox result.work.tally.room) }
         ensures stands { ForwardStands (C.got carrier) (C.counts carrier) result.work result.desk (C.tags result.carrier) (C.got result.carrier)
             (C.counts result.carrier) (F.seen result.face) }
     {
@@ -82,12 +83,13 @@ impl<F: AppFace, C: Carrier> Forward<F, C> {
             (C.counts self.new.carrier) (F.seen self.new.face) result }
         // Why it did something, waited, or ended, and which loan went back.
         ensures does { TurnDoes
-            (stage_of self.old.work self.old.desk (C.tags self.old.carrier) (C.looks self.old.carrier) (F.seen self.old.face))
-            (stage_of self.new.work self.new.desk (C.tags self.new.carrier) (C.looks self.new.carrier) (F.seen self.new.face)) result }
+            (stage_of self.old.work self.old.desk (C.tags self.old.carrier) (C.pace self.old.carrier) (F.seen self.old.face))
+            (stage_of self.new.work self.new.desk (C.tags self.new.carrier) (C.pace self.new.carrier) (F.seen self.new.face)) result }
+        ensures pace { PaceGoes (C.pace self.old.carrier) (C.pace self.new.carrier) }
         // With which urge it asked the carrier for a notice.
-        ensures asks { Asks C.answers C.tags
-            (stage_of self.old.work self.old.desk (C.tags self.old.carrier) (C.looks self.old.carrier) (F.seen self.old.face))
-            (stage_of self.new.work self.new.desk (C.tags self.new.carrier) (C.looks self.new.carrier) (F.seen self.new.face))
+        ensures asks { Asks C.answers C.tags C.pace
+            (stage_of self.old.work self.old.desk (C.tags self.old.carrier) (C.pace self.old.carrier) (F.seen self.old.face))
+            (stage_of self.new.work self.new.desk (C.tags self.new.carrier) (C.pace self.new.carrier) (F.seen self.new.face))
             self.old.carrier self.new.carrier }
         // One that was stopped and hadn't scrubbed has, where no tag is out and no loan is due, or it saw a refill slot in use.
         ensures scrubs { self.old.work.tally.stopped ≢ No → self.old.work.tally.due ≡ None → self.old.work.out ≡ []
@@ -113,12 +115,13 @@ impl<F: AppFace, C: Carrier> Forward<F, C> {
             → ForwardGives first losses self.new.work self.new.desk (C.tags self.new.carrier) (C.got self.new.carrier)
             (C.counts self.new.carrier) (F.seen self.new.face) result }
         ensures does { TurnDoes
-            (stage_of self.old.work self.old.desk (C.tags self.old.carrier) (C.looks self.old.carrier) (F.seen self.old.face))
-            (stage_of self.new.work self.new.desk (C.tags self.new.carrier) (C.looks self.new.carrier) (F.seen self.new.face)) result }
+            (stage_of self.old.work self.old.desk (C.tags self.old.carrier) (C.pace self.old.carrier) (F.seen self.old.face))
+            (stage_of self.new.work self.new.desk (C.tags self.new.carrier) (C.pace self.new.carrier) (F.seen self.new.face)) result }
+        ensures pace { PaceGoes (C.pace self.old.carrier) (C.pace self.new.carrier) }
         // With which urge it asked the carrier for a notice.
-        ensures asks { Asks C.answers C.tags
-            (stage_of self.old.work self.old.desk (C.tags self.old.carrier) (C.looks self.old.carrier) (F.seen self.old.face))
-            (stage_of self.new.work self.new.desk (C.tags self.new.carrier) (C.looks self.new.carrier) (F.seen self.new.face))
+        ensures asks { Asks C.answers C.tags C.pace
+            (stage_of self.old.work self.old.desk (C.tags self.old.carrier) (C.pace self.old.carrier) (F.seen self.old.face))
+            (stage_of self.new.work self.new.desk (C.tags self.new.carrier) (C.pace self.new.carrier) (F.seen self.new.face))
             self.old.carrier self.new.carrier }
         ensures scrubs { self.old.work.tally.stopped ≢ No → self.old.work.tally.due ≡ None → self.old.work.out ≡ []
             → ScrubsIfQuiet (F.seen self.old.face) (F.seen self.new.face) }
@@ -139,7 +142,7 @@ impl<F: AppFace, C: Carrier> Forward<F, C> {
             (F.seen self.face) }
         // No loan and no tag is out.
         ensures still { IsStill result.1.desk (F.seen result.1.face) }
-        ensures gave_up { (view : AppView) × GaveUp (F.seen self.face) view × (F.seen result.1.face ≡ record view { helds = [] }) }
+        ensures gave_up { GaveAllUp (F.seen self.face) (F.seen result.1.face) }
         ensures stops { (first : ℕ → Option (List ℕ)) (losses : ShelfCounts)
             → ForwardStands first losses self.work self.desk (C.tags self.carrier) (C.got self.carrier) (C.counts self.carrier)
             (F.seen self.face)
@@ -208,12 +211,13 @@ impl<F: AppFace + Drop, C: Carrier + Drop> Future for Forward<F, C> {
             → PollForwards first losses self.new.work self.new.desk (C.tags self.new.carrier) (C.got self.new.carrier)
             (C.counts self.new.carrier) (F.seen self.new.face) result }
         ensures does { PollDoes (λ look. F.tells look (app_gist (F.seen self.new.face)) (F.beside self.new.face))
-            (stage_of self.old.work self.old.desk (C.tags self.old.carrier) (C.looks self.old.carrier) (F.seen self.old.face))
-            (stage_of self.new.work self.new.desk (C.tags self.new.carrier) (C.looks self.new.carrier) (F.seen self.new.face)) result }
+            (stage_of self.old.work self.old.desk (C.tags self.old.carrier) (C.pace self.old.carrier) (F.seen self.old.face))
+            (stage_of self.new.work self.new.desk (C.tags self.new.carrier) (C.pace self.new.carrier) (F.seen self.new.face)) result }
+        ensures pace { PaceGoes (C.pace self.old.carrier) (C.pace self.new.carrier) }
         // With which urge it asked the carrier for a notice.
-        ensures asks { Asks C.answers C.tags
-            (stage_of self.old.work self.old.desk (C.tags self.old.carrier) (C.looks self.old.carrier) (F.seen self.old.face))
-            (stage_of self.new.work self.new.desk (C.tags self.new.carrier) (C.looks self.new.carrier) (F.seen self.new.face))
+        ensures asks { Asks C.answers C.tags C.pace
+            (stage_of self.old.work self.old.desk (C.tags self.old.carrier) (C.pace self.old.carrier) (F.seen self.old.face))
+            (stage_of self.new.work self.new.desk (C.tags self.new.carrier) (C.pace self.new.carrier) (F.seen self.new.face))
             self.old.carrier self.new.carrier }
         ensures scrubs { self.old.work.tally.stopped ≢ No → self.old.work.tally.due ≡ None → self.old.work.out ≡ []
             → ScrubsIfQuiet (F.seen self.old.face) (F.seen self.new.face) }

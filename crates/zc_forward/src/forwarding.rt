@@ -5,7 +5,7 @@ ghost use Rattle.board_face.specs.{AppCalls.{HasLoan}, AppEvents.{app_gist}, dec
 ghost use Rattle.zr_kinds.specs.declared.{place.Place.{Place}, behaviour.Stopped.TheVariants.{No}};
 ghost use Rattle.flow_queues.specs.Core.{total};
 ghost use Rattle.zc_poll.specs.{Standing.{Desk, StreamStands}, Steps.{IsItem, OnlySteps}, PourTurns.{IsTold, ScrubsIfQuiet}};
-ghost use Rattle.zc_forward.specs.{Tags.{Tags, TakesTag}, OutboxOf.{outbox_of}, Sending.{most_out, of_sent, tags_of, without_uncarried}, Forwarding.{ForwardStands}, Turns.{ForwardGives, GivesBack, CarriedItem, ScrubsFirst, StepDoes, Told, TurnDoes, stage_of, with_due}};
+ghost use Rattle.zc_forward.specs.{Tags.{Pace, Tags, TakesTag}, OutboxOf.{outbox_of}, Sending.{most_out, of_sent, tags_of, without_uncarried}, Forwarding.{ForwardStands}, Turns.{ForwardGives, GivesBack, CarriedItem, ScrubsFirst, StepDoes, Told, TurnDoes, stage_of, with_due}};
 
 use crate::carrier::Carrier;
 use crate::carrying::{fail, send};
@@ -48,8 +48,8 @@ fn take_notice<F: AppFace>(stream: &mut LoanStream<F>, work: &mut Outbox, tag: u
         → ForwardStands first losses (outbox_of work.old) stream.old.desk was got now (F.seen stream.old.face)
         → TakesTag was tags (Some tag)
         → ForwardStands first losses (outbox_of work.new) stream.new.desk tags got now (F.seen stream.new.face) }
-    ensures told { (was tags : Tags) (looks later : ℕ) → TakesTag was tags (Some tag)
-        → Told (stage_of (outbox_of work.old) stream.old.desk was looks (F.seen stream.old.face))
+    ensures told { (was tags : Tags) (pace later : Pace) → TakesTag was tags (Some tag)
+        → Told (stage_of (outbox_of work.old) stream.old.desk was pace (F.seen stream.old.face))
         (stage_of (outbox_of work.new) stream.new.desk tags later (F.seen stream.new.face)) }
     ensures same { (F.seen stream.new.face).app ≡ (F.seen stream.old.face).app }
     ensures beside { F.beside stream.new.face ≡ F.beside stream.old.face }
@@ -83,9 +83,9 @@ fn leave<F: AppFace>(stream: &mut LoanStream<F>, work: &mut Outbox) -> PollTurn
     ensures gives { (first got : ℕ → Option (List ℕ)) (losses now : ShelfCounts) (tags : Tags)
         → ForwardStands first losses (outbox_of work.old) stream.old.desk tags got now (F.seen stream.old.face)
         → ForwardGives first losses (outbox_of work.new) stream.new.desk tags got now (F.seen stream.new.face) result }
-    ensures does { (first got : ℕ → Option (List ℕ)) (losses now : ShelfCounts) (tags : Tags) (looks later : ℕ)
+    ensures does { (first got : ℕ → Option (List ℕ)) (losses now : ShelfCounts) (tags : Tags) (pace later : Pace)
         → ForwardStands first losses (outbox_of work.old) stream.old.desk tags got now (F.seen stream.old.face)
-        → TurnDoes (stage_of (outbox_of work.old) stream.old.desk tags looks (F.seen stream.old.face))
+        → TurnDoes (stage_of (outbox_of work.old) stream.old.desk tags pace (F.seen stream.old.face))
         (stage_of (outbox_of work.new) stream.new.desk tags later (F.seen stream.new.face)) result }
     ensures scrubs { ScrubsIfQuiet (F.seen stream.old.face) (F.seen stream.new.face) }
     ensures told { IsTold (λ look. F.tells look (app_gist (F.seen stream.new.face)) (F.beside stream.new.face)) result }
@@ -121,11 +121,11 @@ fn forward_item<F: AppFace, C: Carrier>(
         → IsItem st stream.old.desk v (F.seen stream.old.face) lent → OnlySteps v (F.seen stream.old.face)
         → ForwardStands first losses (outbox_of work.new) stream.new.desk (C.tags carrier.new) (C.got carrier.new) (C.counts carrier.new)
         (F.seen stream.new.face) }
-    ensures had { (st : Desk) (v : AppView) (looks later : ℕ) → IsItem st stream.old.desk v (F.seen stream.old.face) lent
+    ensures had { (st : Desk) (v : AppView) (pace later : Pace) → IsItem st stream.old.desk v (F.seen stream.old.face) lent
         → OnlySteps v (F.seen stream.old.face)
-        → CarriedItem (stage_of (outbox_of work.old) st (C.tags carrier.old) looks v)
+        → CarriedItem (stage_of (outbox_of work.old) st (C.tags carrier.old) pace v)
         (stage_of (outbox_of work.new) stream.new.desk (C.tags carrier.new) later (F.seen stream.new.face)) }
-    ensures looks { C.looks carrier.old ≤ C.looks carrier.new }
+    ensures pace { C.pace carrier.new ≡ C.pace carrier.old }
     ensures same { (F.seen stream.new.face).app ≡ (F.seen stream.old.face).app }
     ensures beside { F.beside stream.new.face ≡ F.beside stream.old.face }
 {
@@ -174,13 +174,13 @@ fn step_once<F: AppFace, C: Carrier>(
         (F.seen stream.old.face)
         → ForwardGives first losses (outbox_of work.new) stream.new.desk (C.tags carrier.new) (C.got carrier.new) (C.counts carrier.new)
         (F.seen stream.new.face) result }
-    ensures does { (looks : ℕ) → StepDoes (stage_of (outbox_of work.old) stream.old.desk (C.tags carrier.old) looks (F.seen stream.old.face))
-        (stage_of (outbox_of work.new) stream.new.desk (C.tags carrier.new) (C.looks carrier.new) (F.seen stream.new.face)) result }
+    ensures does { (pace : Pace) → StepDoes (stage_of (outbox_of work.old) stream.old.desk (C.tags carrier.old) pace (F.seen stream.old.face))
+        (stage_of (outbox_of work.new) stream.new.desk (C.tags carrier.new) (C.pace carrier.new) (F.seen stream.new.face)) result }
     ensures only { stream.old.desk.stopped ≡ true → OnlySteps (F.seen stream.old.face) (F.seen stream.new.face) }
-    ensures looks { C.looks carrier.old ≤ C.looks carrier.new }
-    ensures rest { (looks : ℕ) → (carrier.new ≡ carrier.old)
-        ⊎ CarriedItem (stage_of (outbox_of work.old) stream.old.desk (C.tags carrier.old) looks (F.seen stream.old.face))
-        (stage_of (outbox_of work.new) stream.new.desk (C.tags carrier.new) (C.looks carrier.new) (F.seen stream.new.face)) }
+    ensures pace { C.pace carrier.new ≡ C.pace carrier.old }
+    ensures rest { (pace : Pace) → (carrier.new ≡ carrier.old)
+        ⊎ CarriedItem (stage_of (outbox_of work.old) stream.old.desk (C.tags carrier.old) pace (F.seen stream.old.face))
+        (stage_of (outbox_of work.new) stream.new.desk (C.tags carrier.new) (C.pace carrier.new) (F.seen stream.new.face)) }
     ensures told { IsTold (λ look. F.tells look (app_gist (F.seen stream.new.face)) (F.beside stream.new.face)) result }
     ensures same { (F.seen stream.new.face).app ≡ (F.seen stream.old.face).app }
     ensures beside { F.beside stream.new.face ≡ F.beside stream.old.face }
@@ -215,8 +215,8 @@ fn scrub_stopped<F: AppFace>(stream: &mut LoanStream<F>, work: &mut Outbox)
     ensures gives { (first got : ℕ → Option (List ℕ)) (losses now : ShelfCounts) (tags : Tags)
         → ForwardStands first losses (outbox_of work.old) stream.old.desk tags got now (F.seen stream.old.face)
         → ForwardStands first losses (outbox_of work.new) stream.new.desk tags got now (F.seen stream.new.face) }
-    ensures first { (tags : Tags) (looks : ℕ) → ScrubsFirst (stage_of (outbox_of work.old) stream.old.desk tags looks (F.seen stream.old.face))
-        (stage_of (outbox_of work.new) stream.new.desk tags looks (F.seen stream.new.face)) }
+    ensures first { (tags : Tags) (pace : Pace) → ScrubsFirst (stage_of (outbox_of work.old) stream.old.desk tags pace (F.seen stream.old.face))
+        (stage_of (outbox_of work.new) stream.new.desk tags pace (F.seen stream.new.face)) }
     ensures scrubs { work.old.tally.stopped ≢ No → work.old.out.items ≡ [] → ScrubsIfQuiet (F.seen stream.old.face) (F.seen stream.new.face) }
     ensures work { work.new ≡ record work.old { uncarried = work.new.uncarried } }
     ensures desk { (stream.new.desk.stopped ≡ stream.old.desk.stopped) × (stream.new.desk.ended ≡ stream.old.desk.ended) }
@@ -250,12 +250,12 @@ fn take_step<F: AppFace, C: Carrier>(
         (F.seen stream.old.face)
         → ForwardGives first losses (outbox_of work.new) stream.new.desk (C.tags carrier.new) (C.got carrier.new) (C.counts carrier.new)
         (F.seen stream.new.face) result }
-    ensures does { (looks : ℕ) → TurnDoes (stage_of (outbox_of work.old) stream.old.desk (C.tags carrier.old) looks (F.seen stream.old.face))
-        (stage_of (outbox_of work.new) stream.new.desk (C.tags carrier.new) (C.looks carrier.new) (F.seen stream.new.face)) result }
-    ensures looks { C.looks carrier.old ≤ C.looks carrier.new }
-    ensures rest { (looks : ℕ) → (carrier.new ≡ carrier.old)
-        ⊎ CarriedItem (stage_of (outbox_of work.old) stream.old.desk (C.tags carrier.old) looks (F.seen stream.old.face))
-        (stage_of (outbox_of work.new) stream.new.desk (C.tags carrier.new) (C.looks carrier.new) (F.seen stream.new.face)) }
+    ensures does { (pace : Pace) → TurnDoes (stage_of (outbox_of work.old) stream.old.desk (C.tags carrier.old) pace (F.seen stream.old.face))
+        (stage_of (outbox_of work.new) stream.new.desk (C.tags carrier.new) (C.pace carrier.new) (F.seen stream.new.face)) result }
+    ensures pace { C.pace carrier.new ≡ C.pace carrier.old }
+    ensures rest { (pace : Pace) → (carrier.new ≡ carrier.old)
+        ⊎ CarriedItem (stage_of (outbox_of work.old) stream.old.desk (C.tags carrier.old) pace (F.seen stream.old.face))
+        (stage_of (outbox_of work.new) stream.new.desk (C.tags carrier.new) (C.pace carrier.new) (F.seen stream.new.face)) }
     ensures scrubs { work.old.tally.stopped ≢ No → work.old.out.items ≡ [] → ScrubsIfQuiet (F.seen stream.old.face) (F.seen stream.new.face) }
     ensures told { IsTold (λ look. F.tells look (app_gist (F.seen stream.new.face)) (F.beside stream.new.face)) result }
     ensures same { (F.seen stream.new.face).app ≡ (F.seen stream.old.face).app }
@@ -281,18 +281,19 @@ pub fn go_on<F: AppFace, C: Carrier>(
         (F.seen stream.old.face)
         → ForwardGives first losses (outbox_of work.new) stream.new.desk (C.tags carrier.new) (C.got carrier.new) (C.counts carrier.new)
         (F.seen stream.new.face) result }
-    ensures does { (was : Tags) (looks : ℕ) → TakesTag was (C.tags carrier.old) told
-        → (told ≡ None → work.old.tally.due ≡ None → Rose looks (C.looks carrier.old))
-        → TurnDoes (stage_of (outbox_of work.old) stream.old.desk was looks (F.seen stream.old.face))
-        (stage_of (outbox_of work.new) stream.new.desk (C.tags carrier.new) (C.looks carrier.new) (F.seen stream.new.face)) result }
+    ensures does { (was : Tags) (pace : Pace) → TakesTag was (C.tags carrier.old) told
+        → (told ≡ None → work.old.tally.due ≡ None → Rose pace.looks (C.pace carrier.old).looks)
+        → TurnDoes (stage_of (outbox_of work.old) stream.old.desk was pace (F.seen stream.old.face))
+        (stage_of (outbox_of work.new) stream.new.desk (C.tags carrier.new) (C.pace carrier.new) (F.seen stream.new.face)) result }
     // The carrier isn't asked again.
-    ensures rest { (was : Tags) (looks : ℕ) → TakesTag was (C.tags carrier.old) told
+    ensures pace { C.pace carrier.new ≡ C.pace carrier.old }
+    ensures rest { (was : Tags) (pace : Pace) → TakesTag was (C.tags carrier.old) told
         → MatchOption told ((carrier.new ≡ carrier.old)
-        ⊎ CarriedItem (stage_of (outbox_of work.old) stream.old.desk was looks (F.seen stream.old.face))
-        (stage_of (outbox_of work.new) stream.new.desk (C.tags carrier.new) (C.looks carrier.new) (F.seen stream.new.face)))
+        ⊎ CarriedItem (stage_of (outbox_of work.old) stream.old.desk was pace (F.seen stream.old.face))
+        (stage_of (outbox_of work.new) stream.new.desk (C.tags carrier.new) (C.pace carrier.new) (F.seen stream.new.face)))
         (λ tag. (carrier.new ≡ carrier.old)
-        × Told (stage_of (outbox_of work.old) stream.old.desk was looks (F.seen stream.old.face))
-        (stage_of (outbox_of work.new) stream.new.desk (C.tags carrier.new) (C.looks carrier.new) (F.seen stream.new.face))) }
+        × Told (stage_of (outbox_of work.old) stream.old.desk was pace (F.seen stream.old.face))
+        (stage_of (outbox_of work.new) stream.new.desk (C.tags carrier.new) (C.pace carrier.new) (F.seen stream.new.face))) }
     ensures scrubs { told ≡ None → work.old.tally.stopped ≢ No → work.old.tally.due ≡ None → work.old.out.items ≡ []
         → ScrubsIfQuiet (F.seen stream.old.face) (F.seen stream.new.face) }
     ensures told { IsTold (λ look. F.tells look (app_gist (F.seen stream.new.face)) (F.beside stream.new.face)) result }

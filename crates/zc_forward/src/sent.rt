@@ -1,5 +1,5 @@
 //! Loans whose tags are out.
-ghost use Rattle.std.specs.{Prelude.{◌≡◌, ◌<◌, ◌+◌, ℕ, length, nat_eq, remove, slice_index_or, IsSome, None, MatchOption}, Map.{lookup, remove_entry}};
+ghost use Rattle.std.specs.{Prelude.{◌≡◌, ◌<◌, ◌+◌, ℕ, length, nat_eq, remove, slice_get, slice_index_or, IsSome, None, Some, MatchOption}, Map.{lookup, remove_entry}};
 ghost use Rattle.zr_kinds.specs.declared.place.Place.{Place};
 ghost use Rattle.flow_queues.specs.Core.{IsIn};
 ghost use Rattle.zc_forward.specs.{declared.sent.Sent.{Sent as Entry}, Sending.{of_sent, tags_of, most_out}};
@@ -49,6 +49,8 @@ pub fn free_tag(out: &[Sent]) -> u32
 pub fn take_sent(out: &mut Vec<Sent>, tag: u32) -> Loan
     requires { IsSome (lookup (nat_eq tag) (tags_of out.old.items)) }
     ensures was { (flow : ℕ) × IsIn (record { tag = tag; flow = flow; loan = result }) out.old.items }
+    ensures at { (flow i : ℕ) × (slice_get out.old.items i ≡ Some (record { tag = tag; flow = flow; loan = result }))
+        × (out.new.items ≡ remove out.old.items i) }
     ensures tags { tags_of out.new.items ≡ remove_entry (nat_eq tag) (tags_of out.old.items) }
     ensures loans { (f : Place → ℕ) → f result + of_sent f out.new.items ≡ of_sent f out.old.items }
     ensures many { length out.new.items + 1 ≡ length out.old.items }

@@ -1,7 +1,7 @@
-ghost use Rattle.std.specs.{Prelude.{◌≡◌, ◌≢◌, ◌<◌, ◌≤◌, ℕ, [], ◌∷◌, ◌++◌, length, nat_eq, is_none, Ok, IfNone, IfSome, IsSome, None, Some, ⊤, true}, Map.{lookup}, Io.KnownBytes.{Keeps as KeepsBytes}};
+ghost use Rattle.std.specs.{Prelude.{◌≡◌, ◌≢◌, ◌<◌, ℕ, [], ◌∷◌, ◌++◌, length, nat_eq, is_none, Ok, IfNone, IfSome, IsSome, None, Some, ⊤, true}, Map.{lookup}, Io.KnownBytes.{Keeps as KeepsBytes}};
 ghost use Rattle.futures.specs.{Poll.{IfReady, OnPending}, Task.{Covers, Keeps}};
 ghost use Rattle.zr_io.specs.Moved.{AddsPiece, CountsPiece, HasCause, Rose};
-ghost use Rattle.zc_forward.specs.{Tags.{TakesTag, polled}, Carriage.{TellsOldest, is_pending, is_waiting}};
+ghost use Rattle.zc_forward.specs.{Tags.{PaceGoes, TakesTag, polled}, Carriage.{AnswersLate, TellsOldest, is_pending, is_waiting, pace_of}};
 
 use crate::carrier::Carrier;
 use arrayvec::ArrayVec;
@@ -79,9 +79,9 @@ impl<T: Shelf> Carrier for ShelfCarrier<T> {
 
     ghost counts = { λ c. T.counts c.shelf };
 
-    ghost looks = { λ c. c.looks };
+    ghost pace = { λ c. pace_of c };
 
-    ghost answers = { λ urge old new told. (is_none told ≡ is_waiting old urge) × TellsOldest old new told };
+    ghost answers = { λ urge old new told. AnswersLate urge old new told };
 
     ghost needs = { λ _ _. ⊤ };
 
@@ -119,7 +119,7 @@ impl<T: Shelf> Carrier for ShelfCarrier<T> {
         ensures told { TakesTag self.old.out self.new.out result }
         ensures looked { IfNone result (Rose self.old.looks self.new.looks) }
         ensures shelf { self.new.shelf ≡ self.old.shelf }
-        ensures looks { self.old.looks ≤ self.new.looks }
+        ensures pace { PaceGoes (pace_of self.old) (pace_of self.new) }
     {
         let waiting = if urge { 0 } else { self.delay as usize };
         if self.out.len() <= waiting {
@@ -141,10 +141,10 @@ impl<T: Shelf> Carrier for ShelfCarrier<T> {
         // A poll that is pending asks for another, whatever its sources do.
         ensures woken { OnPending result (cx.new.is_woken ≡ true) }
         ensures registered { OnPending result (Covers cx.new (λ source. ⊤)) }
-        ensures answers { (is_none (polled result) ≡ is_waiting self.old urge) × TellsOldest self.old self.new (polled result) }
+        ensures answers { AnswersLate urge self.old self.new (polled result) }
         ensures kept { Keeps cx.old cx.new }
         ensures shelf { self.new.shelf ≡ self.old.shelf }
-        ensures looks { self.old.looks ≤ self.new.looks }
+        ensures pace { PaceGoes (pace_of self.old) (pace_of self.new) }
     {
         match self.notice(urge) {
             Some(tag) => Poll::Ready(tag),

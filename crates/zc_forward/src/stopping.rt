@@ -5,7 +5,7 @@ ghost use Rattle.zr_io.specs.Moved.{ShelfCounts};
 ghost use Rattle.board_face.specs.declared.views.app.{LentPiece.{LentPiece}, AppView.{AppView}};
 ghost use Rattle.flow_queues.specs.Core.{total};
 ghost use Rattle.zc_poll.specs.{Standing.{StreamStands}, Stops.{IsStill, quit_by}};
-ghost use Rattle.zc_forward.specs.{Tags.{FlowsKeep, Tags}, Sending.{of_sent}, OutboxOf.{outbox_of}, Forwarding.{ForwardStands}, GivenUp.{GaveUp}};
+ghost use Rattle.zc_forward.specs.{Tags.{FlowsKeep, Tags}, Sending.{of_sent}, OutboxOf.{outbox_of}, Forwarding.{ForwardStands}, GivenUp.{GaveAllUp, GaveUp}};
 
 use crate::carrier::Carrier;
 use crate::carrying::give_up;
@@ -34,7 +34,7 @@ pub fn halt<F: AppFace, C: Carrier>(stream: &mut LoanStream<F>, carrier: &mut C,
     requires stands { (first got : ℕ → Option (List ℕ)) × (losses now : ShelfCounts) × (tags : Tags)
         × ForwardStands first losses (outbox_of work.old) stream.old.desk tags got now (F.seen stream.old.face) }
     ensures still { IsStill stream.new.desk (F.seen stream.new.face) }
-    ensures gave_up { (view : AppView) × GaveUp (F.seen stream.old.face) view × (F.seen stream.new.face ≡ record view { helds = [] }) }
+    ensures gave_up { GaveAllUp (F.seen stream.old.face) (F.seen stream.new.face) }
     ensures work { work.new.tally ≡ record work.old.tally { due = None; stopped = quit_by work.old.tally.stopped } }
     ensures tags { C.tags carrier.new ≡ [] }
     ensures got { FlowsKeep (C.got carrier.old) (C.got carrier.new) }

@@ -1,15 +1,11 @@
 -- Nothing was poured yet.
-use Rattle.std.proofs.{Common.{◌≡◌, ℕ, if◌then◌else◌, List, [], length, Option, None, refl, sym, ap, arith}, KnownBytes.{Keeps-refl}}
+use Rattle.std.proofs.{Common.{◌≡◌, ℕ, if◌then◌else◌, List, [], length, Option, refl, sym, ap, arith}, KnownBytes.{Keeps-refl}}
 use Rattle.zr_kinds.specs.declared.behaviour.Stopped.TheVariants as stop
 use Rattle.zr_io.{specs.Moved.{ShelfCounts}, proofs.Moved.{Gained-nothing}}
 use Rattle.board_face.specs.declared.views.app.{WrittenEntry.{WrittenEntry}, AppView.{AppView}}
 use Rattle.flow_queues.specs.{Core.{total}, Totals.{capped, lent_len, loan_entries}}
-use Rattle.zc_poll.specs.{Counting.{TallyState}, Fresh.{HasDoneNothing, new_desk}, Standing.{StreamStands}, Pouring.{IsPoured, HasPoured, PourStands}}
+use Rattle.zc_poll.specs.{Counting.{new_tally}, Fresh.{HasDoneNothing, new_desk}, Standing.{StreamStands}, Pouring.{IsPoured, HasPoured, PourStands}}
 use Rattle.zc_poll.proofs.{EntriesFirst.{first-none}, ItemPoured.{none-at}}
-
--- nothing is kept
-abbrev pub new_tally : ℕ → TallyState
-new_tally room = record { due = None; written = 0; loans = 0; copied = 0; stopped = stop.No; counts = []; flows = []; room = room }
 
 module _ (kept : ℕ → Option (List ℕ)) (losses : ShelfCounts) (room app : ℕ) (v : AppView) (fresh : HasDoneNothing app v) (stands : StreamStands (new_desk app) v) where
   no-entry : loan_entries v ≡ 0

@@ -1,13 +1,12 @@
 -- What was poured stays so over a turn that writes nothing.
-use Rattle.std.proofs.Common.{◌≡◌, ◌≢◌, ℕ, ◌+◌, true, false, List, [], ◌∷◌, ◌++◌, length, Option, Some, None, refl, sym, ap, subst, ◌∙◌, arith, ⊎_elim, ◌⊎◌, inl, inr, append-nil}
+use Rattle.std.proofs.Common.{◌≡◌, ◌≢◌, ℕ, ◌+◌, true, false, List, [], ◌∷◌, ◌++◌, length, Option, Some, None, refl, sym, ap, subst, ◌∙◌, arith, ⊎_elim, inl, append-nil}
 use Rattle.zr_kinds.specs.declared.place.Place.{Place}
 use Rattle.zr_kinds.specs.declared.behaviour.Stopped.TheVariants as stop
-use Rattle.board_face.specs.{AppCalls.{AppOnlySaw, HasLoan}, AppEvents.{app_saw, entry_of, gave}, declared.views.app.AppLook.{AppLook, TheVariants.{RefillInUse}}}
-use Rattle.board_face.specs.declared.views.app.{LentPiece.{LentPiece}, AppView.{AppView}}
+use Rattle.board_face.specs.{AppCalls.{HasLoan}, AppEvents.{app_saw, entry_of, gave}, declared.views.app.{AppLook.{AppLook}, LentPiece.{LentPiece}, AppView.{AppView}}}
 use Rattle.flow_queues.specs.{Core.{OnlyReads, total}, Totals.{lent_len, loan_entries}}
 use Rattle.zc_poll.specs.{Counting.{TallyState}, Standing.{Desk, StreamStands}, Items.{HasGiven}, declared.{step.Lent.{Lent}, to_shelf.PollTurn.{PollTurn}}}
 use Rattle.zc_poll.specs.declared.to_shelf.{PollTurn.TheVariants.{Did, Idle, Ended}, Rests.TheVariants.{Stream, RefillFull, NotQuiet, NoNotice}}
-use Rattle.zc_poll.specs.{Steps.{OnlySteps, Unlent, IsItem}, Pouring.{HasPoured, OnlyDue, PourStands}, PourTurns.{HadItem, IsRead, TurnDoes}}
+use Rattle.zc_poll.specs.{Steps.{OnlySteps, Unlent, IsItem}, Pouring.{HasPoured, OnlyDue, PourStands}, PourTurns.{GoesBack, HadItem, IsRead, PourStage, TurnDoes, pour_stage}}
 use Rattle.zc_poll.proofs.{ItemPoured.{SameCounts, poured-moved, poured-all, same-kept}, EntriesFirst.{first-gave, first-same}}
 use Rattle.zc_poll.proofs.{LoanGone.{gone-loans, gone-returned, gone-many, gone-lent, gave-entries}, Pours.{is-no, no-write}}
 use Rattle.zr_io.specs.Moved.{ShelfCounts, raised_by}
@@ -175,23 +174,26 @@ only-reads-none v = record { view = refl; more = []; are = sym (append-nil v.rea
 pub due-out : (v : AppView) (loan : Place) → OnlyDue (Some loan) v.loans → HasLoan v loan
 due-out v loan (piece, one, place) = rw one (0, omega arith, place)
 
-by-turn : (st now : Desk) (y z : AppView) (loan : Place) (ran : PollTurn) → TurnDoes (Some loan) st now y z ran → (z ≡ gave y loan) ⊎ AppOnlySaw RefillInUse y z
-by-turn st now y z loan Did does = inl does
-by-turn st now y z loan (Idle RefillFull) does = inr does.1
-by-turn st now y z loan (Idle (Stream why)) does = (let none : Some loan ≡ None = does.0 in absurd (cc))
-by-turn st now y z loan (Idle NotQuiet) does = (let none : Some loan ≡ None = does.0 in absurd (cc))
-by-turn st now y z loan (Idle NoNotice) does = absurd does
-by-turn st now y z loan (Ended poured) does = (let none : Some loan ≡ None = does.0 in absurd (cc))
+by-turn : (st : Desk) (y : AppView) (now : PourStage) (loan : Place) (ran : PollTurn) → TurnDoes (pour_stage (Some loan) st y) now ran
+    → GoesBack loan now.due y now.view
+by-turn st y now loan Did does = subst (λ (n : PourStage). GoesBack loan n.due y n.view) (sym does) refl
+by-turn st y now loan (Idle RefillFull) does = subst (λ due. GoesBack loan due y now.view) (sym does.1) (refl, does.3, does.4)
+by-turn st y now loan (Idle (Stream why)) does = (let none : Some loan ≡ None = does.0 in absurd (cc))
+by-turn st y now loan (Idle NotQuiet) does = (let none : Some loan ≡ None = does.0 in absurd (cc))
+by-turn st y now loan (Idle NoNotice) does = absurd does
+by-turn st y now loan (Ended poured) does = (let none : Some loan ≡ None = does.0 in absurd (cc))
 
 -- the loan that was written was given back, or a refill slot was seen in use
-pub tried : (st mid kept now : Desk) (v x y z : AppView) (lent : Lent) (loan : Place) (ran : PollTurn) → IsItem st mid v x lent
-    → IsRead lent.loan mid kept x y (Some loan) → now ≡ kept → TurnDoes (Some loan) kept now y z ran → HadItem st now v z
-tried st mid kept now v x y z lent loan ran item (same, desk, reads) still does = record {
+pub tried : (was now : PourStage) (mid kept : Desk) (x y : AppView) (lent : Lent) (loan : Place) (ran : PollTurn) → IsItem was.desk mid was.view x lent
+    → OnlySteps was.view x → IsRead lent.loan mid kept x y (Some loan) → now.desk ≡ kept → TurnDoes (pour_stage (Some loan) kept y) now ran
+    → HadItem was now
+tried was now mid kept x y lent loan ran item only (same, desk, reads) still does = record {
   desk = mid;
   view = x;
   lent = lent;
   item = item;
+  only = only;
   read = y;
   reads = reads;
-  went = inl (still ∙ desk, subst (λ (p : Place). (z ≡ gave y p) ⊎ AppOnlySaw RefillInUse y z) same (by-turn kept now y z loan ran does));
+  went = inl (still ∙ desk, subst (λ (p : Place). GoesBack p now.due y now.view) same (by-turn kept y now loan ran does));
 }

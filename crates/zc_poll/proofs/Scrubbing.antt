@@ -1,13 +1,14 @@
 -- The user counts of a stopped stream are scrubbed, or a refill slot was seen in use.
-use Rattle.std.proofs.Common.{◌≡◌, ◌≢◌, ℕ, Bool, true, false, List, [], ◌∷◌, length, Option, Some, None, refl, sym, ap, subst, ◌∙◌, ◌⊎◌, inl, inr, ⊎_elim, arith, append-nil}
+use Rattle.std.specs.Prelude.{MatchBool}
+use Rattle.std.proofs.Common.{◌≡◌, ℕ, Bool, true, false, List, [], ◌∷◌, length, Option, Some, None, refl, sym, ap, subst, ◌∙◌, inl, inr, ⊎_elim, arith, append-nil}
 use Rattle.zr_kinds.specs.declared.place.Place.{Place}
 use Rattle.zr_kinds.specs.declared.behaviour.Stopped.TheVariants as stop
 use Rattle.board_face.specs.{Looks.{AppRose}, declared.views.app.{AppLook.TheVariants.{NotQuiet as not_quiet}, AppView.{AppView}}}
-use Rattle.flow_queues.specs.{Core.{total}, Totals.{loan_entries}}
-use Rattle.zc_poll.specs.{Counting.{TallyState}, Standing.{Desk, StreamStands}, Items.{HasGiven}, Fresh.{has_scrubbed}, Steps.{OnlySteps, Scrubs}}
-use Rattle.zc_poll.specs.{Pouring.{HasPoured, OnlyDue, PourStands}, PourTurns.{ScrubsIfQuiet, StepDoes, TookStep, TurnDoes}}
+use Rattle.flow_queues.specs.{Core.{total}}
+use Rattle.zc_poll.specs.{Counting.{TallyState}, Standing.{Desk, StreamStands}, Items.{HasGiven}, Steps.{OnlySteps, Scrubs}}
+use Rattle.zc_poll.specs.{Pouring.{OnlyDue, PourStands}, PourTurns.{PourStage, ScrubsFirst, ScrubsIfQuiet, TookStep, TurnDoes, pour_stage}}
 use Rattle.zc_poll.specs.declared.to_shelf.{PollTurn.{PollTurn, TheVariants.{Did, Idle, Ended}}, Rests.TheVariants.{Stream, RefillFull, NotQuiet, NoNotice}}
-use Rattle.zc_poll.proofs.{EntriesFirst.{first-same}, ItemPoured.{poured-moved}, PourTurns.{same-counts}, Pours.{is-no}, Views.{rose-then}}
+use Rattle.zc_poll.proofs.{EntriesFirst.{first-same}, ItemPoured.{poured-moved}, PourTurns.{same-counts}, Pours.{is-no}}
 use Rattle.zr_io.specs.Moved.{ShelfCounts}
 
 -- the view but for what a look for quiet slots and a scrub change
@@ -65,6 +66,14 @@ due-going first kept losses now u st v loan before due = ⊎_elim (λ is. is)
     let e : piece ∷ [] ≡ [] = sym one ∙ (before.over stopped).1 in let n : 1 ≡ 0 = ap length e in absurd (omega (arith, n))))
     (is-no u.stopped)
 
+-- and it is what comes before a step
+pub scrubs-first : (due : Option Place) (was now : Desk) (old new : AppView) (done : Bool) → was.stopped ≡ true → Scrubs was now old new done
+    → ScrubsFirst (pour_stage due was old) (pour_stage due now new)
+scrubs-first due was now old new done stopped scrubs = (
+  refl,
+  subst (λ b. MatchBool b ((d : Bool) × Scrubs was now old new d) ((now ≡ was) × (new ≡ old))) (sym stopped) (done, scrubs),
+)
+
 -- ---- it scrubbed if each refill slot was free
 
 pub scrubs-quiet : (was now : Desk) (old new : AppView) (done : Bool) → Scrubs was now old new done → ScrubsIfQuiet old new
@@ -81,10 +90,11 @@ scrubs-then old mid new scrubs only = λ no. ⊎_elim
 
 -- ---- a turn that took a step
 
-pub step-does : (was now : Desk) (old new : AppView) (ran : PollTurn) → TookStep was now old new ran → TurnDoes None was now old new ran
-step-does was now old new Did took = took
-step-does was now old new (Idle (Stream why)) took = (refl, took)
-step-does was now old new (Idle RefillFull) took = absurd took.does
-step-does was now old new (Idle NotQuiet) took = absurd took.does
-step-does was now old new (Idle NoNotice) took = absurd took.does
-step-does was now old new (Ended poured) took = absurd took.does
+pub step-does : (desk : Desk) (old : AppView) (now : PourStage) (ran : PollTurn) → TookStep (pour_stage None desk old) now ran
+    → TurnDoes (pour_stage None desk old) now ran
+step-does desk old now Did took = took
+step-does desk old now (Idle (Stream why)) took = (refl, took)
+step-does desk old now (Idle RefillFull) took = absurd took.does
+step-does desk old now (Idle NotQuiet) took = absurd took.does
+step-does desk old now (Idle NoNotice) took = absurd took.does
+step-does desk old now (Ended poured) took = absurd took.does

@@ -1,5 +1,5 @@
 -- A stream that has taken no step.
-use Rattle.std.proofs.Common.{◌≡◌, ℕ, [], length, refl, sym, ap, subst, arith, true, false, ◌∙◌}
+use Rattle.std.proofs.Common.{◌≡◌, ℕ, [], length, refl, sym, ap, subst, arith, true, false}
 use Rattle.board_face.specs.declared.views.app.AppView.{AppView}
 use Rattle.flow_queues.specs.Core.{total, LieApart, own_notes, has_at, is_odd, held_len}
 use Rattle.zc_poll.specs.{Standing.{Desk, StreamStands}, Fresh.{HasDoneNothing, new_desk}}

@@ -1,6 +1,7 @@
 -- Loans are counted, and bytes by flow.
-use Rattle.std.specs.Prelude.{◌≡◌, ◌≢◌, ℕ, ◌+◌, ◌≤◌, ◌==◌, Bool, if◌then◌else◌, List, filter, nat_lt, Option}
+use Rattle.std.specs.Prelude.{◌≡◌, ◌≢◌, ℕ, ◌+◌, ◌≤◌, ◌==◌, Bool, if◌then◌else◌, List, [], filter, nat_lt, Option, None}
 use Rattle.zr_kinds.specs.declared.{place.Place.{Place}, behaviour.Stopped.{Stopped}}
+use Rattle.zr_kinds.specs.declared.behaviour.Stopped.TheVariants as stop
 use Rattle.flow_queues.specs.{Core.{total}, Totals.{capped}, Ends.{bytes_in, times}}
 
 -- what pouring keeps beside its stream and its shelf
@@ -16,6 +17,10 @@ pub record TallyState : Type 0 where
   -- empty, with room for so many
   pub flows : List (ℕ × ℕ)
   pub room : ℕ
+
+-- nothing was written yet, with room for so many flows
+abbrev pub new_tally : ℕ → TallyState
+new_tally room = record { due = None; written = 0; loans = 0; copied = 0; stopped = stop.No; counts = []; flows = []; room = room }
 
 -- once an item was counted among the loans
 abbrev pub item_counted : TallyState → Bool → TallyState

@@ -1,11 +1,10 @@
 -- What comes of polling, whatever polls are pending between: the answers of a stream, and what pouring tells at its end.
 use Rattle.std.specs.{Prelude.{◌≡◌, ℕ, true, List, [], ◌∷◌, Option, Some, Result}, declared.alloc.AllocError.{AllocError}}
-use Rattle.zr_kinds.specs.declared.place.Place.{Place}
 use Rattle.zr_io.specs.Moved.{ShelfCounts}
 use Rattle.futures.specs.declared.task.Poll.{TheVariants.{Ready}}
 use Rattle.board_face.specs.declared.views.app.AppView.{AppView}
 use Rattle.zc_poll.specs.{Counting.{TallyState}, Standing.{Desk}, Steps.{OnlySteps, PollGives}, declared.step.Lent.{Lent}}
-use Rattle.zc_poll.specs.{Pouring.{PourStands}, PourTurns.{PourGives, TurnDoes}, declared.to_shelf.{Poured.{Poured}, PollTurn.TheVariants.{Ended}}}
+use Rattle.zc_poll.specs.{Pouring.{PourStands}, PourTurns.{PourGives, PourStage, TurnDoes}, declared.to_shelf.{Poured.{Poured}, PollTurn.TheVariants.{Ended}}}
 
 -- an item, or that there was no memory
 abbrev pub Answer : Type 0
@@ -24,13 +23,12 @@ Yields was old (x ∷ xs) last = (now : Desk) × (new : AppView) × GivesNext wa
 -- It is what a last turn gives and does, which left at this view. The shelf has `kept` then, and its counts are these.
 pub record IsLastTurn (first : ℕ → Option (List ℕ)) (losses : ShelfCounts) (kept : ℕ → Option (List ℕ)) (losses_now : ShelfCounts) (app : ℕ) (new : AppView)
     (poured : Poured) : Type 0 where
-  pub due : Option Place
-  pub was : Desk
-  pub now : Desk
-  pub old : AppView
+  pub was : PourStage
+  pub now : PourStage
+  pub seen : now.view ≡ new
   pub tally : TallyState
-  pub gives : PourGives first losses tally now kept losses_now new (Ended poured)
-  pub does : TurnDoes due was now old new (Ended poured)
+  pub gives : PourGives first losses tally now.desk kept losses_now new (Ended poured)
+  pub does : TurnDoes was now (Ended poured)
   pub left : new.left ≡ true
   pub same : new.app ≡ app
 

@@ -1,5 +1,5 @@
 -- What a turn of pouring does, and what it ends with.
-use Rattle.std.specs.{Prelude.{◌≡◌, ◌≢◌, ◌<◌, ◌⊎◌, ◌↔◌, ℕ, Bool, true, false, List, [], Option, Some, None}, Ordering.{nat_cmp}, Map.{keys_of}}
+use Rattle.std.specs.{Prelude.{◌≡◌, ◌≢◌, ◌<◌, ◌⊎◌, ◌↔◌, ℕ, Bool, true, false, List, [], Option, Some, None, MatchBool, MatchOption}, Ordering.{nat_cmp}, Map.{keys_of}}
 use Rattle.std.specs.List.Sorted.{IsStrictlySortedBy}
 use Rattle.zr_kinds.specs.declared.{place.Place.{Place}, behaviour.Behaviour.{Behaviour}}
 use Rattle.zr_kinds.specs.declared.behaviour.Stopped.TheVariants as stop
@@ -10,58 +10,77 @@ use Rattle.board_face.specs.declared.views.app.{AppLook.TheVariants.{NoNote as n
 use Rattle.zr_io.specs.Moved.{ShelfCounts}
 use Rattle.flow_queues.specs.{Core.{Each, OnlyReads}, Ends.{AppEnd, HasLeft}, Returned.{HasReturned}}
 use Rattle.zc_poll.specs.{Counting.{TallyState}, declared.step.{Lent.{Lent}, Waits.TheVariants.{NoNote, ReserveHeld, Enough}}}
-use Rattle.zc_poll.specs.declared.{step.Step.TheVariants.{Waiting, Memory, Ended as stream_ended}, to_shelf.{Poured.{Poured}, PollTurn.{PollTurn}}}
+use Rattle.zc_poll.specs.declared.{step.Step.{Step, TheVariants.{Waiting, Memory, Ended as stream_ended}}, to_shelf.{Poured.{Poured}, PollTurn.{PollTurn}}}
 use Rattle.zc_poll.specs.declared.to_shelf.{PollTurn.TheVariants.{Did, Idle, Ended}, Rests.{Rests, TheVariants.{Stream, RefillFull, NotQuiet, NoNotice}}}
-use Rattle.zc_poll.specs.{Fresh.{has_left}, Standing.{Desk}, Steps.{Steps, IsItem, Scrubs}, Pouring.{PourStands}}
+use Rattle.zc_poll.specs.{Fresh.{has_left}, Standing.{Desk, stopped_with}, Steps.{OnlySteps, Steps, IsItem, Scrubs}, Pouring.{PourStands}}
+
+-- what a turn looks at: the loan that is due, the stream's desk, and the view
+pub record PourStage : Type 0 where
+  pub due : Option Place
+  pub desk : Desk
+  pub view : AppView
+
+abbrev pub pour_stage : Option Place → Desk → AppView → PourStage
+pour_stage due desk view = record { due = due; desk = desk; view = view }
 
 -- Bytes of an item's loan were read. It is to be given back then, or it was given up and the stream stopped.
 abbrev pub IsRead : Place → Desk → Desk → AppView → AppView → Option Place → Type 0
 IsRead loan was now old new (Some due) = (due ≡ loan) × (now ≡ was) × OnlyReads old new
-IsRead loan was now old new None = (now.stopped ≡ true)
+IsRead loan was now old new None = (now ≡ stopped_with was now.flows)
     × (read : AppView) × OnlyReads old read × (new ≡ record (abandoned read loan) { helds = [] })
 
--- The stream gave an item, and bytes of its loan were read. Then it was given back, or a refill slot was seen in use; or it was
--- given up and the stream stopped.
-pub record HadItem (was now : Desk) (old new : AppView) : Type 0 where
+-- the loan was given back and none is due, or it is, since a refill slot was seen in use
+abbrev pub GoesBack : Place → Option Place → AppView → AppView → Type 0
+GoesBack loan None old new = new ≡ gave old loan
+GoesBack loan (Some due) old new = (due ≡ loan) × AppOnlySaw RefillInUse old new × HasWrittenRingful old
+
+-- The stream gave an item, and bytes of its loan were read. Then it went back; or it was given up and the stream stopped.
+pub record HadItem (was now : PourStage) : Type 0 where
   pub desk : Desk
   pub view : AppView
   pub lent : Lent
-  pub item : IsItem was desk old view lent
+  pub item : IsItem was.desk desk was.view view lent
+  pub only : OnlySteps was.view view
   pub read : AppView
   pub reads : OnlyReads view read
-  pub went : ((now ≡ desk) × ((new ≡ gave read lent.loan) ⊎ AppOnlySaw RefillInUse read new))
-      ⊎ ((now.stopped ≡ true) × (new ≡ record (abandoned read lent.loan) { helds = [] }))
+  pub went : ((now.desk ≡ desk) × GoesBack lent.loan now.due read now.view)
+      ⊎ ((now.desk ≡ stopped_with desk now.desk.flows) × (now.due ≡ None) × (now.view ≡ record (abandoned read lent.loan) { helds = [] }))
 
 -- Where it was stopped its user counts are scrubbed, or a refill slot was seen in use. Else nothing is done.
-abbrev pub ScrubsFirst : Desk → Desk → AppView → AppView → Type 0
-ScrubsFirst was now old new = ((now ≡ was) × (new ≡ old)) ⊎ ((was.stopped ≡ true) × (done : Bool) × Scrubs was now old new done)
+abbrev pub ScrubsFirst : PourStage → PourStage → Type 0
+ScrubsFirst was now = (now.due ≡ was.due) × MatchBool was.desk.stopped
+    ((done : Bool) × Scrubs was.desk now.desk was.view now.view done)
+    ((now.desk ≡ was.desk) × (now.view ≡ was.view))
+
+-- one step of the stream gave this, and what is due stays
+abbrev pub OnlyStep : PourStage → PourStage → Step → Type 0
+OnlyStep was now step = (now.due ≡ was.due) × OnlySteps was.view now.view × Steps was.desk now.desk was.view now.view step
 
 -- The stream gave an item, had no memory, or was told for the first time that no note comes any more; or it waits.
-abbrev pub StepDoes : Desk → Desk → AppView → AppView → PollTurn → Type 0
-StepDoes was now old new Did = (was.ended ≡ false)
-    × (HadItem was now old new ⊎ (Steps was now old new Memory ⊎ Steps was now old new stream_ended))
-StepDoes was now old new (Idle (Stream why)) = Steps was now old new (Waiting why)
-StepDoes was now old new other = ⊥
+abbrev pub StepDoes : PourStage → PourStage → PollTurn → Type 0
+StepDoes was now Did = (was.desk.ended ≡ false) × (HadItem was now ⊎ (OnlyStep was now Memory ⊎ OnlyStep was now stream_ended))
+StepDoes was now (Idle (Stream why)) = OnlyStep was now (Waiting why)
+StepDoes was now other = ⊥
 
 -- so it took a step, once it had scrubbed where it should
-pub record TookStep (was now : Desk) (old new : AppView) (ran : PollTurn) : Type 0 where
-  pub desk : Desk
-  pub view : AppView
-  pub first : ScrubsFirst was desk old view
-  pub does : StepDoes desk now view new ran
+pub record TookStep (was now : PourStage) (ran : PollTurn) : Type 0 where
+  pub stage : PourStage
+  pub first : ScrubsFirst was stage
+  pub does : StepDoes stage now ran
 
 -- the loan that was due was given back, or a step was taken
-abbrev pub Does : Option Place → Desk → Desk → AppView → AppView → Type 0
-Does (Some loan) was now old new = new ≡ gave old loan
-Does None was now old new = TookStep was now old new Did
+abbrev pub Does : PourStage → PourStage → Type 0
+Does was now = MatchOption was.due (TookStep was now Did) (λ loan. now ≡ pour_stage None was.desk (gave was.view loan))
 
 -- The stream waits, or a refill slot was seen in use: that of the loan that is due, for which a ringful of entries was written, or
 -- any one as it was to leave, for which one was written.
-abbrev pub Idles : Rests → Option Place → Desk → Desk → AppView → AppView → Type 0
-Idles (Stream why) due was now old new = (due ≡ None) × TookStep was now old new (Idle (Stream why))
-Idles RefillFull due was now old new = (due ≢ None) × AppOnlySaw RefillInUse old new × HasWrittenRingful old
-Idles NotQuiet due was now old new = (due ≡ None) × (was.ended ≡ true) × AppOnlySaw not_quiet old new × HasWritten old
-Idles NoNotice due was now old new = ⊥
+abbrev pub Idles : Rests → PourStage → PourStage → Type 0
+Idles (Stream why) was now = (was.due ≡ None) × TookStep was now (Idle (Stream why))
+Idles RefillFull was now = (was.due ≢ None) × (now.due ≡ was.due) × (now.desk ≡ was.desk) × AppOnlySaw RefillInUse was.view now.view
+    × HasWrittenRingful was.view
+Idles NotQuiet was now = (was.due ≡ None) × (now.due ≡ None) × (now.desk ≡ was.desk) × (was.desk.ended ≡ true)
+    × AppOnlySaw not_quiet was.view now.view × HasWritten was.view
+Idles NoNotice was now = ⊥
 
 -- Its user counts are scrubbed; or a refill slot was seen in use, and at no look was each seen free.
 abbrev pub ScrubsIfQuiet : AppView → AppView → Type 0
@@ -81,12 +100,11 @@ IsTold is_so (Idle why) = IsSoOf is_so why
 IsTold is_so Did = Unit {0}
 IsTold is_so (Ended poured) = Unit {0}
 
--- by what was due, and what the stream keeps
-abbrev pub TurnDoes : Option Place → Desk → Desk → AppView → AppView → PollTurn → Type 0
-TurnDoes due was now old new Did = Does due was now old new
-TurnDoes due was now old new (Idle why) = Idles why due was now old new
-TurnDoes due was now old new (Ended poured) = (due ≡ None) × (was.ended ≡ true) × (new ≡ has_left old)
-    × ((poured.stopped ≡ stop.No) ↔ (was.stopped ≡ false)) × IsStrictlySortedBy nat_cmp (keys_of poured.flows.items)
+abbrev pub TurnDoes : PourStage → PourStage → PollTurn → Type 0
+TurnDoes was now Did = Does was now
+TurnDoes was now (Idle why) = Idles why was now
+TurnDoes was now (Ended poured) = (was.due ≡ None) × (was.desk.ended ≡ true) × (now.view ≡ has_left was.view)
+    × ((poured.stopped ≡ stop.No) ↔ (was.desk.stopped ≡ false)) × IsStrictlySortedBy nat_cmp (keys_of poured.flows.items)
     × Each (λ f. 0 < f.1) poured.flows.items
 
 -- what was written, as what an application leaves
@@ -115,7 +133,6 @@ abbrev pub PollPours : (ℕ → Option (List ℕ)) → ShelfCounts → TallyStat
 PollPours first losses w st kept losses_now v (Ready poured) = PourGives first losses w st kept losses_now v (Ended poured)
 PollPours first losses w st kept losses_now v Pending = PourStands first losses w st kept losses_now v
 
-abbrev pub PollDoes : (AppLook → Type 0) → Option Place → Desk → Desk → AppView → AppView → Poll Poured → Type 0
-PollDoes is_so due was now old new (Ready poured) = TurnDoes due was now old new (Ended poured)
-PollDoes is_so due was now old new Pending =
-    TurnDoes due was now old new Did ⊎ ((why : Rests) × TurnDoes due was now old new (Idle why) × IsTold is_so (Idle why))
+abbrev pub PollDoes : (AppLook → Type 0) → PourStage → PourStage → Poll Poured → Type 0
+PollDoes is_so was now (Ready poured) = TurnDoes was now (Ended poured)
+PollDoes is_so was now Pending = TurnDoes was now Did ⊎ ((why : Rests) × TurnDoes was now (Idle why) × IsTold is_so (Idle why))

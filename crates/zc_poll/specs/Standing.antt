@@ -86,8 +86,12 @@ pub record IsReleased (was now : Desk) (old new : AppView) : Type 0 where
   pub same : now ≡ record was { flows = now.flows }
   pub facts : map facts_of now.flows ≡ map facts_of was.flows
 
+-- with what its flows keep then
+abbrev pub stopped_with : Desk → List FlowQueue → Desk
+stopped_with st flows = record st { flows = flows; stopped = true }
+
 -- and for good
 pub record IsStopped (was now : Desk) (old new : AppView) : Type 0 where
   pub view : new ≡ record old { helds = [] }
-  pub same : now ≡ record was { flows = now.flows; stopped = true }
+  pub same : now ≡ stopped_with was now.flows
   pub facts : map facts_of now.flows ≡ map facts_of was.flows

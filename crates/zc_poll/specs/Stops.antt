@@ -41,6 +41,6 @@ pub record Passes (old new : AppView) : Type 0 where
   pub written : new.written ≡ old.written
   pub app : new.app ≡ old.app
 
--- and it left
+-- and it scrubbed and left
 abbrev pub HasGone : AppView → AppView → Type 0
-HasGone old new = Passes old new × (new.left ≡ true)
+HasGone old new = Passes old new × (new.scrubbed ≡ true) × (new.left ≡ true)

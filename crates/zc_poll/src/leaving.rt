@@ -49,7 +49,7 @@ fn pass<F: AppFace>(stream: &mut LoanStream<F>)
 /// Scrubs, unless a refill slot is in use, and takes a step; or leaves: whether it has left.
 fn leave_soon<F: AppFace>(stream: &mut LoanStream<F>) -> bool
     requires still { IsStill stream.old.desk (F.seen stream.old.face) }
-    ensures left { MatchBool result ((F.seen stream.new.face).left ≡ true) (IsStill stream.new.desk (F.seen stream.new.face)) }
+    ensures left { MatchBool result (((F.seen stream.new.face).scrubbed ≡ true) × ((F.seen stream.new.face).left ≡ true)) (IsStill stream.new.desk (F.seen stream.new.face)) }
     ensures passes { Passes (F.seen stream.old.face) (F.seen stream.new.face) }
     ensures beside { F.beside stream.new.face ≡ F.beside stream.old.face }
 {
@@ -68,7 +68,7 @@ impl<F: AppFace + Drop> Future for Leaving<F> {
 
     ghost needs = { λ _ _. ⊤ };
 
-    /// The face has left the same board. No loan went in any way since.
+    /// The face has scrubbed, and left the same board. No loan went in any way since.
     ghost gives = { λ s face. IfSome s.stream (λ stream. HasGone (F.seen stream.face) (F.seen face) × (F.beside face ≡ F.beside stream.face)) };
 
     fn poll(&mut self, cx: &mut Context<'_>) -> Poll<F> {

@@ -3,7 +3,7 @@ ghost use Rattle.std.specs.{Prelude.{◌≡◌, ◌≢◌, ℕ, ◌+◌, ◌<◌
 ghost use Rattle.zr_io.specs.Moved.{Gained, Rose, ShelfCounts, raised_by};
 ghost use Rattle.board_face.specs.{AppCalls.{HasLoan}, AppEvents.{abandoned}, declared.views.app.AppView.{AppView}};
 ghost use Rattle.flow_queues.specs.{declared.queues.Lending.{Lending}, Core.{IsIn, lent_piece, OnlyReads, IsReadOf}};
-ghost use Rattle.zc_poll.specs.{Standing.{Desk, StreamStands}, Items.{Given, HasGiven}, Steps.{IsItem, OnlySteps}, Pouring.{PourStands}, PourTurns.{IsRead}, TallyOf.{tally_of}};
+ghost use Rattle.zc_poll.specs.{Standing.{Desk, StreamStands, stopped_with}, Items.{Given, HasGiven}, Steps.{IsItem, OnlySteps}, Pouring.{PourStands}, PourTurns.{IsRead}, TallyOf.{tally_of}};
 
 use crate::counting::{PourTally, count, count_item, make_room};
 use crate::step::Lent;
@@ -60,7 +60,7 @@ fn give_up<F: AppFace>(stream: &mut LoanStream<F>, work: &mut PourTally, loan: L
     requires stands { StreamStands stream.old.desk (F.seen stream.old.face) }
     requires out { HasLoan (F.seen stream.old.face) loan }
     ensures stands { StreamStands stream.new.desk (F.seen stream.new.face) }
-    ensures stopped { stream.new.desk.stopped ≡ true }
+    ensures stopped { stream.new.desk ≡ stopped_with stream.old.desk stream.new.desk.flows }
     ensures view { F.seen stream.new.face ≡ record (abandoned (F.seen stream.old.face) loan) { helds = [] } }
     ensures items { (items : List Given) → HasGiven items stream.old.desk.flows (F.seen stream.old.face).taken
         → HasGiven items stream.new.desk.flows (F.seen stream.new.face).taken }

@@ -2,7 +2,7 @@ ghost use Rattle.std.specs.Prelude.{◌≡◌, ◌+◌, ◌<◌, ◌≤◌, [], 
 ghost use Rattle.futures.specs.{Poll.{IfReady, OnPending}, Runs.{After, Within}, Task.{Covers, Keeps}, declared.task.Poll.TheVariants.{Ready}};
 ghost use Rattle.board_face.specs.{Looks.{AppTold}, NotNow.{HasWritten, HasWrittenRingful}, AppCalls.{HasLoan, AppOnlySaw, ShowsCopy}, AppEvents.{app_gist, has_read, loan_origin, gave, abandoned}, declared.views.app.AppLook.TheVariants.{NoNote as no_note, NoSpare as no_spare, RefillInUse, NotQuiet}};
 ghost use Rattle.flow_queues.specs.{declared.queues.Lending.{Lending}, Marks.{marks_from}, Core.{IsIn, lent_piece, AreReadAt}};
-ghost use Rattle.zc_poll.specs.{Standing.{StreamStands}, Items.{Given, HasGiven}, Steps.{Steps, OnlySteps, PollGives, Scrubs}, Fresh.{HasDoneNothing, new_desk, has_left}, Polls.{Yields}, declared.step.{Step.TheVariants.{Waiting, Ended}, Waits.TheVariants.{NoNote, ReserveHeld}}};
+ghost use Rattle.zc_poll.specs.{Standing.{StreamStands, stopped_with}, Items.{Given, HasGiven}, Steps.{Steps, OnlySteps, PollGives, Scrubs}, Fresh.{HasDoneNothing, new_desk, has_left}, Polls.{Yields}, declared.step.{Step.TheVariants.{Waiting, Ended}, Waits.TheVariants.{NoNote, ReserveHeld}}};
 
 use crate::lending::offer;
 use crate::queues::{Queues, scrub, stop};
@@ -136,7 +136,7 @@ impl<F: AppFace> LoanStream<F> {
     pub fn stop(&mut self)
         requires stands { StreamStands self.old.desk (F.seen self.old.face) }
         ensures stands { StreamStands self.new.desk (F.seen self.new.face) }
-        ensures stopped { (self.new.desk.stopped ≡ true) × (self.new.desk.ended ≡ self.old.desk.ended) }
+        ensures stopped { self.new.desk ≡ stopped_with self.old.desk self.new.desk.flows }
         ensures view { F.seen self.new.face ≡ record (F.seen self.old.face) { helds = [] } }
         ensures items { (items : List Given) → HasGiven items self.old.desk.flows (F.seen self.old.face).taken
             → HasGiven items self.new.desk.flows (F.seen self.new.face).taken }

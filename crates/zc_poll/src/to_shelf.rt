@@ -2,8 +2,8 @@
 ghost use Rattle.std.specs.{Prelude.{◌≡◌, ◌≢◌, ◌<◌, ◌≤◌, ℕ, List, [], length, IfSome, Option, Some, None, true, false, vec_capacity, ⊤}, Ordering.{nat_cmp}, Map.{keys_of}, List.Sorted.{IsStrictlySortedBy}};
 ghost use Rattle.board_face.specs.{AppCalls.{HasLoan}, AppEvents.{app_gist}, declared.views.app.AppView.{AppView}};
 ghost use Rattle.flow_queues.specs.Core.{Each};
-ghost use Rattle.zr_kinds.specs.declared.behaviour.Stopped.TheVariants.{No};
-ghost use Rattle.zc_poll.specs.{Counting.{with_bytes}, Standing.{Desk, StreamStands}, Fresh.{HasDoneNothing, new_desk}, Pouring.{PourStands}, PourTurns.{HadItem, IsTold, PourGives, ScrubsFirst, ScrubsIfQuiet, StepDoes, TurnDoes, PollPours, PollDoes}, Steps.{IsItem, OnlySteps}, TallyOf.{tally_of}};
+ghost use Rattle.zr_kinds.specs.declared.{behaviour.Stopped.TheVariants.{No}, place.Place.{Place}};
+ghost use Rattle.zc_poll.specs.{Counting.{new_tally, with_bytes}, Standing.{Desk, StreamStands}, Fresh.{HasDoneNothing, new_desk}, Pouring.{PourStands}, PourTurns.{HadItem, IsTold, PourGives, PourStage, ScrubsFirst, ScrubsIfQuiet, StepDoes, TurnDoes, PollPours, PollDoes, pour_stage}, Steps.{IsItem, OnlySteps}, TallyOf.{tally_of}};
 ghost use Rattle.zc_poll.specs.{Polls.{Tells}, PourTurns.{pour_end}, Stops.{HasStopped, IsStill, quit_by, without_due}, declared.to_shelf.Poured.{Poured as Told}};
 ghost use Rattle.futures.specs.{Poll.{IfReady, OnPending}, Task.{Covers, Keeps}};
 ghost use Rattle.zr_io.specs.Moved.{ShelfCounts};
@@ -67,6 +67,7 @@ pub fn told(work: &mut PourTally, alloc: Global) -> Poured
     ensures flows { result.flows.items ≡ with_bytes work.old.counts.entries }
     ensures some { Each (λ f. 0 < f.1) result.flows.items }
     ensures ascending { IsStrictlySortedBy nat_cmp (keys_of result.flows.items) }
+    ensures due { work.new.due ≡ work.old.due }
 {
     let mut flows = mem::replace(&mut work.flows, Vec::new(alloc));
     for (flow, bytes) in &work.counts {
@@ -92,7 +93,8 @@ fn give_back<F: AppFace>(stream: &mut LoanStream<F>, work: &mut PourTally, loan:
         → PourStands first losses (record (tally_of work.old) { due = Some loan }) stream.old.desk kept now (F.seen stream.old.face)
         → PourStands first losses (tally_of work.new) stream.new.desk kept now (F.seen stream.new.face) }
     ensures desk { stream.new.desk ≡ stream.old.desk }
-    ensures does { TurnDoes (Some loan) stream.old.desk stream.new.desk (F.seen stream.old.face) (F.seen stream.new.face) result }
+    ensures does { TurnDoes (pour_stage (Some loan) stream.old.desk (F.seen stream.old.face))
+        (pour_stage work.new.due stream.new.desk (F.seen stream.new.face)) result }
     ensures told { IsTold (λ look. F.tells look (app_gist (F.seen stream.new.face)) (F.beside stream.new.face)) result }
     ensures same { (F.seen stream.new.face).app ≡ (F.seen stream.old.face).app }
     ensures beside { F.beside stream.new.face ≡ F.beside stream.old.face }
@@ -119,7 +121,8 @@ fn close<F: AppFace>(stream: &mut LoanStream<F>, work: &mut PourTally) -> PollTu
         → PourGives first losses (tally_of work.new) stream.new.desk kept now (F.seen stream.new.face) result }
     ensures does { (first kept : ℕ → Option (List ℕ)) (losses now : ShelfCounts)
         → PourStands first losses (tally_of work.old) stream.old.desk kept now (F.seen stream.old.face)
-        → TurnDoes None stream.old.desk stream.new.desk (F.seen stream.old.face) (F.seen stream.new.face) result }
+        → TurnDoes (pour_stage None stream.old.desk (F.seen stream.old.face)) (pour_stage None stream.new.desk (F.seen stream.new.face)) result }
+    ensures due { work.new.due ≡ None }
     ensures scrubs { ScrubsIfQuiet (F.seen stream.old.face) (F.seen stream.new.face) }
     ensures told { IsTold (λ look. F.tells look (app_gist (F.seen stream.new.face)) (F.beside stream.new.face)) result }
     ensures same { (F.seen stream.new.face).app ≡ (F.seen stream.old.face).app }
@@ -172,8 +175,8 @@ fn pour_item<F: AppFace, T: Shelf>(
         → PourStands first losses (tally_of work.old) st (T.kept shelf.old) (T.counts shelf.old) v
         → IsItem st stream.old.desk v (F.seen stream.old.face) lent → OnlySteps v (F.seen stream.old.face)
         → PourStands first losses (tally_of work.new) stream.new.desk (T.kept shelf.new) (T.counts shelf.new) (F.seen stream.new.face) }
-    ensures had { (st : Desk) (v : AppView) → IsItem st stream.old.desk v (F.seen stream.old.face) lent
-        → HadItem st stream.new.desk v (F.seen stream.new.face) }
+    ensures had { (was : PourStage) → IsItem was.desk stream.old.desk was.view (F.seen stream.old.face) lent
+        → OnlySteps was.view (F.seen stream.old.face) → HadItem was (pour_stage work.new.due stream.new.desk (F.seen stream.new.face)) }
     ensures same { (F.seen stream.new.face).app ≡ (F.seen stream.old.face).app }
     ensures beside { F.beside stream.new.face ≡ F.beside stream.old.face }
 {
@@ -197,7 +200,8 @@ fn take_step<F: AppFace, T: Shelf>(
         → PourStands first losses (tally_of work.old) stream.old.desk (T.kept shelf.old) (T.counts shelf.old) (F.seen stream.old.face)
         → PourGives first losses (tally_of work.new) stream.new.desk (T.kept shelf.new) (T.counts shelf.new)
         (F.seen stream.new.face) result }
-    ensures does { StepDoes stream.old.desk stream.new.desk (F.seen stream.old.face) (F.seen stream.new.face) result }
+    ensures does { StepDoes (pour_stage None stream.old.desk (F.seen stream.old.face))
+        (pour_stage work.new.due stream.new.desk (F.seen stream.new.face)) result }
     ensures only { stream.old.desk.stopped ≡ true → OnlySteps (F.seen stream.old.face) (F.seen stream.new.face) }
     ensures told { IsTold (λ look. F.tells look (app_gist (F.seen stream.new.face)) (F.beside stream.new.face)) result }
     ensures same { (F.seen stream.new.face).app ≡ (F.seen stream.old.face).app }
@@ -225,7 +229,8 @@ fn scrub_stopped<F: AppFace>(stream: &mut LoanStream<F>, work: &PourTally)
     ensures gives { (first kept : ℕ → Option (List ℕ)) (losses now : ShelfCounts)
         → PourStands first losses (tally_of work.now) stream.old.desk kept now (F.seen stream.old.face)
         → PourStands first losses (tally_of work.now) stream.new.desk kept now (F.seen stream.new.face) }
-    ensures first { ScrubsFirst stream.old.desk stream.new.desk (F.seen stream.old.face) (F.seen stream.new.face) }
+    ensures first { (due : Option Place) → ScrubsFirst (pour_stage due stream.old.desk (F.seen stream.old.face))
+        (pour_stage due stream.new.desk (F.seen stream.new.face)) }
     ensures scrubs { work.now.stopped ≢ No → ScrubsIfQuiet (F.seen stream.old.face) (F.seen stream.new.face) }
     ensures desk { (stream.new.desk.stopped ≡ stream.old.desk.stopped) × (stream.new.desk.ended ≡ stream.old.desk.ended) }
     ensures same { (F.seen stream.new.face).app ≡ (F.seen stream.old.face).app }
@@ -251,7 +256,8 @@ fn go_on<F: AppFace, T: Shelf>(
         → PourStands first losses (tally_of work.old) stream.old.desk (T.kept shelf.old) (T.counts shelf.old) (F.seen stream.old.face)
         → PourGives first losses (tally_of work.new) stream.new.desk (T.kept shelf.new) (T.counts shelf.new)
         (F.seen stream.new.face) result }
-    ensures does { TurnDoes None stream.old.desk stream.new.desk (F.seen stream.old.face) (F.seen stream.new.face) result }
+    ensures does { TurnDoes (pour_stage None stream.old.desk (F.seen stream.old.face))
+        (pour_stage work.new.due stream.new.desk (F.seen stream.new.face)) result }
     ensures scrubs { work.old.stopped ≢ No → ScrubsIfQuiet (F.seen stream.old.face) (F.seen stream.new.face) }
     ensures told { IsTold (λ look. F.tells look (app_gist (F.seen stream.new.face)) (F.beside stream.new.face)) result }
     ensures same { (F.seen stream.new.face).app ≡ (F.seen stream.old.face).app }
@@ -273,7 +279,8 @@ fn take_turn<F: AppFace, T: Shelf>(
         → PourStands first losses (tally_of work.old) stream.old.desk (T.kept shelf.old) (T.counts shelf.old) (F.seen stream.old.face)
         → PourGives first losses (tally_of work.new) stream.new.desk (T.kept shelf.new) (T.counts shelf.new)
         (F.seen stream.new.face) result }
-    ensures does { TurnDoes work.old.due stream.old.desk stream.new.desk (F.seen stream.old.face) (F.seen stream.new.face) result }
+    ensures does { TurnDoes (pour_stage work.old.due stream.old.desk (F.seen stream.old.face))
+        (pour_stage work.new.due stream.new.desk (F.seen stream.new.face)) result }
     ensures scrubs { work.old.stopped ≢ No → ScrubsIfQuiet (F.seen stream.old.face) (F.seen stream.new.face) }
     ensures told { IsTold (λ look. F.tells look (app_gist (F.seen stream.new.face)) (F.beside stream.new.face)) result }
     ensures same { (F.seen stream.new.face).app ≡ (F.seen stream.old.face).app }
@@ -309,7 +316,8 @@ impl<F: AppFace, T: Shelf> ToShelf<F, T> {
     pub fn new(stream: LoanStream<F>, shelf: T) -> ToShelf<F, T>
         requires fresh { (app : ℕ) × (stream.desk ≡ new_desk app) × HasDoneNothing app (F.seen stream.face) }
         requires stands { StreamStands stream.desk (F.seen stream.face) }
-        ensures parts { (result.face ≡ stream.face) × (result.shelf ≡ shelf) × (result.desk ≡ stream.desk) }
+        ensures parts { (result.face ≡ stream.face) × (result.shelf ≡ shelf) × (result.desk ≡ stream.desk)
+            × (result.tally ≡ new_tally result.tally.room) }
         ensures stands { PourStands (T.kept shelf) (T.counts shelf) result.tally result.desk (T.kept result.shelf) (T.counts result.shelf)
             (F.seen result.face) }
     {
@@ -341,7 +349,8 @@ impl<F: AppFace, T: Shelf> ToShelf<F, T> {
             → PourGives first losses self.new.tally self.new.desk (T.kept self.new.shelf) (T.counts self.new.shelf)
             (F.seen self.new.face) result }
         // Why it did something, waited, or ended.
-        ensures does { TurnDoes self.old.tally.due self.old.desk self.new.desk (F.seen self.old.face) (F.seen self.new.face) result }
+        ensures does { TurnDoes (pour_stage self.old.tally.due self.old.desk (F.seen self.old.face))
+            (pour_stage self.new.tally.due self.new.desk (F.seen self.new.face)) result }
         // One that was stopped and hadn't scrubbed has, or it saw a refill slot in use.
         ensures scrubs { self.old.tally.stopped ≢ No → ScrubsIfQuiet (F.seen self.old.face) (F.seen self.new.face) }
         // The board says of the look on which it rests that it is so.
@@ -425,8 +434,9 @@ impl<F: AppFace + Drop, T: Shelf + Drop> Future for ToShelf<F, T> {
             → PourStands first losses self.old.tally self.old.desk (T.kept self.old.shelf) (T.counts self.old.shelf) (F.seen self.old.face)
             → PollPours first losses self.new.tally self.new.desk (T.kept self.new.shelf) (T.counts self.new.shelf)
             (F.seen self.new.face) result }
-        ensures does { PollDoes (λ look. F.tells look (app_gist (F.seen self.new.face)) (F.beside self.new.face)) self.old.tally.due
-            self.old.desk self.new.desk (F.seen self.old.face) (F.seen self.new.face) result }
+        ensures does { PollDoes (λ look. F.tells look (app_gist (F.seen self.new.face)) (F.beside self.new.face))
+            (pour_stage self.old.tally.due self.old.desk (F.seen self.old.face))
+            (pour_stage self.new.tally.due self.new.desk (F.seen self.new.face)) result }
         ensures scrubs { self.old.tally.stopped ≢ No → ScrubsIfQuiet (F.seen self.old.face) (F.seen self.new.face) }
         ensures beside { F.beside self.new.face ≡ F.beside self.old.face }
     {

@@ -19,7 +19,7 @@ invariant-loop-done g l =
     × ((g.C.Carrier.counts l.carrier).faults ≡ (g.C.Carrier.counts l.fn.carrier).faults)
     × (g.F.AppFace.beside l.stream.face ≡ g.F.AppFace.beside l.fn.stream.face)
     × (g.C.Carrier.tags l.carrier ≡ g.C.Carrier.tags l.fn.carrier)
-    × (g.C.Carrier.looks l.fn.carrier ≤ g.C.Carrier.looks l.carrier)
+    × (g.C.Carrier.pace l.carrier ≡ g.C.Carrier.pace l.fn.carrier)
     × ((g.C.Carrier.counts l.carrier).appended ≡ raised_by (g.C.Carrier.counts l.fn.carrier).appended l.done)
 
 abbrev pub decreases-loop-done : goal.decreases-loop-done

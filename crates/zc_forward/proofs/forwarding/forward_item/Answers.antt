@@ -2,7 +2,7 @@ use Rattle.std.{proofs.Common.{rules, inl, inr, false, ◌≡◌, ◌<◌, ◌�
 use Rattle.zr_kinds.specs.declared.behaviour.Stopped.TheVariants as stop
 use Rattle.board_face.specs.declared.views.app.{LentPiece.{LentPiece}, AppView.{AppView}}
 use Rattle.flow_queues.specs.Core.{total}
-use Rattle.zc_poll.{specs.{Standing.{Desk, StreamStands}, Items.{HasGiven}, Counting.{TallyState, AddsTo, item_counted}, TallyOf.{tally_of}}, proofs.ItemPoured.{Roomy}}
+use Rattle.zc_poll.{specs.{Standing.{Desk, StreamStands, stopped_with}, Items.{HasGiven}, Counting.{TallyState, AddsTo, item_counted}, TallyOf.{tally_of}}, proofs.ItemPoured.{Roomy}}
 use Rattle.zc_poll.proofs.PourTurns.{only-reads-none}
 use Rattle.zc_forward.specs.{declared.{outbox.Outbox.{Outbox as Kept}, sent.Sent.{Sent}}, OutboxOf.{outbox_of}, Sending.{of_sent}, Tags.{Tags}}
 use Rattle.zc_forward.{specs.Forwarding.{ForwardStands}, proofs.{Items.{carries, fails, is-roomy, wants}, Live.{pushed-sum}}}
@@ -26,10 +26,10 @@ returns-then-is_err-clause-gives g c =
     wants first (g.C.Carrier.got c.args.carrier.now) losses (g.C.Carrier.counts c.args.carrier.now) (outbox_of c.args.work.now) st c.args.stream.now.desk
     (g.C.Carrier.tags c.args.carrier.now) v (g.F.AppFace.seen c.args.stream.now.face) before c.requires.none c.args.lent item only c.requires.stands
     (tally_of c.room_for.new.work.tally) roomy adds (g.F.AppFace.seen c.stop.new.self.face) c.stop.new.self.desk (outbox_of k) c.stop.ensures.view
-    c.stop.ensures.items c.stop.ensures.stands c.stop.ensures.stopped.0 c.stop.ensures.stopped.1 refl c.room_for.ensures.beside.0 refl c.requires.few
+    c.stop.ensures.items c.stop.ensures.stands (ap (λ (d : Desk). d.stopped) c.stop.ensures.stopped) (ap (λ (d : Desk). d.ended) c.stop.ensures.stopped) refl c.room_for.ensures.beside.0 refl c.requires.few
 
 pub returns-then-is_err-clause-had : goal.returns-then-is_err-clause-had
-returns-then-is_err-clause-had g c = λ st v looks later item only.
+returns-then-is_err-clause-had g c = λ st v pace later item only.
     let v1 : AppView = g.F.AppFace.seen c.args.stream.now.face in
     record {
       desk = c.args.stream.now.desk;
@@ -37,10 +37,66 @@ returns-then-is_err-clause-had g c = λ st v looks later item only.
       lent = c.args.lent;
       item = item;
       only = only;
-      pressed = c.room_for.ensures.beside.2;
+      tally = record (tally_of c.room_for.new.work.tally) { stopped = stop.Memory };
+      due = ap (λ (t : TallyState). t.due) (ap tally_of c.room_for.ensures.same) ∙ ap (λ (t : TallyState). t.due) c.count_item.ensures.tally;
       read = v1;
       reads = only-reads-none v1;
-      went = inr (c.stop.ensures.stopped.0, inl (c.stop.ensures.view, refl, refl));
+      went = inr (c.stop.ensures.stopped, inl (c.stop.ensures.view, refl, rw (c.room_for.ensures.beside.0, c.room_for.ensures.beside.2) refl, refl));
+    }
+
+pub returns-then-done-len-clause-had : goal.returns-then-done-len-clause-had
+returns-then-done-len-clause-had g c = λ st v pace later item only.
+    let read = c.send-done.ensures in
+    let gone = c.fail.ensures in
+    let desk : Desk = c.args.stream.now.desk in
+    let uncarried = gone.work.2 ∙ c.room_for.ensures.beside.1 in
+    let pressed = gone.work.3 ∙ c.room_for.ensures.beside.2 in
+    record {
+      desk = desk;
+      view = g.F.AppFace.seen c.args.stream.now.face;
+      lent = c.args.lent;
+      item = item;
+      only = only;
+      tally = tally_of c.fail.new.work.tally;
+      due = ap (λ (t : TallyState). t.due) (ap tally_of gone.work.0) ∙ ap (λ (t : TallyState). t.due) (ap tally_of c.count.ensures.same)
+          ∙ ap (λ (t : TallyState). t.due) (ap tally_of c.room_for.ensures.same) ∙ ap (λ (t : TallyState). t.due) c.count_item.ensures.tally;
+      read = g.F.AppFace.seen c.send-done.new.stream.face;
+      reads = read.only;
+      went = inr (
+        subst (λ (d : Desk). c.fail.new.stream.desk ≡ stopped_with d c.fail.new.stream.desk.flows) read.desk gone.stopped,
+        inr (gone.gave_up, gone.tags, rw (gone.work.1, uncarried, pressed) refl, ap (λ (t : TallyState). t.stopped) (ap tally_of gone.work.0)),
+      );
+    }
+
+pub returns-else-done-len-clause-had : goal.returns-else-done-len-clause-had
+returns-else-done-len-clause-had g c = λ st v pace later item only.
+    let read = c.send-done.ensures in
+    let full : c.send-done.result ≡ c.args.lent.loan.len = search rules in
+    let sent : Sent = record { tag = c.free_tag.result; flow = c.args.lent.flow; loan = c.args.lent.loan } in
+    let out : c.push_reserved.new.self.items ≡ c.args.work.now.out.items ++ sent ∷ [] =
+    c.push_reserved.ensures.items ∙ ap (λ ss. ss ++ sent ∷ []) c.room_for.ensures.beside.0 in
+    let free : lookup (nat_eq c.free_tag.result) (g.C.Carrier.tags c.args.carrier.now) ≡ None = search rules in
+    record {
+      desk = c.args.stream.now.desk;
+      view = g.F.AppFace.seen c.args.stream.now.face;
+      lent = c.args.lent;
+      item = item;
+      only = only;
+      tally = tally_of c.count.new.work;
+      due = ap (λ (t : TallyState). t.due) (ap tally_of c.count.ensures.same)
+          ∙ ap (λ (t : TallyState). t.due) (ap tally_of c.room_for.ensures.same) ∙ ap (λ (t : TallyState). t.due) c.count_item.ensures.tally;
+      read = g.F.AppFace.seen c.send-done.new.stream.face;
+      reads = read.only;
+      went = inl (
+        read.desk,
+        refl,
+        c.free_tag.result,
+        free,
+        read.tags full,
+        rw (out, c.room_for.ensures.beside.1, c.room_for.ensures.beside.2) refl,
+        ap (λ (t : TallyState). t.stopped) (ap tally_of c.count.ensures.same)
+            ∙ ap (λ (t : TallyState). t.stopped) (ap tally_of c.room_for.ensures.same) ∙ ap (λ (t : TallyState). t.stopped) c.count_item.ensures.tally,
+      );
     }
 
 pub fail-requires-clause-loans : goal.fail-requires-clause-loans
@@ -72,10 +128,10 @@ returns-then-done-len-clause-gives g c =
     (tally_of c.room_for.new.work.tally) roomy adds (g.C.Carrier.got c.send-done.new.carrier) y (tally_of c.count.new.work) c.send-done.result read.only
     read.counted read.gained read.others (ap tally_of c.count.ensures.same) c.count.ensures.adds c.count.ensures.many (g.C.Carrier.got c.fail.new.carrier)
     (g.C.Carrier.counts c.send-done.new.carrier) gone.gave_up.0 (g.F.AppFace.seen c.fail.new.stream.face) c.fail.new.stream.desk (outbox_of c.fail.new.work)
-    gone.got gone.gave_up.1 gone.gave_up.2 gone.none
+    gone.got gone.gave_up.1 gone.gave_up.3 gone.none
     (λ items given. gone.items items (subst (λ (d : Desk). HasGiven items d.flows y.taken) (sym read.desk) given))
-    gone.stands gone.stopped.0 (ap tally_of gone.work.0) gone.work.1 (gone.work.2 ∙ c.room_for.ensures.beside.1)
-    (λ ended. (let e : true ≡ false = sym ended ∙ gone.stopped.1 ∙ ap (λ (d : Desk). d.ended) read.desk ∙ item.more in absurd (cc)))
+    gone.stands (ap (λ (d : Desk). d.stopped) gone.stopped) (ap tally_of gone.work.0) gone.work.1 (gone.work.2 ∙ c.room_for.ensures.beside.1)
+    (λ ended. (let e : true ≡ false = sym ended ∙ ap (λ (d : Desk). d.ended) gone.stopped ∙ ap (λ (d : Desk). d.ended) read.desk ∙ item.more in absurd (cc)))
     read.later (read.cause part) read.appended in
     subst (λ n. ForwardStands first losses (outbox_of c.fail.new.work) c.fail.new.stream.desk (g.C.Carrier.tags c.fail.new.carrier)
     (g.C.Carrier.got c.fail.new.carrier) n (g.F.AppFace.seen c.fail.new.stream.face)) (sym gone.counts)

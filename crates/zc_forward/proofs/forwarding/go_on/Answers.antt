@@ -12,23 +12,23 @@ give_back-requires-clause-out g c =
     has-out v c.in-Some-take.loan (due-out (outbox_of c.args.work.now) v.loans c.in-Some-take.loan before.loans due)
 
 pub returns-then-not-has_ended-clause-does : goal.returns-then-not-has_ended-clause-does
-returns-then-not-has_ended-clause-does g c = λ was looks took asked.
+returns-then-not-has_ended-clause-does g c = λ was pace took asked.
     let v : AppView = g.F.AppFace.seen c.args.stream.now.face in
     let none : g.C.Carrier.tags c.args.carrier.now ≡ was = subst (TakesTag was (g.C.Carrier.tags c.args.carrier.now)) c.in_default.is took in
     let same : with_due (outbox_of c.args.work.now) c.take.new.self ≡ outbox_of c.args.work.now = search rules in
     let now : Stage = stage_of (outbox_of c.take_step.new.work) c.take_step.new.stream.desk (g.C.Carrier.tags c.take_step.new.carrier)
-    (g.C.Carrier.looks c.take_step.new.carrier) (g.F.AppFace.seen c.take_step.new.stream.face) in
-    subst (λ (o : OutboxState). TurnDoes (stage_of o c.args.stream.now.desk was looks v) now c.take_step.result) same
-    (subst (λ (ts : Tags). TurnDoes (stage_of (with_due (outbox_of c.args.work.now) c.take.new.self) c.args.stream.now.desk ts looks v) now c.take_step.result) none
-    (c.take_step.ensures.does looks))
+    (g.C.Carrier.pace c.take_step.new.carrier) (g.F.AppFace.seen c.take_step.new.stream.face) in
+    subst (λ (o : OutboxState). TurnDoes (stage_of o c.args.stream.now.desk was pace v) now c.take_step.result) same
+    (subst (λ (ts : Tags). TurnDoes (stage_of (with_due (outbox_of c.args.work.now) c.take.new.self) c.args.stream.now.desk ts pace v) now c.take_step.result) none
+    (c.take_step.ensures.does pace))
 
 pub returns-clause-does : goal.returns-clause-does
-returns-clause-does g c = λ was looks took asked.
+returns-clause-does g c = λ was pace took asked.
     let v : AppView = g.F.AppFace.seen c.args.stream.now.face in
     let tags : Tags = g.C.Carrier.tags c.args.carrier.now in
     let none : tags ≡ was = subst (TakesTag was tags) c.in_default.is took in
     let same : with_due (outbox_of c.args.work.now) c.take.new.self ≡ outbox_of c.args.work.now = search rules in
-    let now : Stage = stage_of (outbox_of c.leave.new.work) c.leave.new.stream.desk tags (g.C.Carrier.looks c.args.carrier.now)
+    let now : Stage = stage_of (outbox_of c.leave.new.work) c.leave.new.stream.desk tags (g.C.Carrier.pace c.args.carrier.now)
     (g.F.AppFace.seen c.leave.new.stream.face) in
     let (first, losses, earlier, gone, before) = c.requires.stands in
     let got = g.C.Carrier.got c.args.carrier.now in
@@ -36,9 +36,9 @@ returns-clause-does g c = λ was looks took asked.
     let on : ForwardStands first losses (outbox_of c.args.work.now) c.args.stream.now.desk tags got faults v =
     subst (λ (ts : Tags). ForwardStands first losses (outbox_of c.args.work.now) c.args.stream.now.desk ts got faults v)
     (sym (subst (TakesTag earlier tags) c.in_default.is gone)) before in
-    subst (λ (o : OutboxState). TurnDoes (stage_of o c.args.stream.now.desk was looks v) now c.leave.result) same
-    (subst (λ (ts : Tags). TurnDoes (stage_of (with_due (outbox_of c.args.work.now) c.take.new.self) c.args.stream.now.desk ts looks v) now c.leave.result) none
-    (c.leave.ensures.does first got losses faults tags looks (g.C.Carrier.looks c.args.carrier.now)
+    subst (λ (o : OutboxState). TurnDoes (stage_of o c.args.stream.now.desk was pace v) now c.leave.result) same
+    (subst (λ (ts : Tags). TurnDoes (stage_of (with_due (outbox_of c.args.work.now) c.take.new.self) c.args.stream.now.desk ts pace v) now c.leave.result) none
+    (c.leave.ensures.does first got losses faults tags pace (g.C.Carrier.pace c.args.carrier.now)
     (subst (λ (o : OutboxState). ForwardStands first losses o c.args.stream.now.desk tags got faults v) (sym same) on)))
 
 pub take_step-requires-clause-few : goal.take_step-requires-clause-few
@@ -51,17 +51,17 @@ take_step-requires-clause-few g c =
     omega (arith, less)
 
 pub returns-then-not-has_ended-clause-rest : goal.returns-then-not-has_ended-clause-rest
-returns-then-not-has_ended-clause-rest g c = λ was looks took.
+returns-then-not-has_ended-clause-rest g c = λ was pace took.
     let v : AppView = g.F.AppFace.seen c.args.stream.now.face in
     let none : g.C.Carrier.tags c.args.carrier.now ≡ was = subst (TakesTag was (g.C.Carrier.tags c.args.carrier.now)) c.in_default.is took in
     let same : with_due (outbox_of c.args.work.now) c.take.new.self ≡ outbox_of c.args.work.now = search rules in
     let now : Stage = stage_of (outbox_of c.take_step.new.work) c.take_step.new.stream.desk (g.C.Carrier.tags c.take_step.new.carrier)
-    (g.C.Carrier.looks c.take_step.new.carrier) (g.F.AppFace.seen c.take_step.new.stream.face) in
+    (g.C.Carrier.pace c.take_step.new.carrier) (g.F.AppFace.seen c.take_step.new.stream.face) in
     rw c.in_default.is
-    (subst (λ (o : OutboxState). (c.take_step.new.carrier ≡ c.args.carrier.now) ⊎ CarriedItem (stage_of o c.args.stream.now.desk was looks v) now) same
+    (subst (λ (o : OutboxState). (c.take_step.new.carrier ≡ c.args.carrier.now) ⊎ CarriedItem (stage_of o c.args.stream.now.desk was pace v) now) same
     (subst (λ (ts : Tags). (c.take_step.new.carrier ≡ c.args.carrier.now)
-    ⊎ CarriedItem (stage_of (with_due (outbox_of c.args.work.now) c.take.new.self) c.args.stream.now.desk ts looks v) now) none
-    (c.take_step.ensures.rest looks)))
+    ⊎ CarriedItem (stage_of (with_due (outbox_of c.args.work.now) c.take.new.self) c.args.stream.now.desk ts pace v) now) none
+    (c.take_step.ensures.rest pace)))
 
 pub returns-then-is_full-clause-scrubs : goal.returns-then-is_full-clause-scrubs
 returns-then-is_full-clause-scrubs g c = λ none not due out.

@@ -1,8 +1,8 @@
-use Rattle.std.proofs.Common.{rules, ◌≡◌, ◌≢◌, ◌∙◌, true, [], None, List, Option, refl, sym, ap, subst, inl, inr}
+use Rattle.std.proofs.Common.{rules, ◌≡◌, ◌∙◌, None, Option, refl, sym, ap, subst, inr}
 use Rattle.zr_kinds.specs.declared.place.Place.{Place}
 use Rattle.board_face.specs.declared.views.app.AppView.{AppView}
 use Rattle.zc_poll.{specs.{Standing.{Desk}, Steps.{Scrubs}, Pouring.{OnlyDue}, TallyOf.{tally_of}}, proofs.Scrubbing.{scrub-pours, scrubbed-desk, scrubbed-view, scrubs-quiet}}
-use Rattle.zc_forward.specs.{declared.{outbox.Outbox.{Outbox as Kept}, sent.Sent.{Sent}}, OutboxOf.{outbox_of}, Sending.{tags_of, without_uncarried}, Forwarding.{ForwardStands}}
+use Rattle.zc_forward.specs.{declared.{outbox.Outbox.{Outbox as Kept}}, OutboxOf.{outbox_of}, Sending.{tags_of, without_uncarried}, Forwarding.{ForwardStands}}
 use Rattle.zc_forward.proofs.{Ends.{ends-pours, may-give-up, waits-forwards}, Scrubs.{aside-app, none-out, quiet-aside}}
 use Rattle.zc_forward.proofs.forwarding.scrub_stopped.Goals as goal
 
@@ -45,7 +45,7 @@ returns-clause-gives g c = λ first got losses now tags before.
     (λ ended. before.pressed (sym (ap (λ (d : Desk). d.ended) gone.desk) ∙ sym (ap (λ (d : Desk). d.ended) desk) ∙ ended)))
 
 pub returns-clause-first : goal.returns-clause-first
-returns-clause-first g c = λ tags looks.
+returns-clause-first g c = λ tags pace.
     let (first, got, losses, now, were, before) = c.requires.stands in
     let gone = c.give_up_uncarried.ensures in
     let out = none-out c.args.work.now.out.items (search rules) in
@@ -59,7 +59,7 @@ returns-clause-first g c = λ tags looks.
           (subst (λ (v : AppView). Scrubs c.give_up_uncarried.new.stream.desk c.scrub.new.self.desk v (g.F.AppFace.seen c.scrub.new.self.face) c.scrub.result)
           gone.view c.scrub.ensures.scrubs);
       tags = refl;
-      looks = refl;
+      pace = refl;
     })
 
 pub returns-clause-scrubs : goal.returns-clause-scrubs

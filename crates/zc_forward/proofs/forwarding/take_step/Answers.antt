@@ -1,5 +1,4 @@
-use Rattle.std.proofs.Common.{◌≡◌, ◌⊎◌, ap, inl, inr, ⊎_elim, sym, subst, ◌∙◌, ◌<◌, length, true}
-use Rattle.board_face.specs.declared.views.app.AppView.{AppView}
+use Rattle.std.proofs.Common.{◌≡◌, ap, inl, inr, ⊎_elim, sym, subst, ◌∙◌, ◌<◌, length, true}
 use Rattle.zc_poll.proofs.Scrubbing.{scrubs-then}
 use Rattle.zc_forward.{specs.{declared.outbox.Outbox.{Outbox as Kept}, OutboxOf.{outbox_of}, Sending.{most_out}, Turns.{CarriedItem, Stage, stage_of}}, proofs.Scrubs.{carried-first, step-does}}
 use Rattle.zc_forward.proofs.forwarding.take_step.Goals as goal
@@ -35,26 +34,26 @@ returns-clause-gives g c = λ first losses before.
     (g.C.Carrier.tags c.args.carrier.now) before)
 
 pub returns-clause-does : goal.returns-clause-does
-returns-clause-does g c = λ looks.
+returns-clause-does g c = λ pace.
     let tags = g.C.Carrier.tags c.args.carrier.now in
-    let was : Stage = stage_of (outbox_of c.args.work.now) c.args.stream.now.desk tags looks (g.F.AppFace.seen c.args.stream.now.face) in
-    let mid : Stage = stage_of (outbox_of c.scrub_stopped.new.work) c.scrub_stopped.new.stream.desk tags looks
+    let was : Stage = stage_of (outbox_of c.args.work.now) c.args.stream.now.desk tags pace (g.F.AppFace.seen c.args.stream.now.face) in
+    let mid : Stage = stage_of (outbox_of c.scrub_stopped.new.work) c.scrub_stopped.new.stream.desk tags pace
     (g.F.AppFace.seen c.scrub_stopped.new.stream.face) in
     let now : Stage = stage_of (outbox_of c.step_once.new.work) c.step_once.new.stream.desk (g.C.Carrier.tags c.step_once.new.carrier)
-    (g.C.Carrier.looks c.step_once.new.carrier) (g.F.AppFace.seen c.step_once.new.stream.face) in
+    (g.C.Carrier.pace c.step_once.new.carrier) (g.F.AppFace.seen c.step_once.new.stream.face) in
     step-does was now c.step_once.result c.requires.none
-    (record { stage = mid; first = c.scrub_stopped.ensures.first tags looks; does = c.step_once.ensures.does looks })
+    (record { stage = mid; first = c.scrub_stopped.ensures.first tags pace; does = c.step_once.ensures.does pace })
 
 pub returns-clause-rest : goal.returns-clause-rest
-returns-clause-rest g c = λ looks.
+returns-clause-rest g c = λ pace.
     let tags = g.C.Carrier.tags c.args.carrier.now in
-    let was : Stage = stage_of (outbox_of c.args.work.now) c.args.stream.now.desk tags looks (g.F.AppFace.seen c.args.stream.now.face) in
-    let mid : Stage = stage_of (outbox_of c.scrub_stopped.new.work) c.scrub_stopped.new.stream.desk tags looks
+    let was : Stage = stage_of (outbox_of c.args.work.now) c.args.stream.now.desk tags pace (g.F.AppFace.seen c.args.stream.now.face) in
+    let mid : Stage = stage_of (outbox_of c.scrub_stopped.new.work) c.scrub_stopped.new.stream.desk tags pace
     (g.F.AppFace.seen c.scrub_stopped.new.stream.face) in
     let now : Stage = stage_of (outbox_of c.step_once.new.work) c.step_once.new.stream.desk (g.C.Carrier.tags c.step_once.new.carrier)
-    (g.C.Carrier.looks c.step_once.new.carrier) (g.F.AppFace.seen c.step_once.new.stream.face) in
+    (g.C.Carrier.pace c.step_once.new.carrier) (g.F.AppFace.seen c.step_once.new.stream.face) in
     ⊎_elim (λ (same : c.step_once.new.carrier ≡ c.args.carrier.now). inl same)
-    (λ (item : CarriedItem mid now). inr (carried-first was mid now (c.scrub_stopped.ensures.first tags looks) item)) (c.step_once.ensures.rest looks)
+    (λ (item : CarriedItem mid now). inr (carried-first was mid now (c.scrub_stopped.ensures.first tags pace) item)) (c.step_once.ensures.rest pace)
 
 pub returns-clause-scrubs : goal.returns-clause-scrubs
 returns-clause-scrubs g c = λ not out.

@@ -6,5 +6,6 @@ returns-clause-gave_up g c = (
   g.F.AppFace.seen c.give_up.new.stream.face,
   gave-then (g.F.AppFace.seen c.args.stream.now.face) (g.F.AppFace.seen c.give_up_kept.new.stream.face) (g.F.AppFace.seen c.give_up.new.stream.face)
       c.give_up_kept.ensures.gave_up c.give_up.ensures.gave_up,
+  c.give_up.ensures.none.0,
   c.stop.ensures.view,
 )

@@ -27,7 +27,7 @@ returns-then-is_err-clause-pours g c =
     (wants first (g.T.Shelf.kept c.args.shelf.now) losses (g.T.Shelf.counts c.args.shelf.now) (tally_of c.args.work.now) st c.args.stream.now.desk v
     (g.F.AppFace.seen c.args.stream.now.face) before c.requires.none c.args.lent item only c.requires.stands (tally_of c.make_room.new.work) roomy adds
     (g.F.AppFace.seen c.give_up.new.stream.face) c.give_up.new.stream.desk (tally_of c.give_up.new.work) c.give_up.ensures.view c.give_up.ensures.items
-    c.give_up.ensures.stands c.give_up.ensures.stopped (ap tally_of c.give_up.ensures.work))
+    c.give_up.ensures.stands (ap (λ (d : Desk). d.stopped) c.give_up.ensures.stopped) (ap tally_of c.give_up.ensures.work))
 
 pub returns-then-done-place-clause-pours : goal.returns-then-done-place-clause-pours
 returns-then-done-place-clause-pours g c =
@@ -53,7 +53,7 @@ returns-then-done-place-clause-pours g c =
     c.give_up-then-done-place.new.stream.desk (tally_of c.give_up-then-done-place.new.work) gone.view
     (λ items given. gone.items items
     (subst (λ (d : Desk). HasGiven items d.flows (g.F.AppFace.seen c.append_loan-done.new.stream.face).taken) (sym read.desk) given))
-    gone.stands gone.stopped (ap tally_of gone.work) read.later (read.cause part))
+    gone.stands (ap (λ (d : Desk). d.stopped) gone.stopped) (ap tally_of gone.work) read.later (read.cause part))
 
 pub returns-then-is_err-clause-read : goal.returns-then-is_err-clause-read
 returns-then-is_err-clause-read g c = (c.give_up.ensures.stopped, g.F.AppFace.seen c.args.stream.now.face, only-reads-none (g.F.AppFace.seen c.args.stream.now.face), c.give_up.ensures.view)

@@ -1,15 +1,14 @@
-use Rattle.std.proofs.Common.{◌≡◌, ◌∙◌, true}
-use Rattle.zc_poll.proofs.Scrubbing.{scrubs-then, step-does}
+use Rattle.std.proofs.Common.{◌≡◌, ◌∙◌, None, true}
+use Rattle.zc_poll.{specs.PourTurns.{pour_stage}, proofs.Scrubbing.{scrubs-then, step-does}}
 use Rattle.zc_poll.proofs.to_shelf.go_on.Goals as goal
 
 pub returns-clause-does : goal.returns-clause-does
 returns-clause-does g c =
-    step-does c.args.stream.now.desk c.take_step.new.stream.desk (g.F.AppFace.seen c.args.stream.now.face) (g.F.AppFace.seen c.take_step.new.stream.face)
-    c.take_step.result
+    step-does c.args.stream.now.desk (g.F.AppFace.seen c.args.stream.now.face)
+    (pour_stage c.take_step.new.work.due c.take_step.new.stream.desk (g.F.AppFace.seen c.take_step.new.stream.face)) c.take_step.result
     (record {
-      desk = c.scrub_stopped.new.stream.desk;
-      view = g.F.AppFace.seen c.scrub_stopped.new.stream.face;
-      first = c.scrub_stopped.ensures.first;
+      stage = pour_stage None c.scrub_stopped.new.stream.desk (g.F.AppFace.seen c.scrub_stopped.new.stream.face);
+      first = c.scrub_stopped.ensures.first None;
       does = c.take_step.ensures.does;
     })
 

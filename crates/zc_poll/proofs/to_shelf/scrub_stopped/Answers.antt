@@ -1,7 +1,6 @@
-use Rattle.std.proofs.Common.{rules, ◌≡◌, ◌≢◌, ap, inr}
-use Rattle.zr_kinds.specs.declared.behaviour.Stopped.TheVariants as stop
+use Rattle.std.proofs.Common.{rules, ap}
 use Rattle.board_face.specs.declared.views.app.AppView.{AppView}
-use Rattle.zc_poll.{specs.{Standing.{Desk}, TallyOf.{tally_of}}, proofs.Scrubbing.{scrub-pours, scrubbed-desk, scrubbed-view, scrubs-quiet}}
+use Rattle.zc_poll.{specs.{Standing.{Desk}, TallyOf.{tally_of}}, proofs.Scrubbing.{scrub-pours, scrubs-first, scrubbed-desk, scrubbed-view, scrubs-quiet}}
 use Rattle.zc_poll.proofs.to_shelf.scrub_stopped.Goals as goal
 
 pub scrub-requires-clause-stopped : goal.scrub-requires-clause-stopped
@@ -22,7 +21,8 @@ returns-clause-gives g c = λ first kept losses now before.
 pub returns-clause-first : goal.returns-clause-first
 returns-clause-first g c =
     let (first, kept, losses, now, before) = c.requires.stands in
-    inr ((before.over (search rules)).0, c.scrub.result, c.scrub.ensures.scrubs)
+    λ due. scrubs-first due c.args.stream.now.desk c.scrub.new.self.desk (g.F.AppFace.seen c.args.stream.now.face) (g.F.AppFace.seen c.scrub.new.self.face)
+    c.scrub.result (before.over (search rules)).0 c.scrub.ensures.scrubs
 
 pub returns-clause-scrubs : goal.returns-clause-scrubs
 returns-clause-scrubs g c = λ not.

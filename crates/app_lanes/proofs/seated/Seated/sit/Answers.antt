@@ -1,8 +1,9 @@
 -- It has taken no turn.
-use Rattle.std.proofs.Common.{rules, ◌≡◌, Some, None, ap, ◌∙◌, subst}
+use Rattle.std.proofs.Common.{rules, ◌≡◌, None, ap, ◌∙◌, sym, subst}
 use Rattle.board_face.specs.{Opened.{new_app_view}, declared.views.app.AppSide.{AppSide}}
 use Rattle.zc_poll.specs.Fresh.{new_desk}
-use Rattle.run_account.specs.Behind.{begins}
+use Rattle.zc_forward.specs.Turns.{Stage}
+use Rattle.run_account.specs.{Behind.{Behind, begins}, Ways.{ForwardTurns, first_stage}}
 use Rattle.app_lanes.{specs.{declared.seated.Turning.{Turning}, Seated.{IsStart, stage_now}}, proofs.Beginnings.{turning-begins}}
 use Rattle.app_lanes.specs.declared.seated.Start.TheVariants as start
 use Rattle.app_lanes.proofs.seated.Seated.sit.Goals as goal
@@ -17,6 +18,7 @@ pub returns-in-Pouring-clause-begins : goal.returns-in-Pouring-clause-begins
 returns-in-Pouring-clause-begins g c = λ plan begun.
     let so : IsStart plan c.args.app start.Pouring = subst (IsStart plan c.args.app) c.in-Pouring.is begun in
     let own = c.new-in-Pouring in
+    let due : own.result.tally.due ≡ None = search rules in
     let desk : own.result.desk ≡ new_desk c.args.app = search rules in
     let face : own.result.face ≡ c.args.seat = search rules in
     let view : own.result.face.side.view ≡ new_app_view c.args.seat.board.setting c.args.app =
@@ -24,7 +26,7 @@ returns-in-Pouring-clause-begins g c = λ plan begun.
     record {
       fits = search rules;
       runs = search rules;
-      comes = (so.1, c.args.seat.board.setting, c.args.app, own.result.tally.due, rw (desk, view) begins);
+      comes = (so.1, c.args.seat.board.setting, c.args.app, rw (due, desk, view) begins);
     }
 
 pub returns-in-Forwarding-clause-begins : goal.returns-in-Forwarding-clause-begins
@@ -35,17 +37,18 @@ returns-in-Forwarding-clause-begins g c = λ plan begun.
     let face : own.result.face ≡ c.args.seat = search rules in
     let view : own.result.face.side.view ≡ new_app_view c.args.seat.board.setting c.args.app =
     ap (λ f. f.side.view) face ∙ ap (λ (s : AppSide). s.view) c.requires.new in
+    let room = own.result.work.tally.room in
+    let first : Stage = first_stage c.args.seat.board.setting c.args.app room c.in-Forwarding.delay in
+    let begun : stage_now own.result ≡ first = search rules in
     record {
       fits = search rules;
       runs = search rules;
       comes = (
-        λ none. let not : None ≡ Some c.in-Forwarding.delay = search rules in absurd (cc),
         c.args.seat.board.setting,
         c.args.app,
-        stage_now own.result,
-        desk,
-        view,
-        search rules,
-        begins,
+        room,
+        c.in-Forwarding.delay,
+        so.2,
+        subst (λ stage. Behind ForwardTurns (record { stage = first; poured = None }) (record { stage = stage; poured = None })) (sym begun) begins,
       );
     }

@@ -1,7 +1,7 @@
-use Rattle.std.{proofs.Common.{rules, ◌≡◌, ℕ, true, false, [], sym, subst, refl, vec_capacity}, specs.Prelude.{None}}
+use Rattle.std.{proofs.Common.{rules, ◌≡◌, ℕ, true, false, sym, subst, refl, vec_capacity}, specs.Prelude.{None}}
 use Rattle.zr_kinds.specs.declared.behaviour.Stopped.TheVariants as stop
-use Rattle.zc_poll.{specs.Standing.{Desk, StreamStands}, proofs.PourNew.{new-pours, new_tally}}
-use Rattle.zc_forward.{specs.{Sending.{OutboxState}, Forwarding.{ForwardStands}, OutboxOf.{outbox_of}}, proofs.Ends.{waits-forwards}}
+use Rattle.zc_poll.{specs.Standing.{Desk, StreamStands}, proofs.PourNew.{new-pours}}
+use Rattle.zc_forward.{specs.{Sending.{OutboxState, new_outbox}, Forwarding.{ForwardStands}, OutboxOf.{outbox_of}}, proofs.Ends.{waits-forwards}}
 use Rattle.zc_forward.proofs.forward.Forward.new.Goals as goal
 
 pub returns-clause-stands : goal.returns-clause-stands
@@ -12,7 +12,7 @@ returns-clause-stands g c =
     let tags = g.C.Carrier.tags c.args.carrier in
     let room : ℕ = vec_capacity c.new-2.result in
     let v = g.F.AppFace.seen c.args.stream.face in
-    let empty : OutboxState = record { tally = new_tally room; out = []; uncarried = None; pressed = false } in
+    let empty : OutboxState = new_outbox room in
     let same : empty ≡ outbox_of (record {
       tally = record {
         due = None;

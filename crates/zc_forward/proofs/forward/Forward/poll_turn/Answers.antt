@@ -41,27 +41,28 @@ pub returns-clause-does : goal.returns-clause-does
 returns-clause-does g c =
     let inside = c.self.inside in
     let now : Stage = stage_of (outbox_of c.go_on.new.work) c.go_on.new.stream.desk (g.C.Carrier.tags c.go_on.new.carrier)
-    (g.C.Carrier.looks c.go_on.new.carrier) (g.F.AppFace.seen c.go_on.new.stream.face) in
+    (g.C.Carrier.pace c.go_on.new.carrier) (g.F.AppFace.seen c.go_on.new.stream.face) in
     subst (λ (s : ForwardView g.row.F.Denot g.row.C.Denot).
-    TurnDoes (stage_of s.work s.desk (g.C.Carrier.tags s.carrier) (g.C.Carrier.looks s.carrier) (g.F.AppFace.seen s.face)) now c.go_on.result) c.self.view_is
-    (c.go_on.ensures.does (g.C.Carrier.tags inside.carrier) (g.C.Carrier.looks inside.carrier) c.poll_ask-told.ensures.asked.took
+    TurnDoes (stage_of s.work s.desk (g.C.Carrier.tags s.carrier) (g.C.Carrier.pace s.carrier) (g.F.AppFace.seen s.face)) now c.go_on.result) c.self.view_is
+    (c.go_on.ensures.does (g.C.Carrier.tags inside.carrier) (g.C.Carrier.pace inside.carrier) c.poll_ask-told.ensures.asked.took
     (if-none c.poll_ask-told.result _ c.poll_ask-told.ensures.looked))
 
 pub returns-clause-asks : goal.returns-clause-asks
 returns-clause-asks g c =
     let inside = c.self.inside in
     let now : Stage = stage_of (outbox_of c.go_on.new.work) c.go_on.new.stream.desk (g.C.Carrier.tags c.go_on.new.carrier)
-    (g.C.Carrier.looks c.go_on.new.carrier) (g.F.AppFace.seen c.go_on.new.stream.face) in
+    (g.C.Carrier.pace c.go_on.new.carrier) (g.F.AppFace.seen c.go_on.new.stream.face) in
     subst (λ (s : ForwardView g.row.F.Denot g.row.C.Denot).
-    Asks g.C.Carrier.answers g.C.Carrier.tags
-    (stage_of s.work s.desk (g.C.Carrier.tags s.carrier) (g.C.Carrier.looks s.carrier) (g.F.AppFace.seen s.face)) now s.carrier c.go_on.new.carrier)
+    Asks g.C.Carrier.answers g.C.Carrier.tags g.C.Carrier.pace
+    (stage_of s.work s.desk (g.C.Carrier.tags s.carrier) (g.C.Carrier.pace s.carrier) (g.F.AppFace.seen s.face)) now s.carrier c.go_on.new.carrier)
     c.self.view_is
     (record {
       asked = c.poll_ask-told.new.carrier;
       told = c.poll_ask-told.result;
       by = c.poll_ask-told.ensures.by;
       took = c.poll_ask-told.ensures.asked.took;
-      rest = c.go_on.ensures.rest (g.C.Carrier.tags inside.carrier) (g.C.Carrier.looks inside.carrier) c.poll_ask-told.ensures.asked.took;
+      pace = c.go_on.ensures.pace;
+      rest = c.go_on.ensures.rest (g.C.Carrier.tags inside.carrier) (g.C.Carrier.pace inside.carrier) c.poll_ask-told.ensures.asked.took;
     })
 
 pub returns-clause-scrubs : goal.returns-clause-scrubs

@@ -49,8 +49,8 @@ returns-in-Ended-clause-value g c = λ first losses stands. (
   g.C.Carrier.counts c.poll_turn.new.self.carrier,
   g.F.AppFace.seen c.poll_turn.new.self.face,
   record {
-    was = stage_of c.args.self.now.work c.args.self.now.desk (g.C.Carrier.tags c.args.self.now.carrier) (g.C.Carrier.looks c.args.self.now.carrier) (g.F.AppFace.seen c.args.self.now.face);
-    now = stage_of c.poll_turn.new.self.work c.poll_turn.new.self.desk (g.C.Carrier.tags c.poll_turn.new.self.carrier) (g.C.Carrier.looks c.poll_turn.new.self.carrier) (g.F.AppFace.seen c.poll_turn.new.self.face);
+    was = stage_of c.args.self.now.work c.args.self.now.desk (g.C.Carrier.tags c.args.self.now.carrier) (g.C.Carrier.pace c.args.self.now.carrier) (g.F.AppFace.seen c.args.self.now.face);
+    now = stage_of c.poll_turn.new.self.work c.poll_turn.new.self.desk (g.C.Carrier.tags c.poll_turn.new.self.carrier) (g.C.Carrier.pace c.poll_turn.new.self.carrier) (g.F.AppFace.seen c.poll_turn.new.self.face);
     seen = refl;
     gives = c.in-Ended.ensures.gives first losses stands;
     does = c.in-Ended.ensures.does;

@@ -1,6 +1,4 @@
-use Rattle.std.proofs.Common.{◌≡◌, true, [], refl}
-use Rattle.board_face.specs.declared.views.app.AppLook.TheVariants.{NotQuiet}
-use Rattle.zc_poll.{specs.DeskOf.{desk_of}, proofs.Keeping.{scrubbed-stands, saw-stands}}
+use Rattle.zc_poll.{specs.DeskOf.{desk_of}, proofs.Keeping.{scrubbed-stands}}
 use Rattle.zc_poll.proofs.stream.LoanStream.scrub.Goals as goal
 
 pub returns-clause-stands : goal.returns-clause-stands

@@ -1,6 +1,6 @@
 use Rattle.std.{proofs.Common.{rules, ◌≡◌, ℕ, sym, subst, vec_capacity}, specs.Prelude.{None}}
 use Rattle.zr_kinds.specs.declared.behaviour.Stopped.TheVariants as stop
-use Rattle.zc_poll.{specs.{Counting.{TallyState}, Pouring.{PourStands}, Standing.{Desk, StreamStands}, TallyOf.{tally_of}}, proofs.PourNew.{new-pours, new_tally}}
+use Rattle.zc_poll.{specs.{Counting.{TallyState, new_tally}, Pouring.{PourStands}, Standing.{Desk, StreamStands}, TallyOf.{tally_of}}, proofs.PourNew.{new-pours}}
 use Rattle.zc_poll.proofs.to_shelf.ToShelf.new.Goals as goal
 
 pub returns-clause-stands : goal.returns-clause-stands

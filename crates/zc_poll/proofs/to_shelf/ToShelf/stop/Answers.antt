@@ -2,7 +2,7 @@ use Rattle.std.proofs.Common.{rules, ◌≡◌, ◌∙◌, [], length, ap, subst
 use Rattle.zr_kinds.specs.declared.behaviour.Stopped.TheVariants as stop
 use Rattle.board_face.specs.{declared.views.app.AppView.{AppView}}
 use Rattle.flow_queues.specs.Ends.{AppEnd}
-use Rattle.zc_poll.specs.{Counting.{with_bytes}, Pouring.{PourStands}, PourTurns.{pour_end}, Stops.{HasStopped, quit_by, without_due}, TallyOf.{tally_of}}
+use Rattle.zc_poll.specs.{Counting.{with_bytes}, Pouring.{PourStands}, PourTurns.{pour_end}, Standing.{Desk}, Stops.{HasStopped, quit_by, without_due}, TallyOf.{tally_of}}
 use Rattle.zc_poll.proofs.Stopping.{due-gone, due-out, none-then, quit-some, quit-write, stopped-pours, then-released}
 use Rattle.zc_poll.proofs.to_shelf.ToShelf.stop.Goals as goal
 
@@ -17,7 +17,7 @@ returns-clause-still g c =
     let v : AppView = g.F.AppFace.seen c.self.inside.stream.face in
     let gone = due-gone c.self.inside.work.due v before.due before.stands.common.apart in (
       c.stop.ensures.stands,
-      c.stop.ensures.stopped.0,
+      ap (λ (d : Desk). d.stopped) c.stop.ensures.stopped,
       none-then c.self.inside.work.due v (g.F.AppFace.seen c.give_up_due.new.stream.face) (g.F.AppFace.seen c.stop.new.self.face) gone c.give_up_due.ensures.view
           c.stop.ensures.view,
     )

@@ -1,6 +1,6 @@
-use Rattle.std.proofs.Common.{rules, ℕ, List, Option, ap}
+use Rattle.std.proofs.Common.{rules, ℕ, List, Option, ap, refl}
 use Rattle.board_face.specs.declared.views.app.AppView.{AppView}
-use Rattle.zc_poll.{specs.Pouring.{PourStands}, proofs.Waiting.{tells-then}}
+use Rattle.zc_poll.{specs.{Pouring.{PourStands}, PourTurns.{pour_stage}}, proofs.Waiting.{tells-then}}
 use Rattle.zc_poll.proofs.to_shelf.ToShelfFuture.poll.Goals as goal
 use Rattle.zr_io.specs.Moved.{ShelfCounts}
 
@@ -26,10 +26,9 @@ returns-in-Ended-clause-value g c = λ first losses stands. (
   g.T.Shelf.counts c.turn.new.self.shelf,
   g.F.AppFace.seen c.turn.new.self.face,
   record {
-    due = c.args.self.now.tally.due;
-    was = c.args.self.now.desk;
-    now = c.turn.new.self.desk;
-    old = g.F.AppFace.seen c.args.self.now.face;
+    was = pour_stage c.args.self.now.tally.due c.args.self.now.desk (g.F.AppFace.seen c.args.self.now.face);
+    now = pour_stage c.turn.new.self.tally.due c.turn.new.self.desk (g.F.AppFace.seen c.turn.new.self.face);
+    seen = refl;
     tally = c.turn.new.self.tally;
     gives = c.in-Ended.ensures.gives first losses stands;
     does = c.in-Ended.ensures.does;
