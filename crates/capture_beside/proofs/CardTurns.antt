@@ -1,12 +1,12 @@
 -- The card goes on: looks for leaves change nothing that it stands by, and turns come behind turns.
-use Rattle.std.{proofs.Common.{◌≡◌, ◌∷◌, ◌++◌, [], ⊎_elim, inl, inr, ℕ, ◌<◌, ◌≤◌, List, length, true, false, refl, sym, ap, subst, ◌∙◌}, specs.{Global.{Vec}, Prelude.{Bool, IsTrue, MatchBool}}}
-use Rattle.board_face.specs.declared.views.nic.{NicLook.{NicLook}, NicView.{NicView}}
+use Rattle.std.{proofs.Common.{◌≡◌, ◌∷◌, ◌++◌, [], ◌⊎◌, ⊎_elim, inl, inr, ℕ, ◌+◌, ◌<◌, ◌≤◌, List, length, true, false, refl, sym, ap, subst, ◌∙◌}, specs.{Global.{Vec}, Prelude.{Bool, IsTrue, MatchBool}}}
+use Rattle.board_face.specs.{NicCalls.{NicOnlySaw}, NicEvents.{nic_saw, saw_leave}, declared.views.nic.{NicLook.{NicLook, TheVariants.{NotLeft}}, NicView.{NicView}}}
 use Rattle.card_feed.specs.{Coming.{is_over}, Feed.{FeedState, FeedKnows, IsReady, feed_steps}}
 use Rattle.card_feed.specs.{Turns.{FeedSteps, MayArrive, Receives}, declared.{arrived.Arrived.{Arrived}, intake.Stage.{Stage}}}
 use Rattle.card_feed.specs.declared.arrived.Arrived.TheVariants as arrived
 use Rattle.card_feed.specs.declared.intake.Stage.TheVariants as stage
 use Rattle.page_pool.specs.Searching.{LooksAhead}
-use Rattle.run_account.{specs.{Behind.{behind}, CardTurns.{prepares, sees, steps}}, proofs.DealtEntries.{dealt-of, dealt-up, dealt-ahead}}
+use Rattle.run_account.{specs.{Behind.{behind}, CardTurns.{CardTurns, LooksForLeave, prepares, sees, steps}}, proofs.DealtEntries.{dealt-of, dealt-up, dealt-ahead}}
 use Rattle.rtrb.specs.Ring.{received}
 use Rattle.pcap_reader.specs.declared.capture.Record.{Record}
 use Rattle.capture_beside.{specs.{Carried.{MayFollow, arrived_of}, declared.card.CardLane.{CardLane}}, proofs.Rings.{consumer-same, consumer-then}}
@@ -15,6 +15,35 @@ use Rattle.capture_beside.specs.Cards.{IsFrame, Brought, nothing, frame, ends, o
 use Rattle.capture_beside.specs.declared.carried.Carried.TheVariants as carried
 
 -- ---- looks for leaves
+
+-- what was seen of them
+abbrev pub Sees : CardLane → CardLane → Type 0
+Sees was now = ((now.gone ≡ was.gone)
+    × ((now.seat.side.view ≡ was.seat.side.view) ⊎ NicOnlySaw (NotLeft was.gone) was.seat.side.view now.seat.side.view))
+    ⊎ ((now.gone ≡ was.gone + 1) × (now.seat.side.view ≡ saw_leave was.seat.side.view was.gone))
+
+pub looked-view : (was now : CardLane) → Sees was now
+    → now.seat.side.view ≡ record was.seat.side.view { gone = now.seat.side.view.gone; looks = now.seat.side.view.looks }
+looked-view was now seen =
+    let v = was.seat.side.view in
+    let so : (x : NicView) → x ≡ now.seat.side.view → x ≡ record v { gone = x.gone; looks = x.looks }
+    → now.seat.side.view ≡ record v { gone = now.seat.side.view.gone; looks = now.seat.side.view.looks } =
+    λ x same is. subst (λ (y : NicView). y ≡ record v { gone = y.gone; looks = y.looks }) same is in
+    ⊎_elim (λ (none : (now.gone ≡ was.gone) × ((now.seat.side.view ≡ v) ⊎ NicOnlySaw (NotLeft was.gone) v now.seat.side.view)).
+    ⊎_elim (λ (same : now.seat.side.view ≡ v). so v (sym same) refl)
+    (λ (saw : NicOnlySaw (NotLeft was.gone) v now.seat.side.view). so (nic_saw v (NotLeft was.gone)) (sym saw.event) refl) none.1)
+    (λ (left : (now.gone ≡ was.gone + 1) × (now.seat.side.view ≡ saw_leave v was.gone)). so (saw_leave v was.gone) (sym left.1) refl)
+    seen
+
+looked-for : (was now : CardLane) → Sees was now
+    → (now.seat.side.view ≡ was.seat.side.view) ⊎ LooksForLeave was.seat.side.view now.seat.side.view
+looked-for was now seen =
+    let v = was.seat.side.view in
+    ⊎_elim (λ (none : (now.gone ≡ was.gone) × ((now.seat.side.view ≡ v) ⊎ NicOnlySaw (NotLeft was.gone) v now.seat.side.view)).
+    ⊎_elim (λ (same : now.seat.side.view ≡ v). inl same)
+    (λ (saw : NicOnlySaw (NotLeft was.gone) v now.seat.side.view). inr (was.gone, inr saw)) none.1)
+    (λ (left : (now.gone ≡ was.gone + 1) × (now.seat.side.view ≡ saw_leave v was.gone)). inr (was.gone, inl left.1))
+    seen
 
 ready-looked : (feed : FeedState) (v : NicView) (gone : List ℕ) (looks : List NicLook) → IsReady feed v
     → IsReady feed (record v { gone = gone; looks = looks })
@@ -40,8 +69,9 @@ ready-looked feed v gone looks ready = record {
 }
 
 stands-looked : (ports : List ℕ) (split : ℕ) (messages : List Carried) (feed : FeedState) (v : NicView) (gone : List ℕ) (looks : List NicLook)
+    → (record v { gone = gone; looks = looks } ≡ v) ⊎ LooksForLeave v (record v { gone = gone; looks = looks })
     → CardStands ports split messages feed v → CardStands ports split messages feed (record v { gone = gone; looks = looks })
-stands-looked ports split messages feed v gone looks so = record {
+stands-looked ports split messages feed v gone looks looked so = record {
   frames = so.frames;
   knows = record {
     ports_are = so.knows.ports_are;
@@ -55,7 +85,10 @@ stands-looked ports split messages feed v gone looks so = record {
     swept = so.knows.swept;
   };
   brought = so.brought;
-  turns = (so.turns.0, behind _ _ so.turns.1 (sees gone looks));
+  turns = ⊎_elim
+      (λ (same : record v { gone = gone; looks = looks } ≡ v). subst (CardTurns ports split so.frames feed) (sym same) so.turns)
+      (λ (look : LooksForLeave v (record v { gone = gone; looks = looks })). (so.turns.0, behind _ _ so.turns.1 (sees _ look)))
+      looked;
   dealt = so.dealt;
 }
 
@@ -133,7 +166,7 @@ module _ (was came_by mid now : CardLane) (came : Arrived) (ready : IsReady was.
     (looks : CardLooks mid now) where
   pub goes_turn : CardGoes was now
   goes_turn =
-      let view = sym looks.view in
+      let view = sym (looked-view mid now looks.sees) in
       let feed = sym looks.feed in
       let gone = now.seat.side.view.gone in
       let seen = now.seat.side.view.looks in
@@ -146,6 +179,7 @@ module _ (was came_by mid now : CardLane) (came : Arrived) (ready : IsReady was.
             subst (λ f. CardStands ports split (received now.frames) f now.seat.side.view) feed
             (subst (CardStands ports split (received now.frames) mid.feed) view
             (stands-looked ports split (received now.frames) mid.feed mid.seat.side.view gone seen
+            (subst (λ x. (x ≡ mid.seat.side.view) ⊎ LooksForLeave mid.seat.side.view x) (looked-view mid now looks.sees) (looked-for mid now looks.sees))
             (rw (looks.frames, same_ring) (step-stands ports split (received was.frames) (received came_by.frames) came came_by.feed mid.feed
             came_by.seat.side.view mid.seat.side.view (rw (takes.feed, takes.seat) ready) may takes.came_is (gives ports split)
             (rw (takes.feed, takes.seat) so)))));
@@ -160,7 +194,7 @@ when-so B false is so = absurd (cc)
 pub went-on : (was came_by mid now : CardLane) → came_by.seat ≡ was.seat → came_by.feed ≡ was.feed → CardLooks mid now
     → feed_steps came_by.feed came_by.seat.side.view < feed_steps mid.feed mid.seat.side.view
     → feed_steps was.feed was.seat.side.view < feed_steps now.feed now.seat.side.view
-went-on was came_by mid now seat feed looks less = rw (looks.feed, looks.view, sym seat, sym feed) less
+went-on was came_by mid now seat feed looks less = rw (looks.feed, looked-view mid now looks.sees, sym seat, sym feed) less
 
 -- ---- a look for buffers, and one at the ring
 

@@ -1,7 +1,7 @@
 -- How the card goes on at its seat.
-use Rattle.std.specs.Prelude.{◌≡◌, ◌≢◌, ◌⊎◌, ℕ, ◌<◌, true, List, [], ◌∷◌, ◌++◌, length, All, Option, Some, None}
+use Rattle.std.specs.Prelude.{◌≡◌, ◌≢◌, ◌⊎◌, ℕ, ◌+◌, ◌<◌, true, List, [], ◌∷◌, ◌++◌, length, All, Option, Some, None}
 use Rattle.zr_kinds.specs.declared.fault.Fault.{Fault}
-use Rattle.board_face.specs.declared.views.nic.NicView.{NicView}
+use Rattle.board_face.specs.{NicCalls.{NicOnlySaw}, NicEvents.{saw_leave}, declared.views.nic.{NicLook.TheVariants.{NotLeft}, NicView.{NicView}}}
 use Rattle.frames_read.specs.{Ending.{ending_at}, Reading.{EndsAt}}
 use Rattle.card_feed.specs.{Coming.{is_over}, Feed.{FeedState, IsReady, FeedKnows, feed_steps}, Offered.{WantsRoom}}
 use Rattle.card_feed.specs.declared.{arrived.Arrived.{Arrived}, intake.Stage.{Stage}}
@@ -13,12 +13,14 @@ use Rattle.rtrb.specs.Ring.{received, SameConsumer}
 use Rattle.capture_beside.specs.{Carried.{MayFollow, arrived_of}, declared.{carried.Carried.{Carried}, card.CardLane.{CardLane}}}
 use Rattle.capture_beside.specs.declared.carried.Carried.TheVariants as carried
 
--- It looked whether applications have left, and nothing else changed.
+-- It looked whether the next application has left: it has, and is counted, or it hasn't yet. Or it didn't look. Nothing else changed.
 pub record CardLooks (was now : CardLane) : Type 0 where
   pub board : now.seat.board ≡ was.seat.board
   pub feed : now.feed ≡ was.feed
   pub frames : now.frames ≡ was.frames
-  pub view : now.seat.side.view ≡ record was.seat.side.view { gone = now.seat.side.view.gone; looks = now.seat.side.view.looks }
+  pub sees : ((now.gone ≡ was.gone)
+      × ((now.seat.side.view ≡ was.seat.side.view) ⊎ NicOnlySaw (NotLeft was.gone) was.seat.side.view now.seat.side.view))
+      ⊎ ((now.gone ≡ was.gone + 1) × (now.seat.side.view ≡ saw_leave was.seat.side.view was.gone))
 
 -- ---- what the reading sends
 

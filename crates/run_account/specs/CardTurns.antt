@@ -1,6 +1,7 @@
 -- All that the card does in a run: turns, steps for what the reading beside it sends, looks ahead, and looks for leaves.
-use Rattle.std.specs.Prelude.{◌≡◌, ℕ, ◌≤◌, List, []}
-use Rattle.board_face.specs.{Opened.{new_nic_view}, declared.views.{parts.Setting.{Setting}, nic.{NicLook.{NicLook}, NicView.{NicView}}}}
+use Rattle.std.specs.Prelude.{◌≡◌, ◌⊎◌, ℕ, ◌≤◌, List, []}
+use Rattle.board_face.specs.{NicCalls.{NicOnlySaw}, NicEvents.{saw_leave}, Opened.{new_nic_view}}
+use Rattle.board_face.specs.declared.views.{parts.Setting.{Setting}, nic.{NicLook.TheVariants.{NotLeft}, NicView.{NicView}}}
 use Rattle.page_pool.specs.Searching.{LooksAhead}
 use Rattle.card_feed.specs.{Feed.{FeedState, WantsRecord, new_feed}, Turns.{FeedPlays, FeedSteps, MayArrive, OnlyReads, ReadsOne}, declared.arrived.Arrived.{Arrived}}
 use Rattle.run_account.specs.Behind.{Behind}
@@ -23,6 +24,10 @@ pub record ReadsAndPlays (ports : List ℕ) (was : CardMoment) (now : FeedState)
   pub waits : ¬ WantsRecord was.feed → (read ≡ was.feed) × (more ≡ was.frames)
   pub plays : FeedPlays read now was.view new
 
+-- It looked whether an application has left: it has, or it hasn't yet.
+abbrev pub LooksForLeave : NicView → NicView → Type 0
+LooksForLeave old new = (app : ℕ) × ((new ≡ saw_leave old app) ⊎ NicOnlySaw (NotLeft app) old new)
+
 -- The card took a turn; or a step for what came; or it looked for so many buffers, before it offers a frame that needs them; or it looked
 -- whether applications have left.
 pub data CardActs (ports : List ℕ) (split : ℕ) (was : CardMoment) : CardMoment → Type 0 where
@@ -31,8 +36,7 @@ pub data CardActs (ports : List ℕ) (split : ℕ) (was : CardMoment) : CardMome
       → (step : FeedSteps ports split was.frames came was.feed now was.view new) → CardActs ports split was (card_moment step.more now new)
   prepares : (need : ℕ) (now : FeedState) (new : NicView) → need ≤ 64 → LooksAhead need was.feed.pool now.pool was.view new
       → now ≡ record was.feed { pool = now.pool } → CardActs ports split was (card_moment was.frames now new)
-  sees : (gone : List ℕ) (looks : List NicLook)
-      → CardActs ports split was (card_moment was.frames was.feed (record was.view { gone = gone; looks = looks }))
+  sees : (new : NicView) → LooksForLeave was.view new → CardActs ports split was (card_moment was.frames was.feed new)
 
 -- All that it did since nothing was read and nothing seen at its side, and the frames that it read meanwhile.
 abbrev pub CardTurns : List ℕ → ℕ → List (List ℕ) → FeedState → NicView → Type 0

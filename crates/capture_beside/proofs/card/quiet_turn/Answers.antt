@@ -13,6 +13,6 @@ returns g c =
     record {
       goes = goes_turn was came_by now now Nothing c.requires.ready
           (record { seat = refl; feed = refl; ring = consumer-same was.frames; came_is = refl; gone = refl }) _
-          step.ready step.beside step.ports refl step.steps (record { board = refl; feed = refl; frames = refl; view = refl });
+          step.ready step.beside step.ports refl step.steps (record { board = refl; feed = refl; frames = refl; sees = inl (refl, inl refl) });
       did = λ is. inl (when-so _ c.nic_step-did.result is step.answer);
     }
