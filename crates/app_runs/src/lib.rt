@@ -13,6 +13,8 @@ mod forward;
 #[cfg(test)]
 mod moody;
 #[cfg(test)]
+mod parts;
+#[cfg(test)]
 mod plain;
 #[cfg(test)]
 mod pouring;

@@ -68,7 +68,8 @@ fn with_note(
     note: &Note,
     frames: &mut Vec<PlainFrame>,
 ) -> Result<(), AllocError>
-    ensures { OnOk result (frames.new.items ≡ with_note (record { number = number; note = note.now }) frames.old.items) }
+    ensures { OnOk result
+        (frames.new.items ≡ with_note (record { number = number; note = note.now }) frames.old.items) }
 {
     let mut marks = marks_of_note(alloc, number, note.place.len)?;
     if !frames.is_empty() && frames[0].number == note.frame {
@@ -94,7 +95,8 @@ fn frames_of(
     taken: &[TakenNote],
 ) -> Result<(u32, Vec<PlainFrame>), AllocError>
     ensures base { IfOk result (λ r. r.0 ≡ base_of (of_flow flow (numbered 0 taken.now))) }
-    ensures frames { IfOk result (λ r. r.1.items ≡ frames_of (of_flow flow (numbered 0 taken.now))) }
+    ensures frames { IfOk result
+        (λ r. r.1.items ≡ frames_of (of_flow flow (numbered 0 taken.now))) }
 {
     let mut base = 0u32;
     let mut frames = Vec::new(alloc);
@@ -144,7 +146,8 @@ impl PlainPlaced {
 
     /// The marks up to the first position where none stands.
     fn front(&self, alloc: Global) -> Result<Vec<PlainMark>, AllocError>
-        ensures front { IfOk result (λ front. front.items ≡ front_of (placed_in self.now.marks.items self.now.top)) }
+        ensures front { IfOk result
+            (λ front. front.items ≡ front_of (placed_in self.now.marks.items self.now.top)) }
     {
         let mut front = Vec::new(alloc);
         for position in 0..self.top {
@@ -158,7 +161,8 @@ impl PlainPlaced {
 
     /// The least position where none stands.
     fn next_missing(&self, alloc: Global) -> Result<u64, AllocError>
-        ensures exact { IfOk result (λ n. n ≡ next_missing (placed_in self.now.marks.items self.now.top)) }
+        ensures exact { IfOk result
+            (λ n. n ≡ next_missing (placed_in self.now.marks.items self.now.top)) }
         ensures small { IfOk result (λ n. n < 2 ^ 63) }
     {
         Ok(self.front(alloc)?.len() as u64)
@@ -167,7 +171,8 @@ impl PlainPlaced {
     /// Places the marks from the position `from` less 2^31 on, as far as that isn't below 0.
     fn fill(&mut self, from: u64, marks: &[PlainMark]) -> Result<(), AllocError>
         requires { from ≤ 2 ^ 62 + 2 ^ 31 }
-        ensures { OnOk result (placed_in self.new.marks.items self.new.top ≡ filled (placed_in self.old.marks.items self.old.top) from marks.now) }
+        ensures { OnOk result (placed_in self.new.marks.items self.new.top
+            ≡ filled (placed_in self.old.marks.items self.old.top) from marks.now) }
     {
         for (i, mark) in marks.iter().enumerate() {
             self.marks.push((from + i as u64, *mark))?;
@@ -179,7 +184,8 @@ impl PlainPlaced {
 
     /// Takes what was taken of a frame: it is judged as a whole, and what is there enters.
     fn receive(&mut self, alloc: Global, base: u32, frame: &PlainFrame) -> Result<(), AllocError>
-        ensures { OnOk result (placed_in self.new.marks.items self.new.top ≡ received_frame base (placed_in self.old.marks.items self.old.top) frame.now) }
+        ensures { OnOk result (placed_in self.new.marks.items self.new.top
+            ≡ received_frame base (placed_in self.old.marks.items self.old.top) frame.now) }
     {
         let n = self.next_missing(alloc)?;
         let ahead = lead(base, n, frame.seq);
@@ -193,7 +199,8 @@ impl PlainPlaced {
 
 /// What stands after these frames were received.
 fn receive_all(alloc: Global, base: u32, frames: &[PlainFrame]) -> Result<PlainPlaced, AllocError>
-    ensures { IfOk result (λ placed. placed_in placed.marks.items placed.top ≡ received_frames base nothing_placed frames.now) }
+    ensures { IfOk result
+        (λ placed. placed_in placed.marks.items placed.top ≡ received_frames base nothing_placed frames.now) }
 {
     let mut placed = PlainPlaced {
         marks: Vec::new(alloc),

@@ -22,25 +22,25 @@ use zr_kinds::Stopped;
 
 /// What is poured: the card's steps, and what has to come of it.
 #[derive(Clone, Copy)]
-struct Row<'a> {
-    name: &'a str,
+pub struct Row<'a> {
+    pub name: &'a str,
     /// Which of the shelf's calls fail, and behind how many bytes.
-    fails: &'a [(u64, usize)],
-    steps: &'a [Step<'a>],
-    streams: &'a [(u32, &'a [u8])],
-    line: Line,
+    pub fails: &'a [(u64, usize)],
+    pub steps: &'a [Step<'a>],
+    pub streams: &'a [(u32, &'a [u8])],
+    pub line: Line,
     /// How many bytes of each flow were written.
-    flows: &'a [(u32, u64)],
+    pub flows: &'a [(u32, u64)],
 }
 
 impl Row<'_> {
     /// A shelf for four flows.
-    fn shelf(&self, alloc: Global) -> Result<MemShelf, AllocError> {
+    pub fn shelf(&self, alloc: Global) -> Result<MemShelf, AllocError> {
         MemShelf::new(alloc, 4, 64, self.fails.to_vec(alloc)?)
     }
 
     /// Compares what was poured.
-    fn compare(&self, rt: &impl Abort, poured: &Poured, shelf: &MemShelf) {
+    pub fn compare(&self, rt: &impl Abort, poured: &Poured, shelf: &MemShelf) {
         let line = Line(poured.written, poured.loans, poured.copied, poured.stopped);
         same_line(rt, self.name, line, self.line);
         went(rt, self.name, 0, poured.flows.as_slice() == self.flows);
@@ -109,7 +109,7 @@ fn pours_by_polls<R: Abort + Wait + RandomSource + AllocGlobal>(
 }
 
 /// The card makes its steps and ends, and deals with entries until the application is done.
-pub fn serve<R: Abort + Wait>(
+fn serve<R: Abort + Wait>(
     rt: &R,
     card: &mut Card<'_>,
     name: &str,
@@ -140,7 +140,7 @@ fn pour<R: Wait + RandomSource + AllocGlobal, F: Future>(
 }
 
 /// Both side by side.
-fn join_both<R: Threads + Wait + Abort + RandomSource + AllocGlobal + Sync, F: Future + Send>(
+pub fn join_both<R: Threads + Wait + Abort + RandomSource + AllocGlobal + Sync, F: Future + Send>(
     rt: &R,
     work: F,
     card: &mut Card<'_>,

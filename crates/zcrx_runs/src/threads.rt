@@ -13,8 +13,11 @@ use std::sync::Wait;
 use std::test::Fail;
 use std::thread::Threads;
 
-/// How often a run is held up in another way.
-const RUNS: u32 = 200;
+/// How often a short run is held up in another way. Each role is, also where all go round in one thread.
+const RUNS: u32 = 40;
+
+/// How often a long one is.
+const LONG_RUNS: u32 = 10;
 
 /// What comes of two applications that keep their first two loans and stop at 100 bytes, each with two pieces of 80.
 const LEFT_EARLY: &str = "\
@@ -118,11 +121,10 @@ fn four_streams(alloc: Global, count: usize) -> Result<Vec<Vec<u8>>, Fail> {
     Ok(all)
 }
 
-/// Replays four flows with these options, held up in so many ways: each stream has so many bytes.
+/// Replays four flows with these options, held up in each way: each stream has so many bytes.
 fn check_four(
     rt: &(impl AllocGlobal + RandomSource + Threads + Wait + Sync),
     options: &str,
-    runs: u32,
     count: usize,
     report: &str,
 ) -> Result<(), Fail> {
@@ -138,7 +140,7 @@ fn check_four(
         stream_room: LONG,
         ..faultless(&made)
     };
-    for number in 0..runs {
+    for number in 0..LONG_RUNS {
         check_once(rt, &given, &Delay::of_run(number, 4), &streams, report)?;
     }
     Ok(())
@@ -177,29 +179,23 @@ status 0
 /// Four applications with threads of their own have the same streams and counts whoever is held up.
 #[test]
 fn four_flows_go_alike_whoever_is_held_up(rt: HostRuntime) -> Result<(), Fail> {
-    check_four(&rt, "", RUNS, LONG, FOUR_FLOWS)
+    check_four(&rt, "", LONG, FOUR_FLOWS)
 }
 
 /// So have four that are polled.
 #[test]
 fn four_polled_flows_go_alike_whoever_is_held_up(rt: HostRuntime) -> Result<(), Fail> {
-    check_four(&rt, "--polled ", RUNS / 4, LONG, FOUR_FLOWS)
+    check_four(&rt, "--polled ", LONG, FOUR_FLOWS)
 }
 
 /// And four that forward.
 #[test]
 fn four_forwarded_flows_go_alike_whoever_is_held_up(rt: HostRuntime) -> Result<(), Fail> {
-    check_four(&rt, "--forward=5 ", RUNS / 4, LONG, FOUR_FLOWS)
+    check_four(&rt, "--forward=5 ", LONG, FOUR_FLOWS)
 }
 
 /// Four applications that quit scrub beside a card that goes on, take the rest of their notes, and leave every buffer free.
 #[test]
 fn four_applications_leave_early(rt: HostRuntime) -> Result<(), Fail> {
-    check_four(
-        &rt,
-        "--leak 3 --quit 100000 ",
-        RUNS / 4,
-        100_000,
-        FOUR_LEFT_EARLY,
-    )
+    check_four(&rt, "--leak 3 --quit 100000 ", 100_000, FOUR_LEFT_EARLY)
 }
