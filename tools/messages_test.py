@@ -65,6 +65,8 @@ def replay(name, given, status, *texts, **options):
 
 def readings():
     replay("whole", HELLO, 0)
+    replay("no port", HELLO.replace(b"\x23\x28", b"\x23\x29"), 0, "no stream was written", "its destination")
+    replay("no payload", frames.FILE_HEADER, 0, "no stream was written")
     replay("empty", b"", 6, "status 6: standard input is empty")
     replay("cut", HELLO[:-1], 6, "status 6: the capture ends within", "(at record 1, behind 24 bytes)")
     replay("second record", HELLO + bytes(15), 6, "(at record 2, behind 99 bytes)")
@@ -85,7 +87,7 @@ def blocks():
     """Captures of blocks, and at which block each fault lies."""
     small = pcapng_rows.SMALL
     packet, last = 48, len(small) - 20
-    replay("blocks", small, 0)
+    replay("blocks", small, 0, "no stream was written")
     replay("section cut", small[:27], 6, "status 6: the capture ends within", "(at the block behind 0 bytes)")
     replay("packet cut", small[:-21], 6, "status 6", f"(at record 1, the block behind {packet} bytes)")
     replay("last block", small[:-1] + b"\x01", 13, "status 13: a block of the pcapng capture", f"(at record 2, the block behind {last} bytes)")

@@ -17,7 +17,7 @@ mod unfit;
 use descriptors::{hold_closed_streams, spare_files};
 use file_shelf::FileShelf;
 use front::Front;
-use messages::{say_lost, say_status, say_unfit, say_usage};
+use messages::{say_lost, say_none, say_status, say_unfit, say_usage};
 use progress::{Input, Progress};
 use replay_threads::NoGate;
 use std::alloc::AllocError;
@@ -26,7 +26,7 @@ use std::io::BufReader;
 use std::process::ExitCode;
 use std::rt::{Env, Files};
 use std::sync::Wait;
-use std::sync::atomic::AtomicU64;
+use std::sync::atomic::{AtomicU64, Ordering};
 use std::thread::Threads;
 use std::{env, fs, io};
 use top_call::{Card, SHELVES, zcrx};
@@ -128,6 +128,9 @@ fn start(rt: &HostRuntime, threads: &(impl Threads + Wait + Sync)) -> Result<u8,
     }
     say_lost(rt, &shelves);
     let replays = matches!(read, Some(Input::Capture));
+    if replays && status == 0 && flows.load(Ordering::SeqCst) == 0 {
+        say_none(rt);
+    }
     say_status(rt, replays, status, source.bytes(), source.place());
     Ok(status)
 }

@@ -149,6 +149,13 @@ pub(crate) fn say_usage(rt: &HostRuntime, words: &[&str]) {
     let _ = eprint!(rt; "{USAGE}");
 }
 
+/// Says that a replay that went well wrote no stream.
+pub(crate) fn say_none(rt: &HostRuntime) {
+    let _ = eprintln!(rt;
+        "zcrx: no stream was written; a flow is one direction, and a port its destination"
+    );
+}
+
 /// Says which stream was lost first at each shelf that failed, and why.
 pub(crate) fn say_lost<R: Files + AllocGlobal + Drop>(
     rt: &HostRuntime,
