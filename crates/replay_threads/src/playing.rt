@@ -6,11 +6,14 @@ ghost use Rattle.app_lanes.specs.Lanes.{AllGo};
 
 use app_lanes::{Sits, have_left, lanes_go_on, round, run_lanes};
 use capture_beside::{CardLane, Pace, Reader, Went, join_reading, paced_turn, read_turn};
-use run_loops::{Gate, IDLE, Loops};
+use run_loops::{Gate, Loops};
 use std::alloc::Global;
 use std::sync::Wait;
 use std::thread::{Threads, available_parallelism, join_mut};
 use zr_io::Source;
+
+/// How many rounds at most come one behind another, before it is tried with threads again.
+const ROUNDS: u32 = 100_000;
 
 /// The loops of all.
 fn join_loops<S: Source + Send, W: Sits + Send, G: Gate + Sync, R: Threads + Wait + Sync>(
@@ -112,7 +115,7 @@ fn play_rounds<S: Source, W: Sits + Send, G: Gate + Sync, R: Threads + Sync>(
     lanes_go_on::<W>();
     let beside = Loops::new();
     let mut pace = Pace::new(free);
-    for _ in 0..IDLE {
+    for _ in 0..ROUNDS {
         if are_over(card, lanes) {
             return true;
         }

@@ -7,8 +7,9 @@ use std::array;
 use std::sync::Wait;
 use std::sync::atomic::{AtomicBool, AtomicU64, Ordering};
 
-/// How many looks or turns in a row may come to nothing before a loop ends.
-pub const IDLE: u32 = 100_000;
+/// How many looks or turns in a row may come to nothing before a loop ends. Where the card takes no turns each leaves the processor
+/// to whoever wants it, which may take a millisecond.
+pub const IDLE: u32 = 1_000;
 
 /// How many looks in a row a loop waits for others to begin: half a second at least.
 const BEGINNING: u32 = 200;
