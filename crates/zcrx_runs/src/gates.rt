@@ -26,6 +26,20 @@ pub fn waits_for(number: &AtomicU64, wanted: u64) -> bool {
     false
 }
 
+/// Names a number of processors.
+#[derive(Drop)]
+pub struct Names {
+    pub processors: Option<usize>,
+}
+
+impl Gate for Names {
+    fn at(&self, _who: u32, _turn: u64) {}
+
+    fn processors(&self) -> Option<usize> {
+        self.processors
+    }
+}
+
 /// Holds one role up before turns that are drawn. In every fourth run all go round in one thread.
 #[derive(Drop)]
 pub struct Delay {

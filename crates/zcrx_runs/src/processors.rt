@@ -1,7 +1,6 @@
 //! Over which board a replay without a text of turns goes.
 
-use super::gates::{APART, TOGETHER};
-use replay_threads::Gate;
+use super::gates::{APART, Names, TOGETHER};
 use run_driver::shelves_for;
 use sample_captures::{PSH_ACK, capture_of, to_9000};
 use std::collections::hash_map::RandomState;
@@ -11,20 +10,6 @@ use std::test::Fail;
 use std::thread::Threads;
 use top_call::{Card, SHELVES, zcrx};
 use zr_io::{MemSink, MemSource};
-
-/// Names a number of processors.
-#[derive(Drop)]
-struct Names {
-    processors: Option<usize>,
-}
-
-impl Gate for Names {
-    fn at(&self, _who: u32, _turn: u64) {}
-
-    fn processors(&self) -> Option<usize> {
-        self.processors
-    }
-}
 
 /// Words, and for how many processors they are run.
 #[derive(Clone, Copy)]
