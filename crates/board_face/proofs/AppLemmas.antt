@@ -1,18 +1,19 @@
 -- What each event of an application does to the counts of every buffer.
-use Rattle.std.proofs.Common.{◌≡◌, ℕ, ◌+◌, ◌-◌, ◌≤◌, min, Bool, true, false, cond, List, [], ◌∷◌, ◌++◌, length, drop, set, refl, ap, ◌∙◌, arith, length-append, add-one}
-use Rattle.std.specs.Prelude.{if◌then◌else◌, filter, ◌==◌, ◌&&◌, slice_index}
-use Rattle.zr_kinds.{specs.declared.place.{Place.{Place}, Note.{Note}}, proofs.Lists.{drop-after}}
-use Rattle.board_face.specs.{Lists.{same_place}, Tokens.{filled_by, same_filling}, Texts.{further, front_place, rest_place}, NicEvents.{fresh}}
-use Rattle.board_face.specs.AppEvents.{took_note, took_linear, held_origin, helds_without, cut, released, lent, loan_origin, loans_without, abandoned, gave}
+use Rattle.std.proofs.Common.{◌∷◌, [], ◌++◌, ◌≡◌, ℕ, ◌+◌, ◌-◌, ◌≤◌, min, Bool, true, false, List, length, set, refl, ap, arith}
+use Rattle.board_face.{proofs.Parts.{app-users}, specs.{Holdings.{used}, BoardSteps.{polls, polls_linear, cuts, releases, lends, spares, fills, lends_own}}}
+use Rattle.board_face.{proofs.{AppExchange.{back-exchange}, Counted.{app-pool, app-counts}}, specs.Tokens.{same_filling}}
+use Rattle.std.specs.Prelude.{if◌then◌else◌, ◌==◌, ◌&&◌, slice_index}
+use Rattle.zr_kinds.{specs.declared.place.{Place.{Place}, Note.{Note}}}
+use Rattle.board_face.specs.AppEvents.{took_note, took_linear, held_origin, cut, released, lent, loan_origin, abandoned, gave}
 use Rattle.board_face.specs.{AppEvents.{got_spare, owns_without, filled, own_bytes, begin_place, lent_own, scrubbed}, AppCalls.{HasHeld, HasLoan, HasSpare}}
-use Rattle.board_face.specs.{Sides.{app_at, IsApp}, Holders.{sent_to, on_way, ended_in, returning_count}, Counts.{pool_count, user_count, EndedWereReturned}}
-use Rattle.board_face.specs.declared.views.{parts.Filling.{Filling}, nic.{SentNote.{SentNote}, NicSide.{NicSide}}, app.{HeldPiece.{HeldPiece}, LentPiece.{LentPiece}}}
-use Rattle.board_face.specs.declared.views.app.{SpareOwn.{SpareOwn}, TakenNote.{TakenNote}, AppView.{AppView}, AppSide.{AppSide}}
-use Rattle.board_face.specs.declared.views.app.Origin.TheVariants.{Note as of_note, Copied as of_copy}
-use Rattle.board_face.proofs.ListLemmas.{same_place-refl, same_filling-refl, same_place-is, same_filling-is}
-use Rattle.board_face.proofs.Tallies.{weight, tally, tally-append, tally-push, tally-without, total-set}
-use Rattle.board_face.proofs.Parts.{app_count, user_part, notes_in, loans_in, came_back_in, owed_count, returned_in-count, pool_count-parts, user_count-parts}
+use Rattle.board_face.specs.{Sides.{app_at, IsApp}, Holders.{ended_in, returning_count}, Counts.{pool_count, user_count, EndedWereReturned}}
+use Rattle.board_face.specs.declared.views.{parts.Filling.{Filling}, nic.{NicSide.{NicSide}}, app.{LentPiece.{LentPiece}}}
+use Rattle.board_face.{specs.declared.views.app.{SpareOwn.{SpareOwn}, AppView.{AppView}, AppSide.{AppSide}}, proofs.ListLemmas.{same_filling-refl, same_filling-is}}
+use Rattle.board_face.specs.declared.views.app.Origin.TheVariants.{Copied as of_copy}
+use Rattle.board_face.proofs.Tallies.{weight, tally, tally-push, tally-without, total-set}
+use Rattle.board_face.proofs.Parts.{app_count, user_part, loans_in, came_back_in, owed_count, returned_in-count, pool_count-parts, user_count-parts}
 use Rattle.board_face.{proofs.Counting.{weight-and}, specs.Laws.{IsNextNote}}
+pub use Rattle.board_face.proofs.WayLemmas.{after-taken}
 
 -- ---- one application's part
 
@@ -51,63 +52,17 @@ user_part-kept x b nic app w same loans returned = rw (same, loans, returned) re
 
 -- ---- notes
 
-pub after-taken : (nic : NicSide) (app : AppSide) (t : TakenNote) (next : SentNote) (rest : List SentNote) → on_way nic app ≡ next ∷ rest
-    → drop (length (app.view.taken ++ t ∷ [])) (sent_to app.view.app nic) ≡ rest
-after-taken nic app t next rest way = rw (length-append app.view.taken (t ∷ []))
-    (simp add-one (drop-after (length app.view.taken) (sent_to app.view.app nic) next rest way))
-
-split_case : (b : ℕ) (c : Bool) (s : SentNote) (rest : List SentNote)
-    → tally (λ (x : SentNote). x.note.place.buffer == b) (cond c (s ∷ rest) rest)
-    ≡ weight (c && (s.note.place.buffer == b)) + tally (λ (x : SentNote). x.note.place.buffer == b) rest
-split_case b true s rest = refl
-split_case b false s rest = omega arith
-
-notes_in-cons : (b : ℕ) (s : SentNote) (rest : List SentNote)
-    → notes_in b (s ∷ rest) ≡ weight (s.note.split && (s.note.place.buffer == b)) + notes_in b rest
-notes_in-cons b s rest = split_case b s.note.split s (filter (λ (x : SentNote). x.note.split) rest)
-
--- what the note that is taken adds to those on their way
-way-next : (b : ℕ) (nic : NicSide) (app : AppSide) (note : Note) (t : TakenNote) → IsNextNote nic app note
-    → notes_in b (on_way nic app) ≡ weight (note.split && (note.place.buffer == b)) + notes_in b
-    (drop (length (app.view.taken ++ t ∷ [])) (sent_to app.view.app nic))
-way-next b nic app note t next =
-    let gone = ap (notes_in b) (after-taken nic app t next.next next.rest next.way) in
-    let was = ap (notes_in b) next.way ∙ notes_in-cons b next.next next.rest in
-    let one = ap (λ (n : Note). weight (n.split && (n.place.buffer == b))) next.same in
-    omega (arith, gone, was, one)
-
 -- a piece that is taken only changes its kind
 pub app_count-took_note : (b : ℕ) (nic : NicSide) (app : AppSide) (note : Note) → IsNextNote nic app note → note.split ≡ true
     → app_count b nic (app_at app (took_note app.view note)) ≡ app_count b nic app
-app_count-took_note b nic app note next split =
-    let one : weight (note.split && (note.place.buffer == b)) ≡ weight (note.place.buffer == b) = ap (λ c. weight (c && (note.place.buffer == b))) split in
-    omega (
-      arith,
-      one,
-      way-next b nic app note (record { note = note; bytes = [] }) next,
-      tally-push (λ (h : HeldPiece). h.place.buffer == b) app.view.helds (record { place = note.place; origin = of_note (length app.view.taken) 0 }),
-    )
+app_count-took_note b nic app note next split = omega (arith, app-counts (polls note) b nic app (split, next))
 
 -- a note in which its bytes travelled held nothing
 pub app_count-took_linear : (b : ℕ) (nic : NicSide) (app : AppSide) (note : Note) (bytes : List ℕ) → IsNextNote nic app note → note.split ≡ false
     → app_count b nic (app_at app (took_linear app.view note bytes)) ≡ app_count b nic app
-app_count-took_linear b nic app note bytes next split =
-    let none : weight (note.split && (note.place.buffer == b)) ≡ 0 = ap (λ c. weight (c && (note.place.buffer == b))) split in
-    omega (arith, none, way-next b nic app note (record { note = note; bytes = bytes }) next)
+app_count-took_linear b nic app note bytes next split = omega (arith, app-counts (polls_linear note bytes) b nic app (split, next))
 
 -- ---- pieces
-
-helds-without : (b : ℕ) (v : AppView) (place : Place) → HasHeld v place
-    → tally (λ (h : HeldPiece). h.place.buffer == b) (helds_without v place) + weight (place.buffer == b)
-    ≡ tally (λ (h : HeldPiece). h.place.buffer == b) v.helds
-helds-without b v place out = tally-without (λ (h : HeldPiece). h.place) (same_place place) place (same_place-is place) (same_place-refl place)
-    (λ p. p.buffer == b) v.helds out
-
-loans-without : (b : ℕ) (v : AppView) (place : Place) → HasLoan v place
-    → tally (λ (l : LentPiece). l.place.buffer == b) (loans_without v place) + weight (place.buffer == b)
-    ≡ tally (λ (l : LentPiece). l.place.buffer == b) v.loans
-loans-without b v place out = tally-without (λ (l : LentPiece). l.place) (same_place place) place (same_place-is place) (same_place-refl place)
-    (λ p. p.buffer == b) v.loans out
 
 pub owns-without : (b : ℕ) (v : AppView) (own : Filling) → HasSpare v own
     → tally (λ (s : SpareOwn). s.own.buffer == b) (owns_without v own) + weight (own.buffer == b) ≡ tally (λ (s : SpareOwn). s.own.buffer == b) v.owns
@@ -117,51 +72,39 @@ owns-without b v own out = tally-without (λ (s : SpareOwn). s.own) (same_fillin
 -- a cut piece has one holder more
 pub app_count-cut : (b : ℕ) (nic : NicSide) (app : AppSide) (place : Place) (at : ℕ) → HasHeld app.view place
     → app_count b nic (app_at app (cut app.view place at)) ≡ app_count b nic app + weight (place.buffer == b)
-app_count-cut b nic app place at out =
-    omega (
-      arith,
-      helds-without b app.view place out,
-      tally-append (λ (h : HeldPiece). h.place.buffer == b) (helds_without app.view place)
-          (record { place = front_place place at; origin = held_origin app.view place } ∷ record {
-            place = rest_place place at;
-            origin = further (held_origin app.view place) at;
-          } ∷ []),
-    )
+app_count-cut b nic app place at out = omega (arith, app-counts (cuts place at) b nic app out)
 
 -- a released piece has one less
 pub app_count-released : (b : ℕ) (nic : NicSide) (app : AppSide) (place : Place) → HasHeld app.view place
     → app_count b nic (app_at app (released app.view place)) + weight (place.buffer == b) ≡ app_count b nic app
-app_count-released b nic app place out = omega (arith, helds-without b app.view place out)
+app_count-released b nic app place out = omega (arith, app-counts (releases place) b nic app out)
 
 -- ---- loans
 
 -- a piece that is lent only changes its kind
 pub app_count-lent : (b : ℕ) (nic : NicSide) (app : AppSide) (place : Place) → HasHeld app.view place
     → app_count b nic (app_at app (lent app.view place)) ≡ app_count b nic app
-app_count-lent b nic app place out =
-    omega (
-      arith,
-      helds-without b app.view place out,
-      tally-push (λ (l : LentPiece). l.place.buffer == b) app.view.loans (record { place = place; origin = held_origin app.view place }),
-    )
+app_count-lent b nic app place out = omega (arith, app-counts (lends place) b nic app out)
 
-user_case : (c : Bool) (m n w : ℕ) → m ≡ n + w → (if c then m else 0) ≡ (if c then n else 0) + (if c then w else 0)
-user_case true m n w e = e
-user_case false m n w e = refl
+user-case : (c : Bool) (m n w : ℕ) → m ≡ n + w → (if c then m else 0) ≡ (if c then n else 0) + (if c then w else 0)
+user-case true m n w e = e
+user-case false m n w e = refl
+
+-- a loan more is one user more
+user_part-more : (x b : ℕ) (nic : NicSide) (app : AppSide) (l : LentPiece)
+    → user_part x b nic (app_at app (record app.view { loans = app.view.loans ++ l ∷ [] }))
+    ≡ user_part x b nic app + weight ((app.view.app == x) && (l.place.buffer == b))
+user_part-more x b nic app l =
+    let w = weight (l.place.buffer == b) in
+    let now = app_at app (record app.view { loans = app.view.loans ++ l ∷ [] }) in
+    let more = tally-push (λ (k : LentPiece). k.place.buffer == b) app.view.loans l in
+    let split = user-case (app.view.app == x) (loans_in b now + owed_count b nic app) (loans_in b app + owed_count b nic app) w (omega arith) in
+    omega (arith, split, weight-and (app.view.app == x) (l.place.buffer == b))
 
 -- and is one user more
 pub user_part-lent : (x b : ℕ) (nic : NicSide) (app : AppSide) (place : Place)
     → user_part x b nic (app_at app (lent app.view place)) ≡ user_part x b nic app + weight ((app.view.app == x) && (place.buffer == b))
-user_part-lent x b nic app place =
-    let more = tally-push (λ (l : LentPiece). l.place.buffer == b) app.view.loans (record { place = place; origin = held_origin app.view place }) in
-    let split = user_case (app.view.app == x) (loans_in b (app_at app (lent app.view place)) + owed_count b nic app) (loans_in b app + owed_count b nic app)
-    (weight (place.buffer == b)) (omega arith) in
-    omega (arith, split, weight-and (app.view.app == x) (place.buffer == b))
-
--- a loan that is given back or abandoned is owed: no count changes
-back : (l l' k k' h r w : ℕ) → l' + w ≡ l → k' ≡ k + w → r ≤ h → h ≤ k
-    → l' + (k' - h + min r (k' - (h - r))) ≡ l + (k - h + min r (k - (h - r)))
-back l l' k k' h r w e f small within = omega arith
+user_part-lent x b nic app place = user_part-more x b nic app (record { place = place; origin = held_origin app.view place })
 
 returned-push : (b : ℕ) (app : AppSide) (place : Place) → came_back_in b (app_at app (abandoned app.view place))
     ≡ came_back_in b app + weight (place.buffer == b)
@@ -171,25 +114,12 @@ returned-push b app place = tally-push (λ (l : LentPiece). l.place.buffer == b)
 pub app_count-abandoned : (b : ℕ) (nic : NicSide) (app : AppSide) (place : Place) → HasLoan app.view place → EndedWereReturned b nic app
     → app_count b nic (app_at app (abandoned app.view place)) ≡ app_count b nic app
 app_count-abandoned b nic app place out sound =
-    let now = app_at app (abandoned app.view place) in
-    let h = ended_in b nic app in
-    let r = returning_count b nic app in
-    let within : h ≤ came_back_in b app = rw (returned_in-count b app) at sound.ended in
-    let e = back (loans_in b app) (loans_in b now) (came_back_in b app) (came_back_in b now) h r (weight (place.buffer == b))
-    (loans-without b app.view place out) (returned-push b app place) sound.returning within in
-    omega (arith, e)
-
-users-kept : (l l' k k' h w : ℕ) → l' + w ≡ l → k' ≡ k + w → h ≤ k → l' + (k' - h) ≡ l + (k - h)
-users-kept l l' k k' h w e f within = omega arith
+    omega (arith, back-exchange nic app place out (λ h. 1) b sound, app-pool b nic app, app-pool b nic (app_at app (abandoned app.view place)))
 
 pub user_part-abandoned : (x b : ℕ) (nic : NicSide) (app : AppSide) (place : Place) → HasLoan app.view place → EndedWereReturned b nic app
     → user_part x b nic (app_at app (abandoned app.view place)) ≡ user_part x b nic app
 user_part-abandoned x b nic app place out sound =
-    let now = app_at app (abandoned app.view place) in
-    let h = ended_in b nic app in
-    let within : h ≤ came_back_in b app = rw (returned_in-count b app) at sound.ended in
-    ap (λ n. if app.view.app == x then n else 0) (users-kept (loans_in b app) (loans_in b now) (came_back_in b app) (came_back_in b now) h
-    (weight (place.buffer == b)) (loans-without b app.view place out) (returned-push b app place) within)
+    omega (arith, back-exchange nic app place out (used x) b sound, app-users x b nic app, app-users x b nic (app_at app (abandoned app.view place)))
 
 pub app_count-gave : (b : ℕ) (nic : NicSide) (app : AppSide) (place : Place) → HasLoan app.view place → EndedWereReturned b nic app
     → app_count b nic (app_at app (gave app.view place)) ≡ app_count b nic app
@@ -211,42 +141,24 @@ EndedWereReturned-abandoned b nic app place sound =
 -- a spare has one holder more
 pub app_count-got_spare : (b : ℕ) (nic : NicSide) (app : AppSide) (buffer : ℕ)
     → app_count b nic (app_at app (got_spare app.view buffer)) ≡ app_count b nic app + weight (buffer == b)
-app_count-got_spare b nic app buffer = omega (
-  arith,
-  tally-push (λ (s : SpareOwn). s.own.buffer == b) app.view.owns
-      (record { own = fresh app.view.setting buffer; bytes = [] }),
-)
+app_count-got_spare b nic app buffer = omega (arith, app-counts (spares buffer) b nic app tt)
 
 -- filling changes no count
 pub app_count-filled : (b : ℕ) (nic : NicSide) (app : AppSide) (own : Filling) (bytes : List ℕ) → HasSpare app.view own
     → app_count b nic (app_at app (filled app.view own bytes)) ≡ app_count b nic app
-app_count-filled b nic app own bytes out =
-    omega (
-      arith,
-      owns-without b app.view own out,
-      tally-push (λ (s : SpareOwn). s.own.buffer == b) (owns_without app.view own) (record { own = filled_by own (length bytes); bytes = bytes }),
-    )
+app_count-filled b nic app own bytes out = omega (arith, app-counts (fills own bytes) b nic app out)
 
 -- a spare that is lent only changes its kind
 pub app_count-lent_own : (b : ℕ) (nic : NicSide) (app : AppSide) (own : Filling) → HasSpare app.view own
     → app_count b nic (app_at app (lent_own app.view own)) ≡ app_count b nic app
-app_count-lent_own b nic app own out =
-    omega (
-      arith,
-      owns-without b app.view own out,
-      tally-push (λ (l : LentPiece). l.place.buffer == b) app.view.loans
-          (record { place = begin_place own.buffer (length (own_bytes app.view own)); origin = of_copy (own_bytes app.view own) }),
-    )
+app_count-lent_own b nic app own out = omega (arith, app-counts (lends_own own) b nic app out)
 
 -- and is one user more
 pub user_part-lent_own : (x b : ℕ) (nic : NicSide) (app : AppSide) (own : Filling)
     → user_part x b nic (app_at app (lent_own app.view own)) ≡ user_part x b nic app + weight ((app.view.app == x) && (own.buffer == b))
 user_part-lent_own x b nic app own =
-    let more = tally-push (λ (l : LentPiece). l.place.buffer == b) app.view.loans
-    (record { place = begin_place own.buffer (length (own_bytes app.view own)); origin = of_copy (own_bytes app.view own) }) in
-    let split = user_case (app.view.app == x) (loans_in b (app_at app (lent_own app.view own)) + owed_count b nic app) (loans_in b app + owed_count b nic app)
-    (weight (own.buffer == b)) (omega arith) in
-    omega (arith, split, weight-and (app.view.app == x) (own.buffer == b))
+    user_part-more x b nic app
+    (record { place = begin_place own.buffer (length (own_bytes app.view own)); origin = of_copy (own_bytes app.view own) })
 
 -- ---- scrubbing
 

@@ -1,31 +1,33 @@
 -- The places of a buffer stay as they are to be under each event: none is empty, none ends behind the buffer, no byte lies
 -- in two, and none ends behind where the card fills next.
-use Rattle.std.proofs.Common.{◌≡◌, ℕ, ◌+◌, ◌-◌, ◌<◌, ◌≤◌, Bool, true, false, cond, List, [], ◌∷◌, ◌++◌, length, get_or, set}
+use Rattle.std.{specs.Prelude.{◌≢◌}, proofs.Common.{◌≡◌, ℕ, ◌+◌, ◌-◌, ◌<◌, ◌≤◌, Bool, true, false, cond, List, [], ◌∷◌, ◌++◌, length, get_or, set}}
+use Rattle.board_face.proofs.Counting.{All-none as none-of}
+use Rattle.zr_kinds.{proofs.Booleans.{if-none}, specs.declared.place.{Place.{Place}, Note.{Note}}}
+use Rattle.board_face.{specs.BoardSteps.{AppStep, AppCan, app_view, lends, spares}, proofs.PlacesByEvent.{app_places-then}}
+use Rattle.board_face.specs.Holdings.{app_ends, app_begins, weight as weights}
+use Rattle.board_face.proofs.PlaceTallies.{placed as placed_test}
 use Rattle.std.proofs.Common.{drop, refl, ap, subst, ⊎_elim, arith, length-drop, length-take}
-use Rattle.std.specs.Prelude.{filter, ◌==◌, ◌&&◌, nat_lt, nat_le, count_by, All, slice_index, Contains, Some, None}
-use Rattle.std.proofs.lemmas.Bool.{eq-eqb, cases_lt, lt-ltb, le-ltb, lt-leb, le-leb, Decides.{eqb_tells}}
-use Rattle.std.proofs.lemmas.List.Elements.{All-nil, All-cons, All-push, All-weaker, All-contains}
-use Rattle.zr_kinds.specs.declared.{place.{Place.{Place}, Note.{Note}}, ring.Rqe.{Rqe}}
+use Rattle.std.specs.Prelude.{filter, ◌==◌, ◌&&◌, nat_lt, nat_le, count_by, All, Contains, Some, None}
+use Rattle.std.proofs.lemmas.{Bool.{eq-eqb, cases_lt, lt-ltb, le-ltb, lt-leb, le-leb, Decides.{eqb_tells}}, List.Elements.{All-push, All-weaker, All-contains}}
 use Rattle.area_layout.specs.Layout.{IsLayout, size_of}
 use Rattle.board_face.specs.{Lists.{without}, Tokens.{next_start, next_place, filled_by, same_filling}, Texts.{front_place, rest_place}}
-use Rattle.board_face.specs.NicEvents.{begun, text_done, fresh, took, swept, placed, sent, sent_linear, shut, passed_over, honoured}
-use Rattle.board_face.specs.AppEvents.{took_note, took_linear, cut, released, lent, abandoned, gave, spare_begun, got_spare, owns_without, filled, own_bytes}
+use Rattle.board_face.specs.NicEvents.{begun, text_done, fresh, took, swept, placed, sent, sent_linear, shut}
+use Rattle.board_face.specs.AppEvents.{cut, released, lent, abandoned, gave, spare_begun, owns_without, filled, own_bytes}
 use Rattle.board_face.specs.{AppEvents.{begin_place, lent_own}, NicCalls.{HasOwn, HasPiece}, AppCalls.{HasHeld, HasLoan, HasSpare, IsFilled}}
 use Rattle.board_face.specs.Sides.{nic_at, app_at, IsApp, AreNumbered}
 use Rattle.board_face.specs.Holders.{sent_to, on_way, returned_in, ended_in, returning_count, owed_in, returning_in, making_places}
 use Rattle.board_face.specs.{Counts.{pool_count, EndedWereReturned}, Fillings.{IsFilledByOne, FillingsFit}}
 use Rattle.board_face.specs.{Places.{places_of, has_byte, is_empty, ends_behind, ArePlaced}, declared.views.parts.{Filling.{Filling}, Making.{Making}}}
 use Rattle.board_face.specs.declared.views.{nic.{PlacedText.{PlacedText}, SentNote.{SentNote}, NicView.{NicView}, NicSide.{NicSide}}, app.HeldPiece.{HeldPiece}}
-use Rattle.board_face.specs.declared.views.app.{LentPiece.{LentPiece}, SpareOwn.{SpareOwn}, AppView.{AppView}, AppSide.{AppSide}}
+use Rattle.board_face.specs.declared.views.app.{LentPiece.{LentPiece}, SpareOwn.{SpareOwn}, AppSide.{AppSide}}
 use Rattle.board_face.proofs.{ListLemmas.{All-without, not-eqb}, Tallies.{total-le, weight, tally, tally-le, tally-push, weight-le, total-set}}
 use Rattle.board_face.proofs.{Parts.{owns_in, spares_in, app_count, returned_in-count, pool_count-parts, count-tally}, NicLemmas.{making_at, owns-without}}
-use Rattle.board_face.proofs.AppLemmas.{SameHoldings, scrubbed_side, pool_count-app, owns-without as spares-without}
+use Rattle.board_face.proofs.AppLemmas.{pool_count-app, owns-without as spares-without}
 use Rattle.board_face.proofs.PlaceTallies.{in_buffer, piece_places, app_places, places-parts}
 use Rattle.board_face.proofs.PlacesByEvent.{places-stretch, places-nic, places-placed, places-begun, places-text_done, places-making, places-sent}
-use Rattle.board_face.proofs.PlacesByEvent.{places-sent_linear, places-honoured, places-passed_over, places-app, app_places-same, app_places-took_note}
-use Rattle.board_face.proofs.PlacesByEvent.{app_places-took_linear, app_places-cut, app_places-released, app_places-lent, app_places-abandoned}
-use Rattle.board_face.proofs.{PlacesByEvent.{app_places-got_spare, app_places-lent_own, app_places-scrubbed}, IsFilledByOneLemmas.{fillings-one, fillings-alone}}
-use Rattle.board_face.{proofs.FillingsFitLemmas.{FillingsFit-own, FillingsFit-spare, few-within}, specs.Laws.{IsNextNote}}
+use Rattle.board_face.proofs.PlacesByEvent.{places-sent_linear, places-app, app_places-cut, app_places-released, app_places-abandoned}
+use Rattle.board_face.proofs.{PlacesByEvent.{app_places-lent_own}, IsFilledByOneLemmas.{fillings-one, fillings-alone}}
+use Rattle.board_face.{proofs.FillingsFitLemmas.{FillingsFit-own, FillingsFit-spare, few-within}}
 
 -- ---- a buffer has no more places than holders
 
@@ -123,76 +125,73 @@ ArePlaced-fewer b nic nic' apps apps' setting fewer owns sound =
           (λ o is here. none-more (ends_behind o.start) ps ps' (fewer _) (is here)) nic'.view.owns owns;
     }
 
--- an event of the card that leaves its pieces, notes and entries
-pub ArePlaced-owns : (b : ℕ) (nic : NicSide) (v : NicView) (apps : List AppSide) → v.setting ≡ nic.view.setting → v.pieces ≡ nic.view.pieces
-    → v.sent ≡ nic.view.sent → v.dealt ≡ nic.view.dealt → All (IsBehind b nic apps) v.owns
-    → ArePlaced b nic apps → ArePlaced b (nic_at nic v) apps
-ArePlaced-owns b nic v apps setting pieces sents deals owns sound =
-    let same : (test : Place → Bool) → piece_places b test (nic_at nic v) ≡ piece_places b test nic = λ test. rw pieces refl in
-    ArePlaced-fewer b nic (nic_at nic v) apps apps setting (λ test. omega (arith, same test, places-nic b test nic v apps sents deals)) owns sound
+module _ (b : ℕ) (nic : NicSide) (apps : List AppSide) where
+  -- it stays so where the card's side is this
+  abbrev pub CardStays : NicSide → Type 0
+  CardStays now = ArePlaced b nic apps → ArePlaced b now apps
 
--- and its buffers for filling too
-pub ArePlaced-nic : (b : ℕ) (nic : NicSide) (v : NicView) (apps : List AppSide) → v.setting ≡ nic.view.setting → v.owns ≡ nic.view.owns
-    → v.pieces ≡ nic.view.pieces → v.sent ≡ nic.view.sent → v.dealt ≡ nic.view.dealt
-    → ArePlaced b nic apps → ArePlaced b (nic_at nic v) apps
-ArePlaced-nic b nic v apps setting owns pieces sents deals sound = ArePlaced-owns b nic v apps setting pieces sents deals (rw owns sound.behind) sound
+  -- the card's buffers for filling are the same
+  pub ArePlaced-card : (now : NicSide) → now.view.setting ≡ nic.view.setting → now.view.owns ≡ nic.view.owns
+      → ((test : Place → Bool) → tally test (places_of b now apps) ≤ tally test (places_of b nic apps)) → CardStays now
+  ArePlaced-card now setting owns fewer sound = ArePlaced-fewer b nic now apps apps setting fewer (rw owns sound.behind) sound
 
-pub ArePlaced-swept : (b : ℕ) (nic : NicSide) (apps : List AppSide) (word : ℕ) (found : List ℕ) → ArePlaced b nic apps
-    → ArePlaced b (nic_at nic (swept nic.view word found)) apps
-ArePlaced-swept b nic apps word found sound = ArePlaced-nic b nic (swept nic.view word found) apps refl refl refl refl refl sound
+  -- an event of the card that leaves its pieces, notes and entries
+  ArePlaced-owns : (v : NicView) → v.setting ≡ nic.view.setting → v.pieces ≡ nic.view.pieces → v.sent ≡ nic.view.sent → v.dealt ≡ nic.view.dealt
+      → All (IsBehind b nic apps) v.owns → CardStays (nic_at nic v)
+  ArePlaced-owns v setting pieces sents deals owns sound =
+      let same : (test : Place → Bool) → piece_places b test (nic_at nic v) ≡ piece_places b test nic = λ test. rw pieces refl in
+      ArePlaced-fewer b nic (nic_at nic v) apps apps setting (λ test. omega (arith, same test, places-nic b test nic v apps sents deals)) owns sound
 
--- a buffer is taken that nobody has, so no place lies in it
-pub ArePlaced-took : (b : ℕ) (nic : NicSide) (apps : List AppSide) (buffer : ℕ) → pool_count buffer nic apps ≡ 0 → ArePlaced b nic apps
-    → ArePlaced b (nic_at nic (took nic.view buffer)) apps
-ArePlaced-took b nic apps buffer free sound =
-    ArePlaced-owns b nic (took nic.view buffer) apps refl refl refl refl
-    (All-push (IsBehind b nic apps) nic.view.owns (fresh nic.view.setting buffer) sound.behind
-    (λ e. places-none b (ends_behind 0) nic apps (subst (λ c. pool_count c nic apps ≡ 0) e free)))
-    sound
+  -- and its buffers for filling too
+  pub ArePlaced-nic : (v : NicView) → v.setting ≡ nic.view.setting → v.owns ≡ nic.view.owns → v.pieces ≡ nic.view.pieces → v.sent ≡ nic.view.sent
+      → v.dealt ≡ nic.view.dealt → CardStays (nic_at nic v)
+  ArePlaced-nic v setting owns pieces sents deals sound = ArePlaced-owns v setting pieces sents deals (rw owns sound.behind) sound
 
-pub ArePlaced-shut : (b : ℕ) (nic : NicSide) (apps : List AppSide) (own : Filling) (last : Bool) → ArePlaced b nic apps
-    → ArePlaced b (nic_at nic (shut nic.view own last)) apps
-ArePlaced-shut b nic apps own last sound =
-    ArePlaced-owns b nic (shut nic.view own last) apps refl refl refl refl
-    (All-without (IsBehind b nic apps) (same_filling own) nic.view.owns sound.behind) sound
+  pub ArePlaced-swept : (word : ℕ) (found : List ℕ) → CardStays (nic_at nic (swept nic.view word found))
+  ArePlaced-swept word found sound = ArePlaced-nic (swept nic.view word found) refl refl refl refl refl sound
 
-pub ArePlaced-sent : (b : ℕ) (nic : NicSide) (apps : List AppSide) (a : ℕ) (note : Note) (app : AppSide) → HasPiece nic.view note.place
-    → note.split ≡ true → AreNumbered 0 apps → IsApp apps a app → length app.view.taken ≤ length (sent_to a nic)
-    → ArePlaced b nic apps → ArePlaced b (nic_at nic (sent nic.view a note)) apps
-ArePlaced-sent b nic apps a note app out split numbered here within sound =
-    ArePlaced-fewer b nic (nic_at nic (sent nic.view a note)) apps apps refl
-    (λ test. omega (arith, places-sent b test nic apps a note app out split numbered here within)) sound.behind sound
+  -- a buffer is taken that nobody has, so no place lies in it
+  pub ArePlaced-took : (buffer : ℕ) → pool_count buffer nic apps ≡ 0 → CardStays (nic_at nic (took nic.view buffer))
+  ArePlaced-took buffer free sound =
+      ArePlaced-owns (took nic.view buffer) refl refl refl refl
+      (All-push (IsBehind b nic apps) nic.view.owns (fresh nic.view.setting buffer) sound.behind
+      (λ e. places-none b (ends_behind 0) nic apps (subst (λ c. pool_count c nic apps ≡ 0) e free)))
+      sound
 
-pub ArePlaced-sent_linear : (b : ℕ) (nic : NicSide) (apps : List AppSide) (a : ℕ) (note : Note) (bytes : List ℕ) (app : AppSide) → note.split ≡ false
-    → AreNumbered 0 apps → IsApp apps a app → length app.view.taken ≤ length (sent_to a nic)
-    → ArePlaced b nic apps → ArePlaced b (nic_at nic (sent_linear nic.view a note bytes)) apps
-ArePlaced-sent_linear b nic apps a note bytes app split numbered here within sound =
-    ArePlaced-fewer b nic (nic_at nic (sent_linear nic.view a note bytes)) apps apps refl
-    (λ test. omega (arith, places-sent_linear b test nic apps a note bytes app split numbered here within)) sound.behind sound
+  pub ArePlaced-shut : (own : Filling) (last : Bool) → CardStays (nic_at nic (shut nic.view own last))
+  ArePlaced-shut own last sound =
+      ArePlaced-owns (shut nic.view own last) refl refl refl refl (All-without (IsBehind b nic apps) (same_filling own) nic.view.owns sound.behind) sound
 
-pub ArePlaced-honoured : (b : ℕ) (nic : NicSide) (apps : List AppSide) (a buffer : ℕ) (entry : Rqe)
-    → ((app : AppSide) → Contains apps app → returning_count b nic app ≤ ended_in b nic app)
-    → ArePlaced b nic apps → ArePlaced b (nic_at nic (honoured nic.view a entry buffer)) apps
-ArePlaced-honoured b nic apps a buffer entry small sound =
-    ArePlaced-fewer b nic (nic_at nic (honoured nic.view a entry buffer)) apps apps refl
-    (λ test. places-honoured b test nic apps a buffer entry small) sound.behind sound
+  pub ArePlaced-sent : (a : ℕ) (note : Note) (app : AppSide) → HasPiece nic.view note.place → note.split ≡ true → AreNumbered 0 apps → IsApp apps a app
+      → length app.view.taken ≤ length (sent_to a nic) → CardStays (nic_at nic (sent nic.view a note))
+  ArePlaced-sent a note app out split numbered here within =
+      ArePlaced-card (nic_at nic (sent nic.view a note)) refl refl
+      (λ test. omega (arith, places-sent b test nic apps a note app out split numbered here within))
 
-pub ArePlaced-passed_over : (b : ℕ) (nic : NicSide) (apps : List AppSide) (a : ℕ) (entry : Rqe)
-    → ((app : AppSide) → Contains apps app → returning_count b nic app ≤ ended_in b nic app)
-    → ArePlaced b nic apps → ArePlaced b (nic_at nic (passed_over nic.view a entry)) apps
-ArePlaced-passed_over b nic apps a entry small sound =
-    ArePlaced-fewer b nic (nic_at nic (passed_over nic.view a entry)) apps apps refl
-    (λ test. places-passed_over b test nic apps a entry small) sound.behind sound
+  pub ArePlaced-sent_linear : (a : ℕ) (note : Note) (bytes : List ℕ) (app : AppSide) → note.split ≡ false → AreNumbered 0 apps → IsApp apps a app
+      → length app.view.taken ≤ length (sent_to a nic) → CardStays (nic_at nic (sent_linear nic.view a note bytes))
+  ArePlaced-sent_linear a note bytes app split numbered here within =
+      ArePlaced-card (nic_at nic (sent_linear nic.view a note bytes)) refl refl
+      (λ test. omega (arith, places-sent_linear b test nic apps a note bytes app split numbered here within))
+
+  pub ArePlaced-text_done : (own : Filling) (bytes : List ℕ) (making : Making) → nic.inside.making ≡ Some making
+      → making.place ≡ next_place own (length bytes) → CardStays (making_at nic (text_done nic.view own bytes) None)
+  ArePlaced-text_done own bytes making busy place =
+      ArePlaced-card (making_at nic (text_done nic.view own bytes) None) refl refl
+      (λ test. omega (arith, places-text_done b test nic apps own bytes making busy place))
+
+  pub ArePlaced-making : (making : Making) (words : List ℕ) → nic.inside.making ≡ Some making
+      → CardStays (making_at nic nic.view (Some (record { place = making.place; words = words })))
+  ArePlaced-making making words busy =
+      ArePlaced-card (making_at nic nic.view (Some (record { place = making.place; words = words }))) refl refl
+      (λ test. omega (arith, places-making b test nic apps making words busy))
 
 -- ---- where one place comes
 
 -- no element has this number, so any fact holds of those that have it
 pub All-none : {A : Type 0} (f : A → ℕ) (b : ℕ) (P : A → Type 0) (xs : List A) → tally (λ x. f x == b) xs ≡ 0 → All (λ x. f x ≡ b → P x) xs
-All-none f b P [] none = All-nil (λ x. f x ≡ b → P x)
-All-none f b P (x ∷ xs) none =
-    All-cons (λ x. f x ≡ b → P x) x xs
-    (λ e. absurd (omega (arith, none, ap weight (eq-eqb (f x) b e))))
-    (All-none f b P xs (omega (arith, none)))
+All-none f b P xs none =
+    All-weaker (λ x. f x ≢ b) (λ x. f x ≡ b → P x) (λ x other e. absurd (other e)) xs (none-of f b xs none)
 
 end-weight : (m n e : ℕ) → m ≤ n → weight (nat_lt n e) ≤ weight (nat_lt m e)
 end-weight m n e le =
@@ -325,94 +324,45 @@ ArePlaced-begun b nic apps own n words out some_bytes within idle fit by_one sou
     (record { place = next_place own n; words = words }))) apps own n out some_bytes within fit by_one refl refl
     (λ test. omega (arith, places-begun b test nic apps own n words idle)) sound
 
-pub ArePlaced-text_done : (b : ℕ) (nic : NicSide) (apps : List AppSide) (own : Filling) (bytes : List ℕ) (making : Making)
-    → nic.inside.making ≡ Some making → making.place ≡ next_place own (length bytes)
-    → ArePlaced b nic apps → ArePlaced b (making_at nic (text_done nic.view own bytes) None) apps
-ArePlaced-text_done b nic apps own bytes making busy place sound =
-    ArePlaced-fewer b nic (making_at nic (text_done nic.view own bytes) None) apps apps refl
-    (λ test. omega (arith, places-text_done b test nic apps own bytes making busy place)) sound.behind sound
-
-pub ArePlaced-making : (b : ℕ) (nic : NicSide) (apps : List AppSide) (making : Making) (words : List ℕ) → nic.inside.making ≡ Some making
-    → ArePlaced b nic apps
-    → ArePlaced b (making_at nic nic.view (Some (record { place = making.place; words = words }))) apps
-ArePlaced-making b nic apps making words busy sound =
-    ArePlaced-fewer b nic (making_at nic nic.view (Some (record { place = making.place; words = words }))) apps apps refl
-    (λ test. omega (arith, places-making b test nic apps making words busy)) sound.behind sound
-
 -- ---- an application's events
 
--- an event by which this application has no more places
-pub ArePlaced-app : (b : ℕ) (nic : NicSide) (apps : List AppSide) (a : ℕ) (app now : AppSide) → IsApp apps a app
-    → ((test : Place → Bool) → app_places b test nic now ≤ app_places b test nic app) → ArePlaced b nic apps → ArePlaced b nic (set apps a now)
-ArePlaced-app b nic apps a app now here fewer sound = ArePlaced-fewer b nic nic apps (set apps a now) refl
-    (λ test. omega (arith, places-app b test nic apps a app now here, fewer test)) sound.behind sound
+module _ (b : ℕ) (nic : NicSide) (apps : List AppSide) (a : ℕ) (app : AppSide) where
+  -- it stays so where the application's side is this
+  abbrev pub SideStays : AppSide → Type 0
+  SideStays now = ArePlaced b nic apps → ArePlaced b nic (set apps a now)
 
--- an event that touches no holding
-pub ArePlaced-same : (b : ℕ) (nic : NicSide) (apps : List AppSide) (a : ℕ) (app : AppSide) (v : AppView) → IsApp apps a app → SameHoldings app.view v
-    → ArePlaced b nic apps → ArePlaced b nic (set apps a (app_at app v))
-ArePlaced-same b nic apps a app v here same sound = ArePlaced-app b nic apps a app (app_at app v) here
-    (λ test. omega (arith, app_places-same b test nic app v same)) sound
+  -- an event by which this application has no more places
+  pub ArePlaced-app : (now : AppSide) → IsApp apps a app → ((test : Place → Bool) → app_places b test nic now ≤ app_places b test nic app) → SideStays now
+  ArePlaced-app now here fewer sound =
+      ArePlaced-fewer b nic nic apps (set apps a now) refl (λ test. omega (arith, places-app b test nic apps a app now here, fewer test)) sound.behind sound
 
-pub ArePlaced-took_note : (b : ℕ) (nic : NicSide) (apps : List AppSide) (a : ℕ) (app : AppSide) (note : Note) → IsApp apps a app → IsNextNote nic app note
-    → note.split ≡ true → ArePlaced b nic apps → ArePlaced b nic (set apps a (app_at app (took_note app.view note)))
-ArePlaced-took_note b nic apps a app note here next split sound =
-    ArePlaced-app b nic apps a app (app_at app (took_note app.view note)) here
-    (λ test. omega (arith, app_places-took_note b test nic app note next split)) sound
+  -- a step by which no place comes
+  pub ArePlaced-by : (step : AppStep) → IsApp apps a app → AppCan step nic app
+      → ((test : Place → Bool) → weights (placed_test test) b (app_begins app.view.app step app.view) ≤ weights (placed_test test) b (app_ends app.view.app step app.view))
+      → SideStays (app_at app (app_view step app.view))
+  ArePlaced-by step here can fewer =
+      ArePlaced-app (app_at app (app_view step app.view)) here (λ test. omega (arith, app_places-then step b test nic app can, fewer test))
 
-pub ArePlaced-took_linear : (b : ℕ) (nic : NicSide) (apps : List AppSide) (a : ℕ) (app : AppSide) (note : Note) (bytes : List ℕ) → IsApp apps a app
-    → IsNextNote nic app note → note.split ≡ false → ArePlaced b nic apps
-    → ArePlaced b nic (set apps a (app_at app (took_linear app.view note bytes)))
-ArePlaced-took_linear b nic apps a app note bytes here next split sound =
-    ArePlaced-app b nic apps a app (app_at app (took_linear app.view note bytes)) here
-    (λ test. omega (arith, app_places-took_linear b test nic app note bytes next split)) sound
+  pub ArePlaced-lent : (place : Place) → IsApp apps a app → HasHeld app.view place → SideStays (app_at app (lent app.view place))
+  ArePlaced-lent place here out = ArePlaced-by (lends place) here out (λ test. omega arith)
 
-pub ArePlaced-released : (b : ℕ) (nic : NicSide) (apps : List AppSide) (a : ℕ) (app : AppSide) (place : Place) → IsApp apps a app
-    → HasHeld app.view place → ArePlaced b nic apps → ArePlaced b nic (set apps a (app_at app (released app.view place)))
-ArePlaced-released b nic apps a app place here out sound =
-    ArePlaced-app b nic apps a app (app_at app (released app.view place)) here (λ test. omega (arith, app_places-released b test nic app place out)) sound
+  pub ArePlaced-abandoned : (place : Place) → IsApp apps a app → HasLoan app.view place → EndedWereReturned b nic app
+      → SideStays (app_at app (abandoned app.view place))
+  ArePlaced-abandoned place here out ended =
+      ArePlaced-app (app_at app (abandoned app.view place)) here (λ test. omega (arith, app_places-abandoned b test nic app place out ended))
 
-pub ArePlaced-lent : (b : ℕ) (nic : NicSide) (apps : List AppSide) (a : ℕ) (app : AppSide) (place : Place) → IsApp apps a app → HasHeld app.view place
-    → ArePlaced b nic apps → ArePlaced b nic (set apps a (app_at app (lent app.view place)))
-ArePlaced-lent b nic apps a app place here out sound =
-    ArePlaced-app b nic apps a app (app_at app (lent app.view place)) here (λ test. omega (arith, app_places-lent b test nic app place out)) sound
-
-pub ArePlaced-abandoned : (b : ℕ) (nic : NicSide) (apps : List AppSide) (a : ℕ) (app : AppSide) (place : Place) → IsApp apps a app
-    → HasLoan app.view place → EndedWereReturned b nic app → ArePlaced b nic apps
-    → ArePlaced b nic (set apps a (app_at app (abandoned app.view place)))
-ArePlaced-abandoned b nic apps a app place here out ended sound =
-    ArePlaced-app b nic apps a app (app_at app (abandoned app.view place)) here
-    (λ test. omega (arith, app_places-abandoned b test nic app place out ended)) sound
+  pub ArePlaced-lent_own : (own : Filling) → IsApp apps a app → IsFilled app.view own → SideStays (app_at app (lent_own app.view own))
+  ArePlaced-lent_own own here some_bytes =
+      ArePlaced-app (app_at app (lent_own app.view own)) here
+      (λ test. omega (arith, app_places-lent_own b test nic app own (lt-ltb 0 (length (own_bytes app.view own)) some_bytes)))
 
 pub app_places-gave : (b : ℕ) (test : Place → Bool) (nic : NicSide) (app : AppSide) (place : Place) → HasLoan app.view place
     → EndedWereReturned b nic app → app_places b test nic (app_at app (gave app.view place)) ≡ app_places b test nic app
 app_places-gave = app_places-abandoned
 
-pub ArePlaced-gave : (b : ℕ) (nic : NicSide) (apps : List AppSide) (a : ℕ) (app : AppSide) (place : Place) → IsApp apps a app → HasLoan app.view place
-    → EndedWereReturned b nic app → ArePlaced b nic apps
-    → ArePlaced b nic (set apps a (app_at app (gave app.view place)))
-ArePlaced-gave b nic apps a app place here out ended sound =
-    ArePlaced-app b nic apps a app (app_at app (gave app.view place)) here (λ test. omega (arith, app_places-gave b test nic app place out ended)) sound
-
-pub ArePlaced-got_spare : (b : ℕ) (nic : NicSide) (apps : List AppSide) (a : ℕ) (app : AppSide) (buffer : ℕ) → IsApp apps a app → ArePlaced b nic apps
-    → ArePlaced b nic (set apps a (app_at app (got_spare app.view buffer)))
-ArePlaced-got_spare b nic apps a app buffer here sound =
-    ArePlaced-app b nic apps a app (app_at app (got_spare app.view buffer)) here (λ test. omega (arith, app_places-got_spare b test nic app buffer)) sound
-
 pub app_places-spare_begun : (b : ℕ) (test : Place → Bool) (nic : NicSide) (app : AppSide) (buffer : ℕ)
     → app_places b test nic (app_at app (spare_begun app.view buffer)) ≡ app_places b test nic app
-app_places-spare_begun = app_places-got_spare
-
-pub ArePlaced-lent_own : (b : ℕ) (nic : NicSide) (apps : List AppSide) (a : ℕ) (app : AppSide) (own : Filling) → IsApp apps a app
-    → IsFilled app.view own → ArePlaced b nic apps → ArePlaced b nic (set apps a (app_at app (lent_own app.view own)))
-ArePlaced-lent_own b nic apps a app own here some_bytes sound =
-    ArePlaced-app b nic apps a app (app_at app (lent_own app.view own)) here
-    (λ test. omega (arith, app_places-lent_own b test nic app own (lt-ltb 0 (length (own_bytes app.view own)) some_bytes))) sound
-
-pub ArePlaced-scrubbed : (b w : ℕ) (nic : NicSide) (apps : List AppSide) (a : ℕ) (app : AppSide) (took : List ℕ) → IsApp apps a app
-    → slice_index took b ≡ slice_index app.inside.scrub_took b + w → returning_count b nic app ≤ ended_in b nic app → ArePlaced b nic apps
-    → ArePlaced b nic (set apps a (scrubbed_side app took))
-ArePlaced-scrubbed b w nic apps a app took here takes small sound =
-    ArePlaced-app b nic apps a app (scrubbed_side app took) here (λ test. app_places-scrubbed b w test nic app took takes small) sound
+app_places-spare_begun b test nic app buffer = omega (arith, app_places-then (spares buffer) b test nic app tt, if-none (buffer == b) 0 refl)
 
 -- ---- a piece that is cut
 

@@ -1,8 +1,13 @@
 -- All texts stay shown, and all places as they are to be, under each event.
+use Rattle.board_face.{specs.BoardSteps.{AppStep, AppCan, app_view, lends, abandons, polls, polls_linear, releases, gives, spares}, proofs.PlaceTallies.{app_places}}
+use Rattle.board_face.specs.Holdings.{app_ends, app_begins, weight as weights}
+use Rattle.board_face.proofs.PlaceTallies.{placed as placed_test}
+use Rattle.zr_kinds.{proofs.Booleans.{if-none}, specs.declared.{place.{Place.{Place}, Note.{Note}}, ring.Rqe.{Rqe}}}
+use Rattle.std.specs.Prelude.{◌==◌}
+use Rattle.board_face.proofs.{PlacesByEvent.{places-honoured, places-passed_over, app_places-scrubbed}, ArePlacedLemmas.{ArePlaced-card, ArePlaced-app, ArePlaced-by}}
 use Rattle.std.proofs.Common.{◌≡◌, ℕ, ◌+◌, ◌<◌, ◌≤◌, Bool, true, false, List, [], ◌∷◌, ◌++◌, length, get_or, set, refl, sym, ◌∙◌, subst, ⊎_elim, arith}
 use Rattle.std.{specs.Prelude.{◌==◌, ◌&&◌, count_by, All, slice_index, Contains, Some, None}, proofs.lemmas.Bool.{false≢true, Decides.{eqb_tells}}}
 use Rattle.std.proofs.lemmas.List.{get_or-set_same, set-set, length-set, Elements.{All-get_or, All-set, All-push, Contains-get_or, All-contains}}
-use Rattle.zr_kinds.specs.declared.{place.{Place.{Place}, Note.{Note}}, ring.Rqe.{Rqe}}
 use Rattle.area_layout.specs.Layout.{IsLayout}
 use Rattle.board_face.specs.Tokens.{next_place, filled_by, same_filling}
 use Rattle.board_face.specs.NicEvents.{text_done, took, swept, placed, sent, sent_linear, gave_up, shut, passed_over, honoured, text_at}
@@ -18,10 +23,7 @@ use Rattle.board_face.proofs.TextsByEvent.{AppIsShown-sent, AppIsShown-dealt, Ap
 use Rattle.board_face.proofs.TextsByEvent.{AppIsShown-lent, AppIsShown-abandoned, AppIsShown-got_spare, AppIsShown-lent_own, AppIsShown-scrubbed}
 use Rattle.board_face.proofs.TextsByEvent.{AppIsShown-same, CardIsShown-text_done, AppIsShown-text_done}
 use Rattle.board_face.proofs.ArePlacedLemmas.{less_spare, spare-free, places-none, ArePlaced-nic, ArePlaced-took, ArePlaced-shut, ArePlaced-sent}
-use Rattle.board_face.proofs.ArePlacedLemmas.{ArePlaced-sent_linear, ArePlaced-honoured, ArePlaced-passed_over, ArePlaced-placed}
-use Rattle.board_face.proofs.ArePlacedLemmas.{ArePlaced-text_done, ArePlaced-same, ArePlaced-took_note, ArePlaced-took_linear, ArePlaced-cut}
-use Rattle.board_face.proofs.ArePlacedLemmas.{ArePlaced-released, ArePlaced-lent, ArePlaced-abandoned, ArePlaced-gave, ArePlaced-got_spare}
-use Rattle.board_face.proofs.ArePlacedLemmas.{ArePlaced-filled, ArePlaced-lent_own, ArePlaced-scrubbed}
+use Rattle.board_face.proofs.ArePlacedLemmas.{ArePlaced-sent_linear, ArePlaced-placed, ArePlaced-text_done, ArePlaced-cut, ArePlaced-filled, ArePlaced-lent_own}
 use Rattle.board_face.{proofs.StoresAtLemmas.{StoresAt, HasNoText, HasNoText-behind, CardIsShown-stored_at, AppsAreShown-stored_at}, specs.Laws.{IsNextNote}}
 
 All-in : {A : Type 0} (P Q : A → Type 0) (xs : List A) → ((x : A) → Contains xs x → P x → Q x) → All P xs → All Q xs
@@ -70,7 +72,7 @@ module _ (byte : ℕ → ℕ → ℕ) where
       → AreShown byte nic apps → AreShown byte (nic_at nic v) apps
   AreShown-nic nic v apps setting owns pieces sents deals shown =
       AreShown-from_nic nic (nic_at nic v) apps (CardIsShown-same byte nic v pieces) (λ app _. AppIsShown-nic byte nic v app sents deals)
-      (λ b. ArePlaced-nic b nic v apps setting owns pieces sents deals) shown
+      (λ b. ArePlaced-nic b nic apps v setting owns pieces sents deals) shown
 
   pub AreShown-swept : (nic : NicSide) (apps : List AppSide) (word : ℕ) (found : List ℕ) → AreShown byte nic apps
       → AreShown byte (nic_at nic (swept nic.view word found)) apps
@@ -160,7 +162,7 @@ module _ (byte : ℕ → ℕ → ℕ) where
       let v = honoured nic.view a entry buffer in
       AreShown-from_nic nic (nic_at nic v) apps (CardIsShown-same byte nic v refl)
       (λ app _. AppIsShown-dealt byte nic v app (λ b. weight ((a == app.view.app) && (buffer == b))) refl (λ b. ended_in-honoured b nic app a buffer entry))
-      (λ b. ArePlaced-honoured b nic apps a buffer entry (small b)) shown
+      (λ b. ArePlaced-card b nic apps (nic_at nic v) refl refl (λ test. places-honoured b test nic apps a buffer entry (small b))) shown
 
   pub AreShown-passed_over : (nic : NicSide) (apps : List AppSide) (a : ℕ) (entry : Rqe)
       → ((b : ℕ) (app : AppSide) → Contains apps app → returning_count b nic app ≤ ended_in b nic app) → AreShown byte nic apps
@@ -169,7 +171,7 @@ module _ (byte : ℕ → ℕ → ℕ) where
       let v = passed_over nic.view a entry in
       AreShown-from_nic nic (nic_at nic v) apps (CardIsShown-same byte nic v refl)
       (λ app _. AppIsShown-dealt byte nic v app (λ b. 0) refl (λ b. omega (arith, ended_in-passed_over b nic a entry app)))
-      (λ b. ArePlaced-passed_over b nic apps a entry (small b)) shown
+      (λ b. ArePlaced-card b nic apps (nic_at nic v) refl refl (λ test. places-passed_over b test nic apps a entry (small b))) shown
 
   -- ---- an application's events
 
@@ -187,81 +189,79 @@ module _ (byte : ℕ → ℕ → ℕ) where
     places = λ b. places b (shown.places b);
   }
 
-  -- an event that touches no holding
-  pub AreShown-same : (nic : NicSide) (apps : List AppSide) (a : ℕ) (app : AppSide) (v : AppView) → IsApp apps a app → SameHoldings app.view v
-      → AreShown byte nic apps → AreShown byte nic (set apps a (app_at app v))
-  AreShown-same nic apps a app v here same shown = AreShown-from_app nic apps a app (app_at app v) here (AppIsShown-same byte nic app v same)
-      (λ b. ArePlaced-same b nic apps a app v here same) shown
-
-  pub AreShown-took_note : (nic : NicSide) (apps : List AppSide) (a : ℕ) (app : AppSide) (note : Note) → IsApp apps a app → IsNextNote nic app note
-      → note.split ≡ true → AreShown byte nic apps → AreShown byte nic (set apps a (app_at app (took_note app.view note)))
-  AreShown-took_note nic apps a app note here next split shown =
-      AreShown-from_app nic apps a app (app_at app (took_note app.view note)) here (AppIsShown-took_note byte nic app note next split)
-      (λ b. ArePlaced-took_note b nic apps a app note here next split) shown
-
-  pub AreShown-took_linear : (nic : NicSide) (apps : List AppSide) (a : ℕ) (app : AppSide) (note : Note) (bytes : List ℕ) → IsApp apps a app
-      → IsNextNote nic app note → note.split ≡ false → AreShown byte nic apps
-      → AreShown byte nic (set apps a (app_at app (took_linear app.view note bytes)))
-  AreShown-took_linear nic apps a app note bytes here next split shown =
-      AreShown-from_app nic apps a app (app_at app (took_linear app.view note bytes)) here (AppIsShown-took_linear byte nic app note bytes next)
-      (λ b. ArePlaced-took_linear b nic apps a app note bytes here next split) shown
-
-  pub AreShown-cut : (nic : NicSide) (apps : List AppSide) (a : ℕ) (app : AppSide) (place : Place) (at : ℕ) → IsApp apps a app → HasHeld app.view place
-      → 0 < at → at < place.len → AreShown byte nic apps → AreShown byte nic (set apps a (app_at app (cut app.view place at)))
-  AreShown-cut nic apps a app place at here out front rest shown =
-      AreShown-from_app nic apps a app (app_at app (cut app.view place at)) here (AppIsShown-cut byte nic app place at out (omega arith))
-      (λ b. ArePlaced-cut b nic apps a app place at here out front rest) shown
-
-  pub AreShown-released : (nic : NicSide) (apps : List AppSide) (a : ℕ) (app : AppSide) (place : Place) → IsApp apps a app → HasHeld app.view place
-      → AreShown byte nic apps → AreShown byte nic (set apps a (app_at app (released app.view place)))
-  AreShown-released nic apps a app place here out shown =
-      AreShown-from_app nic apps a app (app_at app (released app.view place)) here (AppIsShown-released byte nic app place)
-      (λ b. ArePlaced-released b nic apps a app place here out) shown
-
-  pub AreShown-lent : (nic : NicSide) (apps : List AppSide) (a : ℕ) (app : AppSide) (place : Place) → IsApp apps a app → HasHeld app.view place
-      → AreShown byte nic apps → AreShown byte nic (set apps a (app_at app (lent app.view place)))
-  AreShown-lent nic apps a app place here out shown = AreShown-from_app nic apps a app (app_at app (lent app.view place)) here
-      (AppIsShown-lent byte nic app place out) (λ b. ArePlaced-lent b nic apps a app place here out) shown
-
-  pub AreShown-abandoned : (nic : NicSide) (apps : List AppSide) (a : ℕ) (app : AppSide) (place : Place) → IsApp apps a app → HasLoan app.view place
-      → ((b : ℕ) → EndedWereReturned b nic app) → AreShown byte nic apps
-      → AreShown byte nic (set apps a (app_at app (abandoned app.view place)))
-  AreShown-abandoned nic apps a app place here out ended shown =
-      AreShown-from_app nic apps a app (app_at app (abandoned app.view place)) here (AppIsShown-abandoned byte nic app place out ended)
-      (λ b. ArePlaced-abandoned b nic apps a app place here out (ended b)) shown
-
   pub AppIsShown-gave : (nic : NicSide) (app : AppSide) (place : Place) → HasLoan app.view place → ((b : ℕ) → EndedWereReturned b nic app)
       → AppIsShown byte nic app → AppIsShown byte nic (app_at app (gave app.view place))
   AppIsShown-gave nic app place out ended shown = let is = AppIsShown-abandoned byte nic app place out ended shown in assumption
-
-  pub AreShown-gave : (nic : NicSide) (apps : List AppSide) (a : ℕ) (app : AppSide) (place : Place) → IsApp apps a app → HasLoan app.view place
-      → ((b : ℕ) → EndedWereReturned b nic app) → AreShown byte nic apps
-      → AreShown byte nic (set apps a (app_at app (gave app.view place)))
-  AreShown-gave nic apps a app place here out ended shown =
-      AreShown-from_app nic apps a app (app_at app (gave app.view place)) here (AppIsShown-gave nic app place out ended)
-      (λ b. ArePlaced-gave b nic apps a app place here out (ended b)) shown
-
-  pub AreShown-got_spare : (nic : NicSide) (apps : List AppSide) (a : ℕ) (app : AppSide) (buffer : ℕ) → IsApp apps a app → AreShown byte nic apps
-      → AreShown byte nic (set apps a (app_at app (got_spare app.view buffer)))
-  AreShown-got_spare nic apps a app buffer here shown = AreShown-from_app nic apps a app (app_at app (got_spare app.view buffer)) here
-      (AppIsShown-got_spare byte nic app buffer) (λ b. ArePlaced-got_spare b nic apps a app buffer here) shown
 
   pub AppIsShown-spare_begun : (nic : NicSide) (app : AppSide) (buffer : ℕ) → AppIsShown byte nic app
       → AppIsShown byte nic (app_at app (spare_begun app.view buffer))
   AppIsShown-spare_begun nic app buffer shown = let is = AppIsShown-got_spare byte nic app buffer shown in assumption
 
-  pub AreShown-lent_own : (nic : NicSide) (apps : List AppSide) (a : ℕ) (app : AppSide) (own : Filling) → IsApp apps a app → HasSpare app.view own
-      → IsFilled app.view own → AreShown byte nic apps → AreShown byte nic (set apps a (app_at app (lent_own app.view own)))
-  AreShown-lent_own nic apps a app own here out some_bytes shown =
-      AreShown-from_app nic apps a app (app_at app (lent_own app.view own)) here (AppIsShown-lent_own byte nic app own out)
-      (λ b. ArePlaced-lent_own b nic apps a app own here some_bytes) shown
+module _ (byte : ℕ → ℕ → ℕ) (nic : NicSide) (apps : List AppSide) (a : ℕ) (app : AppSide) where
+  -- it stays so where the application's side is this
+  abbrev pub SideStays : AppSide → Type 0
+  SideStays now = AreShown byte nic apps → AreShown byte nic (set apps a now)
 
-  pub AreShown-scrubbed : (nic : NicSide) (apps : List AppSide) (a : ℕ) (app : AppSide) (took : List ℕ) (w : ℕ → ℕ) → IsApp apps a app
-      → ((b : ℕ) → slice_index took b ≡ slice_index app.inside.scrub_took b + w b) → ((b : ℕ) → returning_count b nic app ≤ ended_in b nic app)
-      → AreShown byte nic apps → AreShown byte nic (set apps a (scrubbed_side app took))
-  AreShown-scrubbed nic apps a app took w here takes small shown =
-      AreShown-from_app nic apps a app (scrubbed_side app took) here (AppIsShown-scrubbed byte nic app took w (λ b. omega (arith, takes b)))
-      (λ b. ArePlaced-scrubbed b (w b) nic apps a app took here (takes b) (small b)) shown
+  -- a step by which no place comes
+  shown-by : (step : AppStep) → IsApp apps a app → AppCan step nic app
+      → ((b : ℕ) (test : Place → Bool) → weights (placed_test test) b (app_begins app.view.app step app.view)
+      ≤ weights (placed_test test) b (app_ends app.view.app step app.view))
+      → (AppIsShown byte nic app → AppIsShown byte nic (app_at app (app_view step app.view))) → SideStays (app_at app (app_view step app.view))
+  shown-by step here can fewer it =
+      AreShown-from_app byte nic apps a app (app_at app (app_view step app.view)) here it (λ b. ArePlaced-by b nic apps a app step here can (fewer b))
+
+  -- an event that touches no holding
+  pub AreShown-same : (v : AppView) → IsApp apps a app → SameHoldings app.view v → SideStays (app_at app v)
+  AreShown-same v here same =
+      AreShown-from_app byte nic apps a app (app_at app v) here (AppIsShown-same byte nic app v same)
+      (λ b. ArePlaced-app b nic apps a app (app_at app v) here
+      (λ test. let e : app_places b test nic (app_at app v) ≡ app_places b test nic app = rw (same.app, same.taken, same.helds, same.owns, same.loans, same.returned) refl in
+      omega (arith, e)))
+
+  pub AreShown-took_note : (note : Note) → IsApp apps a app → IsNextNote nic app note → note.split ≡ true → SideStays (app_at app (took_note app.view note))
+  AreShown-took_note note here next split =
+      shown-by (polls note) here (split, next) (λ b test. omega arith) (AppIsShown-took_note byte nic app note next split)
+
+  pub AreShown-took_linear : (note : Note) (bytes : List ℕ) → IsApp apps a app → IsNextNote nic app note → note.split ≡ false
+      → SideStays (app_at app (took_linear app.view note bytes))
+  AreShown-took_linear note bytes here next split =
+      shown-by (polls_linear note bytes) here (split, next) (λ b test. omega arith) (AppIsShown-took_linear byte nic app note bytes next)
+
+  pub AreShown-cut : (place : Place) (at : ℕ) → IsApp apps a app → HasHeld app.view place → 0 < at → at < place.len
+      → SideStays (app_at app (cut app.view place at))
+  AreShown-cut place at here out front rest =
+      AreShown-from_app byte nic apps a app (app_at app (cut app.view place at)) here (AppIsShown-cut byte nic app place at out (omega arith))
+      (λ b. ArePlaced-cut b nic apps a app place at here out front rest)
+
+  pub AreShown-released : (place : Place) → IsApp apps a app → HasHeld app.view place → SideStays (app_at app (released app.view place))
+  AreShown-released place here out = shown-by (releases place) here out (λ b test. omega arith) (AppIsShown-released byte nic app place)
+
+  pub AreShown-lent : (place : Place) → IsApp apps a app → HasHeld app.view place → SideStays (app_at app (lent app.view place))
+  AreShown-lent place here out = shown-by (lends place) here out (λ b test. omega arith) (AppIsShown-lent byte nic app place out)
+
+  pub AreShown-abandoned : (place : Place) → IsApp apps a app → HasLoan app.view place → ((b : ℕ) → EndedWereReturned b nic app)
+      → SideStays (app_at app (abandoned app.view place))
+  AreShown-abandoned place here out ended =
+      shown-by (abandons place) here (out, ended) (λ b test. omega arith) (AppIsShown-abandoned byte nic app place out ended)
+
+  pub AreShown-gave : (place : Place) → IsApp apps a app → HasLoan app.view place → ((b : ℕ) → EndedWereReturned b nic app)
+      → SideStays (app_at app (gave app.view place))
+  AreShown-gave place here out ended = shown-by (gives place) here (out, ended) (λ b test. omega arith) (AppIsShown-gave byte nic app place out ended)
+
+  pub AreShown-got_spare : (buffer : ℕ) → IsApp apps a app → SideStays (app_at app (got_spare app.view buffer))
+  AreShown-got_spare buffer here =
+      shown-by (spares buffer) here tt (λ b test. omega (arith, if-none (buffer == b) 0 refl)) (AppIsShown-got_spare byte nic app buffer)
+
+  pub AreShown-lent_own : (own : Filling) → IsApp apps a app → HasSpare app.view own → IsFilled app.view own → SideStays (app_at app (lent_own app.view own))
+  AreShown-lent_own own here out some_bytes =
+      AreShown-from_app byte nic apps a app (app_at app (lent_own app.view own)) here (AppIsShown-lent_own byte nic app own out)
+      (λ b. ArePlaced-lent_own b nic apps a app own here some_bytes)
+
+  pub AreShown-scrubbed : (took : List ℕ) (w : ℕ → ℕ) → IsApp apps a app → ((b : ℕ) → slice_index took b ≡ slice_index app.inside.scrub_took b + w b)
+      → ((b : ℕ) → returning_count b nic app ≤ ended_in b nic app) → SideStays (scrubbed_side app took)
+  AreShown-scrubbed took w here takes small =
+      AreShown-from_app byte nic apps a app (scrubbed_side app took) here (AppIsShown-scrubbed byte nic app took w (λ b. omega (arith, takes b)))
+      (λ b. ArePlaced-app b nic apps a app (scrubbed_side app took) here (λ test. app_places-scrubbed b (w b) test nic app took (takes b) (small b)))
 
 -- ---- a spare is filled, whose bytes were stored at its begin
 

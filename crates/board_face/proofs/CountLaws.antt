@@ -1,22 +1,23 @@
 -- The laws on counts and free places, from the lemmas on each event.
-use Rattle.std.proofs.Common.{◌≡◌, ℕ, ◌+◌, Bool, true, false, List, set, refl, ap, sym, ◌∙◌, arith, ⊎_elim}
-use Rattle.std.{specs.{Prelude.{◌≢◌, if◌then◌else◌, ◌==◌, ◌&&◌, nat_eq, slice_index}, List.{flat_map}}, proofs.lemmas.Bool.{cases_eq, eq-eqb}}
-use Rattle.board_face.specs.Laws.{AllSides, FitTogether, by_card, by_app, one_at, KeepsAll, GainsHolder, LosesHolder, GainsUser, TakeLaw, SweepLaw, PlaceLaw}
+use Rattle.board_face.{proofs.{FreeLemmas.{free-side}, Counted.{user-here}}, specs.Laws.{one_user, KeepsFree}}
+use Rattle.zr_kinds.proofs.Booleans.{if-none}
+use Rattle.board_face.specs.BoardSteps.{AppStep, AppCan, app_view, polls, polls_linear, cuts, releases, gives, abandons, spares, fills, lends_own, sees, reads, pushes, settles, falls_quiet, is_told, leaves}
+use Rattle.board_face.specs.BoardSteps as steps
+use Rattle.board_face.specs.Holdings.{Hold, CountsBy, app_ends, app_begins, weight as weights, used, here}
+use Rattle.board_face.proofs.{Counted.{counted}, Exchanging.{app-exchanged}}
+use Rattle.std.proofs.Common.{◌≡◌, ℕ, ◌+◌, Bool, true, false, refl, ap, sym, ◌∙◌, arith, ⊎_elim}
+use Rattle.std.{specs.{Prelude.{◌≢◌, if◌then◌else◌, ◌==◌, slice_index}}, proofs.lemmas.Bool.{cases_eq, eq-eqb}}
+use Rattle.board_face.specs.Laws.{AllSides, FitTogether, by_card, by_app, one_at, KeepsAll, GainsHolder, GainsUser, TakeLaw, SweepLaw, PlaceLaw}
 use Rattle.board_face.specs.Laws.{SendLaw, ShutLaw, HonourLaw, StrayLaw, CardKeeps, PollLaw, CutLaw, LendLaw, ReleaseLaw, GiveLaw, SpareLaw, FillLaw}
 use Rattle.board_face.specs.Laws.{LendOwnLaw, AppKeepsAll, ScrubLaw}
 use Rattle.board_face.specs.NicEvents.{took, swept, placed, sent, sent_linear, gave_up, shut, passed_over, honoured, nic_saw, saw_leave, nic_ended}
-use Rattle.board_face.specs.AppEvents.{app_saw, took_note, took_linear, told_end, cut, released, lent, has_read, abandoned, gave, pushed_raw, came_to_rest}
-use Rattle.board_face.specs.{AppEvents.{got_spare, filled, lent_own, fell_quiet, left_board}, Sides.{nic_at, app_at, IsApp}, Counts.{user_count}}
-use Rattle.board_face.specs.{FreeOnce.{free_places}, declared.views.{nic.{NicView.{NicView}, NicSide.{NicSide}}, app.{AppView.{AppView}, AppSide.{AppSide}}}}
-use Rattle.board_face.proofs.{ListLemmas.{not-eqb}, Tallies.{weight, tally, tally-flat, total-set}}
-use Rattle.board_face.proofs.Parts.{nic_count, app_count, user_part, owed_count, owed-count, user_count-parts, total-only, count-tally}
+use Rattle.board_face.specs.{Sides.{nic_at, IsApp}, Counts.{user_count}}
+use Rattle.board_face.specs.{FreeOnce.{free_places}, declared.views.{nic.{NicView.{NicView}, NicSide.{NicSide}}, app.{AppSide.{AppSide}}}}
+use Rattle.board_face.proofs.{ListLemmas.{not-eqb}, Tallies.{weight}, Parts.{nic_count, user_part, owed_count, owed-count, user_count-parts, total-only}}
 use Rattle.board_face.proofs.NicLemmas.{Owes, pool_count-nic, user_count-nic, pool_count-took, pool_count-placed, pool_count-swept, pool_count-gave_up}
 use Rattle.board_face.proofs.NicLemmas.{pool_count-shut, pool_count-sent, pool_count-sent_linear, pool_count-honoured, user_count-honoured}
-use Rattle.board_face.proofs.NicLemmas.{pool_count-passed_over, user_count-passed_over}
-use Rattle.board_face.proofs.AppLemmas.{SameHoldings, scrubbed_side, pool_count-app, user_count-app, app_count-same, user_part-same, user_part-kept}
-use Rattle.board_face.proofs.AppLemmas.{app_count-took_note, app_count-took_linear, app_count-cut, app_count-released, app_count-lent, user_part-lent}
-use Rattle.board_face.proofs.AppLemmas.{app_count-abandoned, user_part-abandoned, app_count-gave, user_part-gave, app_count-got_spare, app_count-filled}
-use Rattle.board_face.proofs.AppLemmas.{app_count-lent_own, user_part-lent_own, app_count-scrubbed, user_part-scrubbed}
+use Rattle.board_face.proofs.{NicLemmas.{pool_count-passed_over, user_count-passed_over}, AppLemmas.{scrubbed_side, pool_count-app, user_count-app}}
+use Rattle.board_face.proofs.AppLemmas.{app_count-scrubbed, user_part-scrubbed}
 use Rattle.board_face.proofs.FreeLemmas.{free_places-took, free_places-swept, free_places-gave_up, free_places-nic, free_places-app, comes_in}
 
 turned : (a b : ℕ) → weight (a == b) ≡ one_at b a
@@ -112,124 +113,94 @@ card_keeps = record {
 
 -- ---- an application
 
-module _ (s : AllSides) (a : ℕ) (app : AppSide) (here : IsApp s.apps a app) (v : AppView) where
-  app-keeps : ((b : ℕ) → app_count b s.nic (app_at app v) ≡ app_count b s.nic app)
-      → ((x b : ℕ) → user_part x b s.nic (app_at app v) ≡ user_part x b s.nic app) → KeepsAll s (by_app s a app v)
-  app-keeps counts users = record {
-    pool = λ b. omega (arith, pool_count-app b s.nic s.apps a app (app_at app v) here, counts b);
-    users = λ x b. omega (arith, user_count-app x b s.nic s.apps a app (app_at app v) here, users x b);
-    free = λ listed b. free_places-app listed b s.nic s.apps a app v here;
+module _ (step : AppStep) (s : AllSides) (a : ℕ) (app : AppSide) (here : IsApp s.apps a app) (can : AppCan step s.nic app) where
+  abbrev behind : AllSides
+  behind = by_app s a app (app_view step app.view)
+
+  abbrev ended : (Hold → ℕ) → ℕ → ℕ
+  ended w b = weights w b (app_ends a step app.view)
+
+  abbrev begun : (Hold → ℕ) → ℕ → ℕ
+  begun w b = weights w b (app_begins a step app.view)
+
+  now : CountsBy (app_ends a step app.view) (app_begins a step app.view) s behind
+  now = counted s behind (app_ends a step app.view) (app_begins a step app.view) (app-exchanged step s a app here can)
+
+  free : KeepsFree s behind
+  free listed b = free_places-app listed b s.nic s.apps a app (app_view step app.view) here
+
+  keeps : ((b : ℕ) → begun (λ h. 1) b ≡ ended (λ h. 1) b) → ((x b : ℕ) → begun (used x) b ≡ ended (used x) b) → KeepsAll s behind
+  keeps pools users = record { pool = λ b. omega (arith, now.pool b, pools b); users = λ x b. omega (arith, now.users x b, users x b); free = free }
+
+  gains : (buffer : ℕ) → ((b : ℕ) → begun (λ h. 1) b ≡ ended (λ h. 1) b + one_at buffer b) → ((x b : ℕ) → begun (used x) b ≡ ended (used x) b)
+      → GainsHolder buffer s behind
+  gains buffer pools users = record {
+    pool = λ b. omega (arith, now.pool b, pools b);
+    users = λ x b. omega (arith, now.users x b, users x b);
+    free = free;
   }
 
-  app-gains : (buffer : ℕ) → ((b : ℕ) → app_count b s.nic (app_at app v) ≡ app_count b s.nic app + weight (buffer == b))
-      → ((x b : ℕ) → user_part x b s.nic (app_at app v) ≡ user_part x b s.nic app)
-      → GainsHolder buffer s (by_app s a app v)
-  app-gains buffer counts users = record {
-    pool = λ b. omega (arith, pool_count-app b s.nic s.apps a app (app_at app v) here, counts b);
-    users = λ x b. omega (arith, user_count-app x b s.nic s.apps a app (app_at app v) here, users x b);
-    free = λ listed b. free_places-app listed b s.nic s.apps a app v here;
+  lends : (buffer : ℕ) → ((b : ℕ) → begun (λ h. 1) b ≡ ended (λ h. 1) b) → ((x b : ℕ) → begun (used x) b ≡ ended (used x) b + one_user a buffer x b)
+      → GainsUser a buffer s behind
+  lends buffer pools users = record {
+    pool = λ b. omega (arith, now.pool b, pools b);
+    users = λ x b. omega (arith, now.users x b, users x b);
+    free = free;
   }
 
-  app-loses : (buffer : ℕ) → ((b : ℕ) → app_count b s.nic (app_at app v) + weight (buffer == b) ≡ app_count b s.nic app)
-      → ((x b : ℕ) → user_part x b s.nic (app_at app v) ≡ user_part x b s.nic app)
-      → LosesHolder buffer s (by_app s a app v)
-  app-loses buffer counts users = record {
-    pool = λ b. omega (arith, pool_count-app b s.nic s.apps a app (app_at app v) here, counts b);
-    users = λ x b. omega (arith, user_count-app x b s.nic s.apps a app (app_at app v) here, users x b);
-    free = λ listed b. free_places-app listed b s.nic s.apps a app v here;
-  }
-
-  user-gains : (buffer : ℕ) → ((b : ℕ) → app_count b s.nic (app_at app v) ≡ app_count b s.nic app)
-      → ((x b : ℕ) → user_part x b s.nic (app_at app v) ≡ user_part x b s.nic app + weight ((app.view.app == x) && (buffer == b)))
-      → GainsUser a buffer s (by_app s a app v)
-  user-gains buffer counts users = record {
-    pool = λ b. omega (arith, pool_count-app b s.nic s.apps a app (app_at app v) here, counts b);
-    users = λ x b. omega
-        (arith, user_count-app x b s.nic s.apps a app (app_at app v) here, users x b, ap (λ (n : ℕ). weight ((n == x) && (buffer == b))) here.number);
-    free = λ listed b. free_places-app listed b s.nic s.apps a app v here;
-  }
-
-  app-same : SameHoldings app.view v → KeepsAll s (by_app s a app v)
-  app-same same = app-keeps (λ b. app_count-same b s.nic app v same) (λ x b. user_part-same x b s.nic app v same)
-
-  -- what no loan comes or goes by keeps the users
-  users-kept : v.app ≡ app.view.app → v.loans ≡ app.view.loans → v.returned ≡ app.view.returned → (x b : ℕ)
-      → user_part x b s.nic (app_at app v) ≡ user_part x b s.nic app
-  users-kept numbers loans returned x b = user_part-kept x b s.nic app v numbers loans returned
+nothing : (buffer b : ℕ) → here b buffer 0 ≡ 0
+nothing buffer b = if-none (buffer == b) 0 refl
 
 pub poll_law : PollLaw
 poll_law = record {
-  split = λ s a app here note split next.
-      app-keeps s a app here (took_note app.view note) (λ b. app_count-took_note b s.nic app note next split)
-      (users-kept s a app here (took_note app.view note) refl refl refl);
-  linear = λ s a app here note split next bytes.
-      app-keeps s a app here (took_linear app.view note bytes) (λ b. app_count-took_linear b s.nic app note bytes next split)
-      (users-kept s a app here (took_linear app.view note bytes) refl refl refl);
+  split = λ s a app at note split next. keeps (polls note) s a app at (split, next) (λ b. refl) (λ x b. refl);
+  linear = λ s a app at note split next bytes. keeps (polls_linear note bytes) s a app at (split, next) (λ b. refl) (λ x b. refl);
 }
 
 pub cut_law : CutLaw
-cut_law s a app here place at out = app-gains s a app here (cut app.view place at) place.buffer (λ b. app_count-cut b s.nic app place at out)
-    (users-kept s a app here (cut app.view place at) refl refl refl)
+cut_law s a app at place n out = gains (cuts place n) s a app at out place.buffer (λ b. omega arith) (λ x b. omega (arith, nothing place.buffer b))
 
 pub release_law : ReleaseLaw
-release_law s a app here place out = app-loses s a app here (released app.view place) place.buffer (λ b. app_count-released b s.nic app place out)
-    (users-kept s a app here (released app.view place) refl refl refl)
+release_law s a app at place out =
+    let after = now (releases place) s a app at out in
+    record {
+      pool = λ b. omega (arith, after.pool b);
+      users = λ x b. omega (arith, after.users x b, nothing place.buffer b);
+      free = free (releases place) s a app at out;
+    }
 
 pub lend_law : LendLaw
-lend_law s a app here place out = user-gains s a app here (lent app.view place) place.buffer (λ b. app_count-lent b s.nic app place out)
-    (λ x b. user_part-lent x b s.nic app place)
+lend_law s a app at place out =
+    lends (steps.lends place) s a app at out place.buffer (λ b. refl) (λ x b. omega (arith, nothing place.buffer b, user-here a x place.buffer b))
 
 pub give_law : GiveLaw
 give_law = record {
-  given = λ s fit a app here place out. app-keeps s a app here (gave app.view place) (λ b. app_count-gave b s.nic app place out (fit.ended a b app here))
-      (λ x b. user_part-gave x b s.nic app place out (fit.ended a b app here));
-  abandoned = λ s fit a app here place out. app-keeps s a app here (abandoned app.view place)
-      (λ b. app_count-abandoned b s.nic app place out (fit.ended a b app here))
-      (λ x b. user_part-abandoned x b s.nic app place out (fit.ended a b app here));
+  given = λ s fit a app at place out. keeps (gives place) s a app at (out, λ b. fit.ended a b app at) (λ b. refl) (λ x b. refl);
+  abandoned = λ s fit a app at place out. keeps (abandons place) s a app at (out, λ b. fit.ended a b app at) (λ b. refl) (λ x b. refl);
 }
 
 pub spare_law : SpareLaw
-spare_law s a app here buffer = app-gains s a app here (got_spare app.view buffer) buffer (λ b. app_count-got_spare b s.nic app buffer)
-    (users-kept s a app here (got_spare app.view buffer) refl refl refl)
+spare_law s a app at buffer = gains (spares buffer) s a app at tt buffer (λ b. omega arith) (λ x b. omega (arith, nothing buffer b))
 
 pub fill_law : FillLaw
-fill_law s a app here own bytes out = app-keeps s a app here (filled app.view own bytes) (λ b. app_count-filled b s.nic app own bytes out)
-    (users-kept s a app here (filled app.view own bytes) refl refl refl)
+fill_law s a app at own bytes out = keeps (fills own bytes) s a app at out (λ b. refl) (λ x b. refl)
 
 pub lend_own_law : LendOwnLaw
-lend_own_law s a app here own out = user-gains s a app here (lent_own app.view own) own.buffer (λ b. app_count-lent_own b s.nic app own out)
-    (λ x b. user_part-lent_own x b s.nic app own)
-
-same-holdings : (v w : AppView) → w.app ≡ v.app → w.taken ≡ v.taken → w.helds ≡ v.helds → w.owns ≡ v.owns → w.loans ≡ v.loans
-    → w.returned ≡ v.returned → SameHoldings v w
-same-holdings v w a t h o l r = record { app = a; taken = t; helds = h; owns = o; loans = l; returned = r }
+lend_own_law s a app at own out =
+    lends (lends_own own) s a app at out own.buffer (λ b. refl) (λ x b. omega (arith, nothing own.buffer b, user-here a x own.buffer b))
 
 pub app_keeps : AppKeepsAll
 app_keeps = record {
-  look = λ s a app here look. app-same s a app here (app_saw app.view look) (same-holdings _ _ refl refl refl refl refl refl);
-  read = λ s a app here place from bytes. app-same s a app here (has_read app.view place from bytes) (same-holdings _ _ refl refl refl refl refl refl);
-  raw = λ s a app here entry. app-same s a app here (pushed_raw app.view entry) (same-holdings _ _ refl refl refl refl refl refl);
-  settled = λ s a app here. app-same s a app here (came_to_rest app.view) (same-holdings _ _ refl refl refl refl refl refl);
-  quiet = λ s a app here. app-same s a app here (fell_quiet app.view) (same-holdings _ _ refl refl refl refl refl refl);
-  end = λ s a app here. app-same s a app here (told_end app.view) (same-holdings _ _ refl refl refl refl refl refl);
-  left = λ s a app here. app-same s a app here (left_board app.view) (same-holdings _ _ refl refl refl refl refl refl);
+  look = λ s a app at look. keeps (sees look) s a app at tt (λ b. refl) (λ x b. refl);
+  read = λ s a app at place from bytes. keeps (reads place from bytes) s a app at tt (λ b. refl) (λ x b. refl);
+  raw = λ s a app at entry. keeps (pushes entry) s a app at tt (λ b. refl) (λ x b. refl);
+  settled = λ s a app at. keeps settles s a app at tt (λ b. refl) (λ x b. refl);
+  quiet = λ s a app at. keeps falls_quiet s a app at tt (λ b. refl) (λ x b. refl);
+  end = λ s a app at. keeps is_told s a app at tt (λ b. refl) (λ x b. refl);
+  left = λ s a app at. keeps leaves s a app at tt (λ b. refl) (λ x b. refl);
 }
 
 -- ---- a scrub
-
-free-side : (listed : ℕ → Bool) (b : ℕ) (nic : NicSide) (apps : List AppSide) (a : ℕ) (app now : AppSide) → IsApp apps a app
-    → now.inside.hands ≡ app.inside.hands → free_places listed b nic (set apps a now) ≡ free_places listed b nic apps
-free-side listed b nic apps a app now here same =
-    let hands : AppSide → List ℕ = λ x. x.inside.hands in
-    omega (
-      arith,
-      count-tally (nat_eq b) (flat_map hands (set apps a now)),
-      count-tally (nat_eq b) (flat_map hands apps),
-      tally-flat (nat_eq b) hands (set apps a now),
-      tally-flat (nat_eq b) hands apps,
-      total-set (λ x. tally (nat_eq b) (hands x)) apps a app now here.there here.is,
-      ap (tally (nat_eq b)) same,
-    )
 
 -- the users that an application has are its own part
 users-mine : (s : AllSides) (a b : ℕ) (app : AppSide) → FitTogether s → IsApp s.apps a app → user_count a b s.nic s.apps ≡ user_part a b s.nic app

@@ -1,13 +1,12 @@
--- One exchange, computed by the definitions: a buffer of 1,024 bytes, one application, and the payload `hello`.
-use Rattle.std.{proofs.{Common.{◌≡◌, ℕ, true, false, List, [], ◌∷◌, refl}, lemmas.List.Elements.{All-nil, All-cons}}, specs.Prelude.{Some, nat_eq}}
+-- Runs of steps, computed by the definitions: a buffer of 1,024 bytes, one application, and the payload `hello`.
+use Rattle.std.{proofs.{Common.{◌≡◌, ℕ, true, false, List, [], ◌∷◌, refl, map}, lemmas.List.Elements.{All-nil, All-cons}}, specs.Prelude.{Some, nat_eq}}
 use Rattle.area_layout.specs.Layout.{shape_of, judged}
 use Rattle.zr_kinds.specs.declared.{place.{Place.{Place}, Note.{Note}}, ring.Rqe.{Rqe}}
-use Rattle.board_face.specs.{Tokens.{filling}, NicEvents.{fresh, swept, took, placed, sent, honoured, shut}}
-use Rattle.board_face.specs.AppEvents.{took_note, lent, has_read, gave, entry_of, got_spare, filled, begin_place, lent_own, abandoned, scrubbed}
-use Rattle.board_face.specs.{Sides.{nic_at, app_at}, Opened.{new_nic, new_app}, Holders.{own, piece, sent as is_sent, held, spare, loan, owed, holders_of, sent_to}}
-use Rattle.board_face.specs.{Counts.{pool_count, user_count}, FreeOnce.{free_places}, Judged.{fate_of}, Relay.{Relayed, IsAsSent}, Shown.{text_of}, Places.{places_of}}
-use Rattle.board_face.specs.declared.views.{parts.Setting.{Setting}, nic.{Fate.TheVariants.{Honoured, Stray}, NicSide.{NicSide}}, app.AppSide.{AppSide}}
-use Rattle.board_face.specs.declared.views.app.Origin.TheVariants.{Note as of_note}
+use Rattle.board_face.specs.{Tokens.{filling}, NicEvents.{fresh}, AppEvents.{entry_of, begin_place}, Laws.{AllSides, pool_of, user_of, free_of}, Sides.{side_in}}
+use Rattle.board_face.specs.{Opened.{new_nic, new_app}, Holders.{own, piece, sent, held, spare, loan, owed, holders_of, sent_to}}
+use Rattle.board_face.specs.{Judged.{fate_of}, Relay.{Relayed, IsAsSent}, Shown.{text_of}, Places.{places_of}, FineSteps.{fine_apply, scrubs}}
+use Rattle.board_face.specs.BoardSteps.{Step, apply, card, app, takes, sweeps, places, sends, honours, shuts, polls, lends, reads, gives, abandons, spares, fills, lends_own}
+use Rattle.board_face.specs.declared.views.{parts.Setting.{Setting}, nic.Fate.TheVariants.{Honoured, Stray}, app.Origin.TheVariants.{Note as of_note}}
 
 abbrev setting : Setting
 setting = record { layout = shape_of 1 1 1024; places = 64 }
@@ -22,136 +21,78 @@ place = record { buffer = 0; offset = 0; len = 5 }
 abbrev note : Note
 note = record { frame = 1; flow = 0; base = 1001; seq = 1001; at = 0; total = 5; place = place; split = true; fin = false }
 
--- ---- the card's side after each of its calls, and the application's
-
-abbrev card_swept : NicSide
-card_swept = nic_at (new_nic setting) (swept (new_nic setting).view 0 (0 ∷ []))
-
-abbrev card_took : NicSide
-card_took = nic_at card_swept (took card_swept.view 0)
-
-abbrev card_placed : NicSide
-card_placed = nic_at card_took (placed card_took.view (fresh setting 0) hello)
-
-abbrev card_sent : NicSide
-card_sent = nic_at card_placed (sent card_placed.view 0 note)
-
-abbrev app_took : AppSide
-app_took = app_at (new_app setting 0) (took_note (new_app setting 0).view note)
-
-abbrev app_lent : AppSide
-app_lent = app_at app_took (lent app_took.view place)
-
-abbrev app_read : AppSide
-app_read = app_at app_lent (has_read app_lent.view place 0 hello)
-
-abbrev app_gave : AppSide
-app_gave = app_at app_read (gave app_read.view place)
-
 abbrev entry : Rqe
 entry = entry_of setting.layout place
 
-abbrev card_honoured : NicSide
-card_honoured = nic_at card_sent (honoured card_sent.view 0 entry 0)
+abbrev opened : AllSides
+opened = record { nic = new_nic setting; apps = new_app setting 0 ∷ [] }
 
-abbrev card_shut : NicSide
-card_shut = nic_at card_honoured (shut card_honoured.view (filling 0 64 1024) true)
+-- the sides behind each of these steps
+abbrev behind : AllSides → List Step → List AllSides
+behind s [] = []
+behind s (step ∷ steps) = apply step s ∷ behind (apply step s) steps
 
-abbrev begun : List AppSide
-begun = new_app setting 0 ∷ []
+-- ---- a payload goes from hand to hand
 
--- ---- who has the buffer
+abbrev swept : AllSides
+swept = apply (card (sweeps 0 (0 ∷ []))) opened
 
-swept-holders : holders_of 0 card_swept begun ≡ []
-swept-holders = refl
+abbrev lent : AllSides
+lent = apply (app 0 (reads place 0 hello)) (apply (app 0 (lends place)) (apply (app 0 (polls note)) (apply (card (sends 0 note))
+    (apply (card (places (fresh setting 0) hello)) (apply (card (takes 0)) swept)))))
 
-took-holders : holders_of 0 card_took begun ≡ own ∷ []
-took-holders = refl
+abbrev gave : AllSides
+gave = apply (app 0 (gives place)) lent
 
-placed-holders : holders_of 0 card_placed begun ≡ own ∷ piece place ∷ []
-placed-holders = refl
+abbrev honoured : AllSides
+honoured = apply (card (honours 0 entry place false)) gave
 
-sent-holders : holders_of 0 card_sent begun ≡ own ∷ is_sent 0 place ∷ []
-sent-holders = refl
+abbrev shut : AllSides
+shut = apply (card (shuts (filling 0 64 1024) true)) honoured
 
-polled-holders : holders_of 0 card_sent (app_took ∷ []) ≡ own ∷ held 0 place ∷ []
-polled-holders = refl
+-- who has the buffer behind each step
+holders : map (λ s. holders_of 0 s.nic s.apps) (behind opened (
+    card (sweeps 0 (0 ∷ [])) ∷ card (takes 0) ∷ card (places (fresh setting 0) hello) ∷ card (sends 0 note) ∷ app 0 (polls note)
+    ∷ app 0 (lends place) ∷ app 0 (gives place) ∷ card (honours 0 entry place false) ∷ card (shuts (filling 0 64 1024) true) ∷ []))
+    ≡ [] ∷ (own ∷ []) ∷ (own ∷ piece place ∷ []) ∷ (own ∷ sent 0 place ∷ []) ∷ (own ∷ held 0 place ∷ [])
+    ∷ (own ∷ loan 0 place ∷ []) ∷ (own ∷ owed 0 place ∷ []) ∷ (own ∷ []) ∷ [] ∷ []
+holders = refl
 
-lent-holders : holders_of 0 card_sent (app_lent ∷ []) ≡ own ∷ loan 0 place ∷ []
-lent-holders = refl
+-- its counts, and where it is free
+counts : map (λ s. pool_of s 0 ∷ user_of s 0 0 ∷ []) (lent ∷ gave ∷ honoured ∷ []) ≡ (2 ∷ 1 ∷ []) ∷ (2 ∷ 1 ∷ []) ∷ (1 ∷ 0 ∷ []) ∷ []
+counts = refl
 
-gave-holders : holders_of 0 card_sent (app_gave ∷ []) ≡ own ∷ owed 0 place ∷ []
-gave-holders = refl
+free : (free_of (nat_eq 0) opened 0 ∷ map (λ s. free_of (λ _. false) s 0) (lent ∷ shut ∷ [])) ≡ 1 ∷ 0 ∷ 1 ∷ []
+free = refl
 
-honoured-holders : holders_of 0 card_honoured (app_gave ∷ []) ≡ own ∷ []
-honoured-holders = refl
-
-shut-holders : holders_of 0 card_shut (app_gave ∷ []) ≡ []
-shut-holders = refl
-
--- ---- counts, free places, what is judged, shown and relayed
-
-lent-counts : (pool_count 0 card_sent (app_lent ∷ []) ≡ 2) × (user_count 0 0 card_sent (app_lent ∷ []) ≡ 1)
-lent-counts = (refl, refl)
-
-gave-counts : (pool_count 0 card_sent (app_gave ∷ []) ≡ 2) × (user_count 0 0 card_sent (app_gave ∷ []) ≡ 1)
-gave-counts = (refl, refl)
-
-honoured-counts : (pool_count 0 card_honoured (app_gave ∷ []) ≡ 1) × (user_count 0 0 card_honoured (app_gave ∷ []) ≡ 0)
-honoured-counts = (refl, refl)
-
-opened-free : free_places (nat_eq 0) 0 (new_nic setting) begun ≡ 1
-opened-free = refl
-
-sent-free : free_places (λ _. false) 0 card_sent begun ≡ 0
-sent-free = refl
-
-shut-free : free_places (λ _. false) 0 card_shut (app_gave ∷ []) ≡ 1
-shut-free = refl
-
+-- the entry is judged a return, and a stray where it comes again
 entry-judged : judged setting.layout entry ≡ Some 0
 entry-judged = refl
 
-gave-fate : fate_of setting.layout (λ b. user_count 0 b card_sent (app_gave ∷ [])) entry ≡ Honoured 0
-gave-fate = refl
+fates : map (λ s. fate_of setting.layout (user_of s 0) entry) (gave ∷ honoured ∷ []) ≡ Honoured 0 ∷ Stray ∷ []
+fates = refl
 
-again-fate : fate_of setting.layout (λ b. user_count 0 b card_honoured (app_gave ∷ [])) entry ≡ Stray
-again-fate = refl
-
-lent-text : text_of card_sent app_lent (of_note 0 0) place ≡ hello
+lent-text : text_of lent.nic (side_in lent.apps 0) (of_note 0 0) place ≡ hello
 lent-text = refl
 
-lent-relayed : Relayed card_sent app_gave [] (entry ∷ [])
-lent-relayed = assumption (All-cons (IsAsSent (sent_to 0 card_sent)) (record { origin = of_note 0 0; bytes = hello }) [] refl (All-nil (IsAsSent (sent_to 0 card_sent))))
+lent-relayed : Relayed lent.nic (side_in gave.apps 0) [] (entry ∷ [])
+lent-relayed = assumption (All-cons (IsAsSent (sent_to 0 lent.nic)) (record { origin = of_note 0 0; bytes = hello }) [] refl (All-nil (IsAsSent (sent_to 0 lent.nic))))
 
 -- ---- a short payload, copied into the reserve, cut off by an abandoned loan and a scrub
 
-abbrev app_spared : AppSide
-app_spared = app_at (new_app setting 0) (got_spare (new_app setting 0).view 1)
+abbrev filled : AllSides
+filled = apply (app 0 (fills (fresh setting 1) hello)) (apply (app 0 (spares 1)) opened)
 
-abbrev app_filled : AppSide
-app_filled = app_at app_spared (filled app_spared.view (fresh setting 1) hello)
+abbrev abandoned : AllSides
+abandoned = apply (app 0 (abandons (begin_place 1 5))) (apply (app 0 (lends_own (filling 1 64 1024))) filled)
 
-abbrev app_lent_own : AppSide
-app_lent_own = app_at app_filled (lent_own app_filled.view (filling 1 64 1024))
-
-abbrev app_abandoned : AppSide
-app_abandoned = app_at app_lent_own (abandoned app_lent_own.view (begin_place 1 5))
-
-abbrev app_scrubbed : AppSide
-app_scrubbed = record { view = scrubbed app_abandoned.view; inside = record app_abandoned.inside { scrub_took = 0 ∷ 1 ∷ [] } }
-
-spared-holders : holders_of 1 (new_nic setting) (app_spared ∷ []) ≡ spare 0 ∷ []
-spared-holders = refl
-
-filled-places : places_of 1 (new_nic setting) (app_filled ∷ []) ≡ begin_place 1 5 ∷ []
+filled-places : places_of 1 filled.nic filled.apps ≡ begin_place 1 5 ∷ []
 filled-places = refl
 
-lent_own-holders : holders_of 1 (new_nic setting) (app_lent_own ∷ []) ≡ loan 0 (begin_place 1 5) ∷ []
-lent_own-holders = refl
+copy-holders : map (λ s. holders_of 1 s.nic s.apps) (behind opened (
+    app 0 (spares 1) ∷ app 0 (fills (fresh setting 1) hello) ∷ app 0 (lends_own (filling 1 64 1024)) ∷ app 0 (abandons (begin_place 1 5)) ∷ []))
+    ≡ (spare 0 ∷ []) ∷ (spare 0 ∷ []) ∷ (loan 0 (begin_place 1 5) ∷ []) ∷ (owed 0 (begin_place 1 5) ∷ []) ∷ []
+copy-holders = refl
 
-abandoned-holders : holders_of 1 (new_nic setting) (app_abandoned ∷ []) ≡ owed 0 (begin_place 1 5) ∷ []
-abandoned-holders = refl
-
-scrubbed-holders : holders_of 1 (new_nic setting) (app_scrubbed ∷ []) ≡ []
+scrubbed-holders : let s = fine_apply (scrubs 0 (0 ∷ 1 ∷ [])) abandoned in holders_of 1 s.nic s.apps ≡ []
 scrubbed-holders = refl

@@ -50,20 +50,25 @@ pub free_places-nic : (listed : ℕ → Bool) (b : ℕ) (nic : NicSide) (v : Nic
     → free_places listed b (nic_at nic v) apps ≡ free_places listed b nic apps
 free_places-nic listed b nic v apps same = rw same refl
 
--- and so does every event of an application
-pub free_places-app : (listed : ℕ → Bool) (b : ℕ) (nic : NicSide) (apps : List AppSide) (a : ℕ) (app : AppSide) (v : AppView) → IsApp apps a app
-    → free_places listed b nic (set apps a (app_at app v)) ≡ free_places listed b nic apps
-free_places-app listed b nic apps a app v here =
-    let now = set apps a (app_at app v) in
+-- and so does what leaves the hands of an application
+pub free-side : (listed : ℕ → Bool) (b : ℕ) (nic : NicSide) (apps : List AppSide) (a : ℕ) (app now : AppSide) → IsApp apps a app
+    → now.inside.hands ≡ app.inside.hands → free_places listed b nic (set apps a now) ≡ free_places listed b nic apps
+free-side listed b nic apps a app now here same =
     let hands : AppSide → List ℕ = λ x. x.inside.hands in
     omega (
       arith,
-      count-tally (nat_eq b) (flat_map hands now),
+      count-tally (nat_eq b) (flat_map hands (set apps a now)),
       count-tally (nat_eq b) (flat_map hands apps),
-      tally-flat (nat_eq b) hands now,
+      tally-flat (nat_eq b) hands (set apps a now),
       tally-flat (nat_eq b) hands apps,
-      total-set (λ x. tally (nat_eq b) (hands x)) apps a app (app_at app v) here.there here.is,
+      total-set (λ x. tally (nat_eq b) (hands x)) apps a app now here.there here.is,
+      ap (tally (nat_eq b)) same,
     )
+
+-- and so does every event of an application
+pub free_places-app : (listed : ℕ → Bool) (b : ℕ) (nic : NicSide) (apps : List AppSide) (a : ℕ) (app : AppSide) (v : AppView) → IsApp apps a app
+    → free_places listed b nic (set apps a (app_at app v)) ≡ free_places listed b nic apps
+free_places-app listed b nic apps a app v here = free-side listed b nic apps a app (app_at app v) here refl
 
 -- a buffer that stands in a free place, as in the cache, has no holder
 pub IsFreeOnce-unheld : (listed : ℕ → Bool) (b : ℕ) (nic : NicSide) (apps : List AppSide) → IsFreeOnce listed b nic apps

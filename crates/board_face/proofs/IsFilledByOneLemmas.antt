@@ -1,24 +1,23 @@
 -- A buffer is filled by one at most, and a spare's buffer has no other holder: what each event leaves of that.
+use Rattle.board_face.{proofs.FillerCounts.{owns_in-filled}, specs.Tokens.{next_place}}
+use Rattle.board_face.proofs.AppLemmas.{owns-without as spares-without}
 use Rattle.std.proofs.Common.{◌≡◌, ℕ, ◌+◌, ◌<◌, ◌≤◌, Bool, true, false, List, [], ◌∷◌, length, set, refl, ap, subst, ⊎_elim, arith}
 use Rattle.std.{specs.Prelude.{◌==◌, All, slice_index, Some, None}, proofs.lemmas.Bool.{eq-eqb, cases_lt, Decides.{eqb_tells}}}
 use Rattle.std.proofs.lemmas.List.Elements.{All-nil, All-cons, All-head, All-tail}
 use Rattle.zr_kinds.specs.declared.{place.{Place.{Place}, Note.{Note}}, ring.Rqe.{Rqe}}
 use Rattle.area_layout.specs.Layout.{total as all_buffers}
-use Rattle.board_face.specs.{Lists.{without}, Tokens.{next_place, filled_by, same_filling}}
 use Rattle.board_face.specs.NicEvents.{begun, text_done, took, swept, placed, sent, sent_linear, gave_up, shut, passed_over, honoured}
 use Rattle.board_face.specs.{AppEvents.{took_note, took_linear, cut, released, lent, abandoned, gave, got_spare, filled, lent_own}, NicCalls.{HasOwn, HasPiece}}
 use Rattle.board_face.specs.{AppCalls.{HasHeld, HasLoan, HasSpare}, Sides.{nic_at, app_at, IsApp, AreNumbered}, Holders.{sent_to, holders_of}}
 use Rattle.board_face.specs.{Counts.{pool_count, EndedWereReturned}, Fillings.{is_filling, IsFilledByOne}, declared.views.parts.{Filling.{Filling}, Making.{Making}}}
 use Rattle.board_face.specs.declared.views.{nic.{NicView.{NicView}, NicSide.{NicSide}}, app.{SpareOwn.{SpareOwn}, AppView.{AppView}, AppSide.{AppSide}}}
-use Rattle.board_face.proofs.Tallies.{weight, tally, total, tally-le, tally-push, total-set}
-use Rattle.board_face.proofs.Parts.{owns_in, pieces_in, spares_in, app_count, owed_count, count-tally}
+use Rattle.board_face.proofs.{Tallies.{weight, tally, total, tally-le, total-set}, Parts.{owns_in, pieces_in, spares_in, app_count, owed_count, count-tally}}
 use Rattle.board_face.proofs.NicLemmas.{Owes, making_at, owns-without, pool_count-nic, pool_count-took, pool_count-placed, pool_count-shut, pool_count-sent}
 use Rattle.board_face.proofs.NicLemmas.{pool_count-sent_linear, pool_count-honoured, pool_count-passed_over, pool_count-begun, pool_count-text_done}
 use Rattle.board_face.proofs.AppLemmas.{SameHoldings, scrubbed_side, pool_count-app, app_count-same, app_count-took_note, app_count-took_linear}
 use Rattle.board_face.proofs.AppLemmas.{app_count-cut, app_count-released, app_count-lent, app_count-abandoned, app_count-gave, app_count-got_spare}
 use Rattle.board_face.proofs.AppLemmas.{app_count-filled, app_count-lent_own, app_count-scrubbed}
-use Rattle.board_face.proofs.FillerCounts.{fillings-parts, owns_in-took, owns_in-shut, owns_in-placed, spares_in-got_spare, spares_in-filled, spares_in-lent_own}
-use Rattle.board_face.specs.Laws.{IsNextNote}
+use Rattle.board_face.{proofs.FillerCounts.{fillings-parts, owns_in-took, spares_in-got_spare, spares_in-filled}, specs.Laws.{IsNextNote}}
 
 -- ---- the same by numbers
 
@@ -89,191 +88,193 @@ IsFilledByOne-fewer b nic nic' apps apps' same owns spares holders sound =
 
 -- ---- the card's events
 
--- an event that touches neither the buffers for filling nor the pieces, notes and entries
-pub IsFilledByOne-nic : (b : ℕ) (nic : NicSide) (v : NicView) (apps : List AppSide) → v.setting ≡ nic.view.setting → v.owns ≡ nic.view.owns
-    → v.pieces ≡ nic.view.pieces → v.sent ≡ nic.view.sent → v.dealt ≡ nic.view.dealt
-    → IsFilledByOne b nic apps → IsFilledByOne b (nic_at nic v) apps
-IsFilledByOne-nic b nic v apps setting owns pieces sents deals sound =
-    let same_owns : owns_in b (nic_at nic v) ≡ owns_in b nic = rw owns refl in
-    let same_pieces : pieces_in b (nic_at nic v) ≡ pieces_in b nic = rw pieces refl in
-    IsFilledByOne-fewer b nic (nic_at nic v) apps apps setting (omega (arith, same_owns)) (omega arith)
-    (omega (arith, same_owns, same_pieces, pool_count-nic b nic v apps sents deals)) sound
+module _ (b : ℕ) (nic : NicSide) where
+  -- it stays so where the card's side is this
+  abbrev pub CardStays : List AppSide → NicSide → Type 0
+  CardStays apps now = IsFilledByOne b nic apps → IsFilledByOne b now apps
 
-pub IsFilledByOne-swept : (b : ℕ) (nic : NicSide) (apps : List AppSide) (word : ℕ) (found : List ℕ) → IsFilledByOne b nic apps
-    → IsFilledByOne b (nic_at nic (swept nic.view word found)) apps
-IsFilledByOne-swept b nic apps word found sound = IsFilledByOne-nic b nic (swept nic.view word found) apps refl refl refl refl refl sound
+  -- an event that touches neither the buffers for filling nor the pieces, notes and entries
+  pub IsFilledByOne-nic : (v : NicView) (apps : List AppSide) → v.setting ≡ nic.view.setting → v.owns ≡ nic.view.owns
+      → v.pieces ≡ nic.view.pieces → v.sent ≡ nic.view.sent → v.dealt ≡ nic.view.dealt → CardStays apps (nic_at nic v)
+  IsFilledByOne-nic v apps setting owns pieces sents deals sound =
+      let same_owns : owns_in b (nic_at nic v) ≡ owns_in b nic = rw owns refl in
+      let same_pieces : pieces_in b (nic_at nic v) ≡ pieces_in b nic = rw pieces refl in
+      IsFilledByOne-fewer b nic (nic_at nic v) apps apps setting (omega (arith, same_owns)) (omega arith)
+      (omega (arith, same_owns, same_pieces, pool_count-nic b nic v apps sents deals)) sound
 
-pub IsFilledByOne-gave_up : (b : ℕ) (nic : NicSide) (apps : List AppSide) (buffer : ℕ) (last : Bool) → IsFilledByOne b nic apps
-    → IsFilledByOne b (nic_at nic (gave_up nic.view buffer last)) apps
-IsFilledByOne-gave_up b nic apps buffer last sound = IsFilledByOne-nic b nic (gave_up nic.view buffer last) apps refl refl refl refl refl sound
+module _ (b : ℕ) (nic : NicSide) (apps : List AppSide) where
+  pub IsFilledByOne-swept : (word : ℕ) (found : List ℕ) → CardStays b nic apps (nic_at nic (swept nic.view word found))
+  IsFilledByOne-swept word found sound = IsFilledByOne-nic b nic (swept nic.view word found) apps refl refl refl refl refl sound
 
--- a buffer is taken that nobody has
-pub IsFilledByOne-took : (b : ℕ) (nic : NicSide) (apps : List AppSide) (buffer : ℕ) → buffer < all_buffers nic.view.setting.layout
-    → pool_count buffer nic apps ≡ 0 → IsFilledByOne b nic apps → IsFilledByOne b (nic_at nic (took nic.view buffer)) apps
-IsFilledByOne-took b nic apps buffer within free sound =
-    let now = nic_at nic (took nic.view buffer) in
-    let owns = owns_in-took b nic buffer in
-    let count = pool_count-took b nic apps buffer in
-    let held = fillings-held b nic apps in
-    let one = fillings-one b nic apps sound in
-    ⊎_elim
-    (λ t.
-    let here : weight (buffer == b) ≡ 1 = ap weight t.0 in
-    let none : pool_count b nic apps ≡ 0 = subst (λ c. pool_count c nic apps ≡ 0) t.1 free in
-    IsFilledByOne-from b now apps (omega (arith, owns, here, none, held)) (λ more. absurd (omega (arith, none, held)))
-    (λ past. absurd (let e = t.1 in omega arith)))
-    (λ t.
-    let other : weight (buffer == b) ≡ 0 = ap weight t.0 in
-    IsFilledByOne-fewer b nic now apps apps refl (omega (arith, owns, other)) (omega arith) (omega (arith, count, other)) sound)
-    (eqb_tells buffer b)
+  pub IsFilledByOne-gave_up : (buffer : ℕ) (last : Bool) → CardStays b nic apps (nic_at nic (gave_up nic.view buffer last))
+  IsFilledByOne-gave_up buffer last sound = IsFilledByOne-nic b nic (gave_up nic.view buffer last) apps refl refl refl refl refl sound
 
--- a buffer has one holder more, which the card fills
-more-held : (b w : ℕ) (nic nic' : NicSide) (apps : List AppSide) → nic'.view.setting ≡ nic.view.setting → w ≤ owns_in b nic
-    → owns_in b nic' ≡ owns_in b nic → pool_count b nic' apps ≡ pool_count b nic apps + w → IsFilledByOne b nic apps → IsFilledByOne b nic' apps
-more-held b w nic nic' apps same mine owns count sound =
-    let held = fillings-held b nic apps in
-    let one = fillings-one b nic apps sound in
-    IsFilledByOne-from b nic' apps
-    (omega arith)
-    (λ more. let was = fillings-alone b nic apps sound more in omega arith)
-    (λ past. let past_before : all_buffers nic.view.setting.layout ≤ b = rw same at past in let was = sound.inside past_before in omega arith)
+  -- a buffer is taken that nobody has
+  pub IsFilledByOne-took : (buffer : ℕ) → buffer < all_buffers nic.view.setting.layout → pool_count buffer nic apps ≡ 0
+      → CardStays b nic apps (nic_at nic (took nic.view buffer))
+  IsFilledByOne-took buffer within free sound =
+      let now = nic_at nic (took nic.view buffer) in
+      let owns = owns_in-took b nic buffer in
+      let count = pool_count-took b nic apps buffer in
+      let held = fillings-held b nic apps in
+      ⊎_elim
+      (λ t.
+      let here : weight (buffer == b) ≡ 1 = ap weight t.0 in
+      let none : pool_count b nic apps ≡ 0 = subst (λ c. pool_count c nic apps ≡ 0) t.1 free in
+      IsFilledByOne-from b now apps (omega (arith, owns, here, none, held)) (λ more. absurd (omega (arith, none, held)))
+      (λ past. absurd (let e = t.1 in omega arith)))
+      (λ t.
+      let other : weight (buffer == b) ≡ 0 = ap weight t.0 in
+      IsFilledByOne-fewer b nic now apps apps refl (omega (arith, owns, other)) (omega arith) (omega (arith, count, other)) sound)
+      (eqb_tells buffer b)
 
-pub IsFilledByOne-placed : (b : ℕ) (nic : NicSide) (apps : List AppSide) (own : Filling) (bytes : List ℕ) → HasOwn nic.view own
-    → IsFilledByOne b nic apps → IsFilledByOne b (nic_at nic (placed nic.view own bytes)) apps
-IsFilledByOne-placed b nic apps own bytes out sound =
-    more-held b (weight (own.buffer == b)) nic (nic_at nic (placed nic.view own bytes)) apps refl (omega (arith, owns-without b nic own out))
-    (owns_in-placed b nic own bytes out) (pool_count-placed b nic apps own bytes out) sound
+  -- a buffer has one holder more, which the card fills
+  more-held : (own : Filling) (now : NicSide) → HasOwn nic.view own → now.view.setting ≡ nic.view.setting → owns_in b now ≡ owns_in b nic
+      → pool_count b now apps ≡ pool_count b nic apps + weight (own.buffer == b) → CardStays b nic apps now
+  more-held own now out same owns count sound =
+      let mine = owns-without b nic own out in
+      let held = fillings-held b nic apps in
+      let one = fillings-one b nic apps sound in
+      IsFilledByOne-from b now apps
+      (omega arith)
+      (λ more. let was = fillings-alone b nic apps sound more in omega arith)
+      (λ past. let past_before : all_buffers nic.view.setting.layout ≤ b = rw same at past in let was = sound.inside past_before in omega arith)
 
--- the two parts of a placing
-pub IsFilledByOne-begun : (b : ℕ) (nic : NicSide) (apps : List AppSide) (own : Filling) (n : ℕ) (words : List ℕ) → HasOwn nic.view own
-    → nic.inside.making ≡ None → IsFilledByOne b nic apps
-    → IsFilledByOne b (making_at nic (begun nic.view own n) (Some (record { place = next_place own n; words = words }))) apps
-IsFilledByOne-begun b nic apps own n words out idle sound =
-    let now = making_at nic (begun nic.view own n) (Some (record { place = next_place own n; words = words })) in
-    let owns : owns_in b now ≡ owns_in b nic = omega (
-      arith,
-      owns-without b nic own out,
-      tally-push (λ (o : Filling). o.buffer == b) (without (same_filling own) nic.view.owns) (filled_by own n),
-    ) in
-    more-held b (weight (own.buffer == b)) nic now apps refl (omega (arith, owns-without b nic own out)) owns
-    (pool_count-begun b nic apps own n words out idle) sound
+  pub IsFilledByOne-placed : (own : Filling) (bytes : List ℕ) → HasOwn nic.view own → CardStays b nic apps (nic_at nic (placed nic.view own bytes))
+  IsFilledByOne-placed own bytes out sound =
+      more-held own (nic_at nic (placed nic.view own bytes)) out refl (owns_in-filled b nic own (length bytes) out)
+      (pool_count-placed b nic apps own bytes out) sound
 
-pub IsFilledByOne-text_done : (b : ℕ) (nic : NicSide) (apps : List AppSide) (own : Filling) (bytes : List ℕ) (making : Making)
-    → nic.inside.making ≡ Some making → making.place ≡ next_place own (length bytes) → IsFilledByOne b nic apps
-    → IsFilledByOne b (making_at nic (text_done nic.view own bytes) None) apps
-IsFilledByOne-text_done b nic apps own bytes making busy place sound =
-    IsFilledByOne-fewer b nic (making_at nic (text_done nic.view own bytes) None) apps apps refl (omega arith) (omega arith)
-    (omega (arith, pool_count-text_done b nic apps own bytes making busy place)) sound
+  -- the two parts of a placing
+  pub IsFilledByOne-begun : (own : Filling) (n : ℕ) (words : List ℕ) → HasOwn nic.view own → nic.inside.making ≡ None
+      → CardStays b nic apps (making_at nic (begun nic.view own n) (Some (record { place = next_place own n; words = words })))
+  IsFilledByOne-begun own n words out idle sound =
+      more-held own (making_at nic (begun nic.view own n) (Some (record { place = next_place own n; words = words }))) out refl
+      (owns_in-filled b nic own n out) (pool_count-begun b nic apps own n words out idle) sound
 
-pub IsFilledByOne-shut : (b : ℕ) (nic : NicSide) (apps : List AppSide) (own : Filling) (last : Bool) → HasOwn nic.view own → IsFilledByOne b nic apps
-    → IsFilledByOne b (nic_at nic (shut nic.view own last)) apps
-IsFilledByOne-shut b nic apps own last out sound =
-    IsFilledByOne-fewer b nic (nic_at nic (shut nic.view own last)) apps apps refl (omega (arith, owns_in-shut b nic own last out)) (omega arith)
-    (omega (arith, pool_count-shut b nic apps own last out)) sound
+  pub IsFilledByOne-text_done : (own : Filling) (bytes : List ℕ) (making : Making) → nic.inside.making ≡ Some making
+      → making.place ≡ next_place own (length bytes) → CardStays b nic apps (making_at nic (text_done nic.view own bytes) None)
+  IsFilledByOne-text_done own bytes making busy place sound =
+      IsFilledByOne-fewer b nic (making_at nic (text_done nic.view own bytes) None) apps apps refl (omega arith) (omega arith)
+      (omega (arith, pool_count-text_done b nic apps own bytes making busy place)) sound
 
-pub IsFilledByOne-sent : (b : ℕ) (nic : NicSide) (apps : List AppSide) (a : ℕ) (note : Note) (app : AppSide) → HasPiece nic.view note.place
-    → note.split ≡ true → AreNumbered 0 apps → IsApp apps a app → length app.view.taken ≤ length (sent_to a nic)
-    → IsFilledByOne b nic apps → IsFilledByOne b (nic_at nic (sent nic.view a note)) apps
-IsFilledByOne-sent b nic apps a note app out split numbered here within sound =
-    IsFilledByOne-fewer b nic (nic_at nic (sent nic.view a note)) apps apps refl (omega arith) (omega arith)
-    (omega (arith, pool_count-sent b nic apps a note app out split numbered here within)) sound
+  pub IsFilledByOne-shut : (own : Filling) (last : Bool) → HasOwn nic.view own → CardStays b nic apps (nic_at nic (shut nic.view own last))
+  IsFilledByOne-shut own last out sound =
+      IsFilledByOne-fewer b nic (nic_at nic (shut nic.view own last)) apps apps refl (omega (arith, owns-without b nic own out)) (omega arith)
+      (omega (arith, pool_count-shut b nic apps own last out)) sound
 
-pub IsFilledByOne-sent_linear : (b : ℕ) (nic : NicSide) (apps : List AppSide) (a : ℕ) (note : Note) (bytes : List ℕ) (app : AppSide)
-    → note.split ≡ false → AreNumbered 0 apps → IsApp apps a app → length app.view.taken ≤ length (sent_to a nic)
-    → IsFilledByOne b nic apps → IsFilledByOne b (nic_at nic (sent_linear nic.view a note bytes)) apps
-IsFilledByOne-sent_linear b nic apps a note bytes app split numbered here within sound =
-    IsFilledByOne-fewer b nic (nic_at nic (sent_linear nic.view a note bytes)) apps apps refl (omega arith) (omega arith)
-    (omega (arith, pool_count-sent_linear b nic apps a note bytes app split numbered here within)) sound
+  -- where neither the card's buffers for filling nor the holders come
+  holds-fewer : (v : NicView) → v.setting ≡ nic.view.setting → v.owns ≡ nic.view.owns → pool_count b (nic_at nic v) apps ≤ pool_count b nic apps
+      → CardStays b nic apps (nic_at nic v)
+  holds-fewer v setting owns holders sound =
+      IsFilledByOne-fewer b nic (nic_at nic v) apps apps setting (let same : owns_in b (nic_at nic v) ≡ owns_in b nic = rw owns refl in omega (arith, same))
+      (omega arith) holders sound
 
-pub IsFilledByOne-honoured : (b : ℕ) (nic : NicSide) (apps : List AppSide) (a buffer : ℕ) (entry : Rqe) (app : AppSide) → AreNumbered 0 apps
-    → IsApp apps a app → Owes buffer nic app
-    → IsFilledByOne b nic apps → IsFilledByOne b (nic_at nic (honoured nic.view a entry buffer)) apps
-IsFilledByOne-honoured b nic apps a buffer entry app numbered here owes sound =
-    IsFilledByOne-fewer b nic (nic_at nic (honoured nic.view a entry buffer)) apps apps refl (omega arith) (omega arith)
-    (omega (arith, pool_count-honoured b nic apps a buffer entry app numbered here owes)) sound
+  pub IsFilledByOne-sent : (a : ℕ) (note : Note) (app : AppSide) → HasPiece nic.view note.place → note.split ≡ true → AreNumbered 0 apps → IsApp apps a app
+      → length app.view.taken ≤ length (sent_to a nic) → CardStays b nic apps (nic_at nic (sent nic.view a note))
+  IsFilledByOne-sent a note app out split numbered here within sound =
+      holds-fewer (sent nic.view a note) refl refl (omega (arith, pool_count-sent b nic apps a note app out split numbered here within)) sound
 
-pub IsFilledByOne-passed_over : (b : ℕ) (nic : NicSide) (apps : List AppSide) (a : ℕ) (entry : Rqe) → IsFilledByOne b nic apps
-    → IsFilledByOne b (nic_at nic (passed_over nic.view a entry)) apps
-IsFilledByOne-passed_over b nic apps a entry sound =
-    IsFilledByOne-fewer b nic (nic_at nic (passed_over nic.view a entry)) apps apps refl (omega arith) (omega arith)
-    (omega (arith, pool_count-passed_over b nic apps a entry)) sound
+  pub IsFilledByOne-sent_linear : (a : ℕ) (note : Note) (bytes : List ℕ) (app : AppSide) → note.split ≡ false → AreNumbered 0 apps → IsApp apps a app
+      → length app.view.taken ≤ length (sent_to a nic) → CardStays b nic apps (nic_at nic (sent_linear nic.view a note bytes))
+  IsFilledByOne-sent_linear a note bytes app split numbered here within sound =
+      holds-fewer (sent_linear nic.view a note bytes) refl refl
+      (omega (arith, pool_count-sent_linear b nic apps a note bytes app split numbered here within)) sound
+
+  pub IsFilledByOne-honoured : (a buffer : ℕ) (entry : Rqe) (app : AppSide) → AreNumbered 0 apps → IsApp apps a app → Owes buffer nic app
+      → CardStays b nic apps (nic_at nic (honoured nic.view a entry buffer))
+  IsFilledByOne-honoured a buffer entry app numbered here owes sound =
+      holds-fewer (honoured nic.view a entry buffer) refl refl (omega (arith, pool_count-honoured b nic apps a buffer entry app numbered here owes)) sound
+
+  pub IsFilledByOne-passed_over : (a : ℕ) (entry : Rqe) → CardStays b nic apps (nic_at nic (passed_over nic.view a entry))
+  IsFilledByOne-passed_over a entry sound =
+      holds-fewer (passed_over nic.view a entry) refl refl (omega (arith, pool_count-passed_over b nic apps a entry)) sound
 
 -- ---- an application's events
 
--- an event by which this application's part comes to no more
-pub IsFilledByOne-app : (b : ℕ) (nic : NicSide) (apps : List AppSide) (a : ℕ) (app now : AppSide) → IsApp apps a app
-    → spares_in b now ≤ spares_in b app → app_count b nic now ≤ app_count b nic app → IsFilledByOne b nic apps
-    → IsFilledByOne b nic (set apps a now)
-IsFilledByOne-app b nic apps a app now here spares count sound =
-    IsFilledByOne-fewer b nic nic apps (set apps a now) refl (omega arith) (omega (arith, total-set (spares_in b) apps a app now here.there here.is))
-    (omega (arith, pool_count-app b nic apps a app now here)) sound
+module _ (b : ℕ) (nic : NicSide) (apps : List AppSide) (a : ℕ) (app : AppSide) where
+  -- it stays so where the application's side is this
+  abbrev pub SideStays : AppSide → Type 0
+  SideStays now = IsFilledByOne b nic apps → IsFilledByOne b nic (set apps a now)
 
--- an event that touches no holding
-pub IsFilledByOne-same : (b : ℕ) (nic : NicSide) (apps : List AppSide) (a : ℕ) (app : AppSide) (v : AppView) → IsApp apps a app
-    → SameHoldings app.view v → IsFilledByOne b nic apps → IsFilledByOne b nic (set apps a (app_at app v))
-IsFilledByOne-same b nic apps a app v here same sound =
-    let spares : spares_in b (app_at app v) ≡ spares_in b app = rw same.owns refl in
-    IsFilledByOne-app b nic apps a app (app_at app v) here (omega (arith, spares)) (omega (arith, app_count-same b nic app v same)) sound
+  -- an event by which this application's part comes to no more
+  pub IsFilledByOne-app : (now : AppSide) → IsApp apps a app → spares_in b now ≤ spares_in b app → app_count b nic now ≤ app_count b nic app → SideStays now
+  IsFilledByOne-app now here spares count sound =
+      IsFilledByOne-fewer b nic nic apps (set apps a now) refl (omega arith) (omega (arith, total-set (spares_in b) apps a app now here.there here.is))
+      (omega (arith, pool_count-app b nic apps a app now here)) sound
 
-pub IsFilledByOne-took_note : (b : ℕ) (nic : NicSide) (apps : List AppSide) (a : ℕ) (app : AppSide) (note : Note) → IsApp apps a app
-    → IsNextNote nic app note → note.split ≡ true → IsFilledByOne b nic apps → IsFilledByOne b nic (set apps a (app_at app (took_note app.view note)))
-IsFilledByOne-took_note b nic apps a app note here next split sound =
-    IsFilledByOne-app b nic apps a app (app_at app (took_note app.view note)) here (omega arith)
-    (omega (arith, app_count-took_note b nic app note next split)) sound
+  -- an event that touches no holding
+  pub IsFilledByOne-same : (v : AppView) → IsApp apps a app → SameHoldings app.view v → SideStays (app_at app v)
+  IsFilledByOne-same v here same sound =
+      let spares : spares_in b (app_at app v) ≡ spares_in b app = rw same.owns refl in
+      IsFilledByOne-app (app_at app v) here (omega (arith, spares)) (omega (arith, app_count-same b nic app v same)) sound
 
-pub IsFilledByOne-took_linear : (b : ℕ) (nic : NicSide) (apps : List AppSide) (a : ℕ) (app : AppSide) (note : Note) (bytes : List ℕ) → IsApp apps a app
-    → IsNextNote nic app note → note.split ≡ false → IsFilledByOne b nic apps
-    → IsFilledByOne b nic (set apps a (app_at app (took_linear app.view note bytes)))
-IsFilledByOne-took_linear b nic apps a app note bytes here next split sound =
-    IsFilledByOne-app b nic apps a app (app_at app (took_linear app.view note bytes)) here (omega arith)
-    (omega (arith, app_count-took_linear b nic app note bytes next split)) sound
+  pub IsFilledByOne-took_note : (note : Note) → IsApp apps a app → IsNextNote nic app note → note.split ≡ true → SideStays (app_at app (took_note app.view note))
+  IsFilledByOne-took_note note here next split sound =
+      IsFilledByOne-app (app_at app (took_note app.view note)) here (omega arith) (omega (arith, app_count-took_note b nic app note next split)) sound
 
--- a piece that is held lies in no spare's buffer, so it may have one holder more
-pub IsFilledByOne-cut : (b : ℕ) (nic : NicSide) (apps : List AppSide) (a : ℕ) (app : AppSide) (place : Place) (at : ℕ) → IsApp apps a app
-    → HasHeld app.view place → IsFilledByOne b nic apps → IsFilledByOne b nic (set apps a (app_at app (cut app.view place at)))
-IsFilledByOne-cut b nic apps a app place at here out sound =
-    let now = app_at app (cut app.view place at) in
-    let less = app_at app (released app.view place) in
-    let count = pool_count-app b nic apps a app now here in
-    let more = app_count-cut b nic app place at out in
-    let count_less = pool_count-app b nic apps a app less here in
-    let fewer = app_count-released b nic app place out in
-    let spares = total-set (spares_in b) apps a app now here.there here.is in
-    let spares_less = total-set (spares_in b) apps a app less here.there here.is in
-    let held = fillings-held b nic (set apps a less) in
-    let one = fillings-one b nic apps sound in
-    IsFilledByOne-from b nic (set apps a now)
-    (omega arith)
-    (λ some. let was = fillings-alone b nic apps sound (omega arith) in omega arith)
-    (λ past. let was = sound.inside past in omega arith)
+  pub IsFilledByOne-took_linear : (note : Note) (bytes : List ℕ) → IsApp apps a app → IsNextNote nic app note → note.split ≡ false
+      → SideStays (app_at app (took_linear app.view note bytes))
+  IsFilledByOne-took_linear note bytes here next split sound =
+      IsFilledByOne-app (app_at app (took_linear app.view note bytes)) here (omega arith)
+      (omega (arith, app_count-took_linear b nic app note bytes next split)) sound
 
-pub IsFilledByOne-released : (b : ℕ) (nic : NicSide) (apps : List AppSide) (a : ℕ) (app : AppSide) (place : Place) → IsApp apps a app
-    → HasHeld app.view place → IsFilledByOne b nic apps → IsFilledByOne b nic (set apps a (app_at app (released app.view place)))
-IsFilledByOne-released b nic apps a app place here out sound =
-    IsFilledByOne-app b nic apps a app (app_at app (released app.view place)) here (omega arith) (omega (arith, app_count-released b nic app place out)) sound
+  -- a piece that is held lies in no spare's buffer, so it may have one holder more
+  pub IsFilledByOne-cut : (place : Place) (at : ℕ) → IsApp apps a app → HasHeld app.view place → SideStays (app_at app (cut app.view place at))
+  IsFilledByOne-cut place at here out sound =
+      let now = app_at app (cut app.view place at) in
+      let less = app_at app (released app.view place) in
+      let count = pool_count-app b nic apps a app now here in
+      let more = app_count-cut b nic app place at out in
+      let count_less = pool_count-app b nic apps a app less here in
+      let fewer = app_count-released b nic app place out in
+      let spares = total-set (spares_in b) apps a app now here.there here.is in
+      let spares_less = total-set (spares_in b) apps a app less here.there here.is in
+      let held = fillings-held b nic (set apps a less) in
+      let one = fillings-one b nic apps sound in
+      IsFilledByOne-from b nic (set apps a now)
+      (omega arith)
+      (λ some. let was = fillings-alone b nic apps sound (omega arith) in omega arith)
+      (λ past. let was = sound.inside past in omega arith)
 
-pub IsFilledByOne-lent : (b : ℕ) (nic : NicSide) (apps : List AppSide) (a : ℕ) (app : AppSide) (place : Place) → IsApp apps a app
-    → HasHeld app.view place → IsFilledByOne b nic apps → IsFilledByOne b nic (set apps a (app_at app (lent app.view place)))
-IsFilledByOne-lent b nic apps a app place here out sound =
-    IsFilledByOne-app b nic apps a app (app_at app (lent app.view place)) here (omega arith) (omega (arith, app_count-lent b nic app place out)) sound
+  pub IsFilledByOne-released : (place : Place) → IsApp apps a app → HasHeld app.view place → SideStays (app_at app (released app.view place))
+  IsFilledByOne-released place here out sound =
+      IsFilledByOne-app (app_at app (released app.view place)) here (omega arith) (omega (arith, app_count-released b nic app place out)) sound
 
-pub IsFilledByOne-abandoned : (b : ℕ) (nic : NicSide) (apps : List AppSide) (a : ℕ) (app : AppSide) (place : Place) → IsApp apps a app
-    → HasLoan app.view place → EndedWereReturned b nic app → IsFilledByOne b nic apps
-    → IsFilledByOne b nic (set apps a (app_at app (abandoned app.view place)))
-IsFilledByOne-abandoned b nic apps a app place here out ended sound =
-    IsFilledByOne-app b nic apps a app (app_at app (abandoned app.view place)) here (omega arith)
-    (omega (arith, app_count-abandoned b nic app place out ended)) sound
+  pub IsFilledByOne-lent : (place : Place) → IsApp apps a app → HasHeld app.view place → SideStays (app_at app (lent app.view place))
+  IsFilledByOne-lent place here out sound =
+      IsFilledByOne-app (app_at app (lent app.view place)) here (omega arith) (omega (arith, app_count-lent b nic app place out)) sound
 
-pub IsFilledByOne-gave : (b : ℕ) (nic : NicSide) (apps : List AppSide) (a : ℕ) (app : AppSide) (place : Place) → IsApp apps a app
-    → HasLoan app.view place → EndedWereReturned b nic app → IsFilledByOne b nic apps
-    → IsFilledByOne b nic (set apps a (app_at app (gave app.view place)))
-IsFilledByOne-gave b nic apps a app place here out ended sound =
-    IsFilledByOne-app b nic apps a app (app_at app (gave app.view place)) here (omega arith) (omega (arith, app_count-gave b nic app place out ended)) sound
+  pub IsFilledByOne-abandoned : (place : Place) → IsApp apps a app → HasLoan app.view place → EndedWereReturned b nic app
+      → SideStays (app_at app (abandoned app.view place))
+  IsFilledByOne-abandoned place here out ended sound =
+      IsFilledByOne-app (app_at app (abandoned app.view place)) here (omega arith) (omega (arith, app_count-abandoned b nic app place out ended)) sound
+
+  pub IsFilledByOne-gave : (place : Place) → IsApp apps a app → HasLoan app.view place → EndedWereReturned b nic app
+      → SideStays (app_at app (gave app.view place))
+  IsFilledByOne-gave place here out ended sound =
+      IsFilledByOne-app (app_at app (gave app.view place)) here (omega arith) (omega (arith, app_count-gave b nic app place out ended)) sound
+
+  pub IsFilledByOne-filled : (own : Filling) (bytes : List ℕ) → IsApp apps a app → HasSpare app.view own → SideStays (app_at app (filled app.view own bytes))
+  IsFilledByOne-filled own bytes here out sound =
+      IsFilledByOne-app (app_at app (filled app.view own bytes)) here (omega (arith, spares_in-filled b app own bytes out))
+      (omega (arith, app_count-filled b nic app own bytes out)) sound
+
+  pub IsFilledByOne-lent_own : (own : Filling) → IsApp apps a app → HasSpare app.view own → SideStays (app_at app (lent_own app.view own))
+  IsFilledByOne-lent_own own here out sound =
+      IsFilledByOne-app (app_at app (lent_own app.view own)) here (omega (arith, spares-without b app.view own out))
+      (omega (arith, app_count-lent_own b nic app own out)) sound
+
+  -- a scrub of all that is owed in the buffer
+  pub IsFilledByOne-scrubbed : (took : List ℕ) → IsApp apps a app → EndedWereReturned b nic app
+      → slice_index took b ≡ slice_index app.inside.scrub_took b + owed_count b nic app → SideStays (scrubbed_side app took)
+  IsFilledByOne-scrubbed took here ended takes sound =
+      IsFilledByOne-app (scrubbed_side app took) here (omega arith) (omega (arith, app_count-scrubbed b nic app took ended takes)) sound
 
 -- a spare is given that nobody has
 pub one-spare : (b buffer : ℕ) (nic : NicSide) (apps : List AppSide) (a : ℕ) (app now : AppSide) → IsApp apps a app
     → spares_in b now ≡ spares_in b app + weight (buffer == b) → app_count b nic now ≡ app_count b nic app + weight (buffer == b)
-    → buffer < all_buffers nic.view.setting.layout → pool_count buffer nic apps ≡ 0 → IsFilledByOne b nic apps → IsFilledByOne b nic (set apps a now)
+    → buffer < all_buffers nic.view.setting.layout → pool_count buffer nic apps ≡ 0 → SideStays b nic apps a app now
 one-spare b buffer nic apps a app now here spares count within free sound =
     let all_spares = total-set (spares_in b) apps a app now here.there here.is in
     let holders = pool_count-app b nic apps a app now here in
@@ -289,28 +290,7 @@ one-spare b buffer nic apps a app now here spares count within free sound =
     (eqb_tells buffer b)
 
 pub IsFilledByOne-got_spare : (b : ℕ) (nic : NicSide) (apps : List AppSide) (a : ℕ) (app : AppSide) (buffer : ℕ) → IsApp apps a app
-    → buffer < all_buffers nic.view.setting.layout → pool_count buffer nic apps ≡ 0 → IsFilledByOne b nic apps
-    → IsFilledByOne b nic (set apps a (app_at app (got_spare app.view buffer)))
+    → buffer < all_buffers nic.view.setting.layout → pool_count buffer nic apps ≡ 0 → SideStays b nic apps a app (app_at app (got_spare app.view buffer))
 IsFilledByOne-got_spare b nic apps a app buffer here within free sound =
     one-spare b buffer nic apps a app (app_at app (got_spare app.view buffer)) here (spares_in-got_spare b app buffer)
     (app_count-got_spare b nic app buffer) within free sound
-
-pub IsFilledByOne-filled : (b : ℕ) (nic : NicSide) (apps : List AppSide) (a : ℕ) (app : AppSide) (own : Filling) (bytes : List ℕ) → IsApp apps a app
-    → HasSpare app.view own → IsFilledByOne b nic apps
-    → IsFilledByOne b nic (set apps a (app_at app (filled app.view own bytes)))
-IsFilledByOne-filled b nic apps a app own bytes here out sound =
-    IsFilledByOne-app b nic apps a app (app_at app (filled app.view own bytes)) here (omega (arith, spares_in-filled b app own bytes out))
-    (omega (arith, app_count-filled b nic app own bytes out)) sound
-
-pub IsFilledByOne-lent_own : (b : ℕ) (nic : NicSide) (apps : List AppSide) (a : ℕ) (app : AppSide) (own : Filling) → IsApp apps a app
-    → HasSpare app.view own → IsFilledByOne b nic apps → IsFilledByOne b nic (set apps a (app_at app (lent_own app.view own)))
-IsFilledByOne-lent_own b nic apps a app own here out sound =
-    IsFilledByOne-app b nic apps a app (app_at app (lent_own app.view own)) here (omega (arith, spares_in-lent_own b app own out))
-    (omega (arith, app_count-lent_own b nic app own out)) sound
-
--- a scrub of all that is owed in the buffer
-pub IsFilledByOne-scrubbed : (b : ℕ) (nic : NicSide) (apps : List AppSide) (a : ℕ) (app : AppSide) (took : List ℕ) → IsApp apps a app
-    → EndedWereReturned b nic app → slice_index took b ≡ slice_index app.inside.scrub_took b + owed_count b nic app
-    → IsFilledByOne b nic apps → IsFilledByOne b nic (set apps a (scrubbed_side app took))
-IsFilledByOne-scrubbed b nic apps a app took here ended takes sound =
-    IsFilledByOne-app b nic apps a app (scrubbed_side app took) here (omega arith) (omega (arith, app_count-scrubbed b nic app took ended takes)) sound

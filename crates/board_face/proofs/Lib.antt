@@ -1,6 +1,9 @@
 pub mod ListLemmas
 pub mod LookLemmas
 pub mod Tallies
+pub mod Sums
+pub mod EndedWeights
+pub mod WayLemmas
 pub mod Counting
 pub mod Parts
 pub mod NicLemmas
@@ -32,3 +35,10 @@ pub mod DealtLemmas
 pub mod LiesLemmas
 pub mod NewNotes
 pub mod Losing
+pub mod Weighing
+pub mod CardExchange
+pub mod AppExchange
+pub mod Exchanging
+pub mod FineExchange
+pub mod Counted
+pub mod Filled

@@ -1,4 +1,5 @@
 -- The piece in the making stays the last of its buffer under each event.
+use Rattle.board_face.{proofs.PlacesByEvent.{app_places-then}, specs.BoardSteps.{lends}}
 use Rattle.std.proofs.Common.{◌≡◌, ℕ, ◌+◌, ◌<◌, ◌≤◌, Bool, true, false, List, length, set, refl, ap, sym, ◌∙◌, subst, arith}
 use Rattle.std.{specs.Prelude.{nat_lt, count_by, Contains, Some, None}, proofs.lemmas.{Bool.{lt-ltb}, List.Elements.{All-contains}}}
 use Rattle.zr_kinds.specs.declared.place.{Place.{Place}, Note.{Note}}
@@ -9,7 +10,7 @@ use Rattle.board_face.specs.declared.views.{parts.{Filling.{Filling}, Making.{Ma
 use Rattle.board_face.proofs.{Tallies.{weight, tally}, ListLemmas.{eqb_same, not-eqb}, Parts.{making_in, pool_count-parts, count-tally}, NicLemmas.{making_at}}
 use Rattle.board_face.proofs.PlaceTallies.{in_buffer, piece_places, app_places}
 use Rattle.board_face.proofs.PlacesByEvent.{places-nic, places-begun, places-making, places-sent, places-sent_linear}
-use Rattle.board_face.proofs.PlacesByEvent.{places-app, app_places-cut, app_places-released, app_places-lent, app_places-filled, app_places-lent_own, places-stretch}
+use Rattle.board_face.proofs.PlacesByEvent.{places-app, app_places-cut, app_places-released, app_places-filled, app_places-lent_own, places-stretch}
 use Rattle.board_face.proofs.ArePlacedLemmas.{IsBehind, right-weight, none-later, in-none, in-other, not-behind, less_spare, spare-free, front-ends, rest-ends}
 
 -- no place comes, and the piece in the making is the same
@@ -125,7 +126,7 @@ IsMadeLast-app nic apps a app now here fewer is =
 pub IsMadeLast-lent : (nic : NicSide) (apps : List AppSide) (a : ℕ) (app : AppSide) (place : Place) → IsApp apps a app → HasHeld app.view place
     → IsMadeLast nic apps → IsMadeLast nic (set apps a (app_at app (lent app.view place)))
 IsMadeLast-lent nic apps a app place here out is =
-    IsMadeLast-app nic apps a app (app_at app (lent app.view place)) here (λ b test. omega (arith, app_places-lent b test nic app place out)) is
+    IsMadeLast-app nic apps a app (app_at app (lent app.view place)) here (λ b test. omega (arith, app_places-then (lends place) b test nic app out)) is
 
 pub IsMadeLast-lent_own : (nic : NicSide) (apps : List AppSide) (a : ℕ) (app : AppSide) (own : Filling) → IsApp apps a app → IsFilled app.view own
     → IsMadeLast nic apps → IsMadeLast nic (set apps a (app_at app (lent_own app.view own)))
@@ -175,7 +176,7 @@ IsMadeLast-filled nic apps a app own bytes here out by_one is = record {
         arith,
         is.last making busy,
         places-app b (ends_behind x) nic apps a app now here,
-        app_places-filled b (ends_behind x) nic app own bytes,
+        app_places-filled b (ends_behind x) nic app own bytes out,
         apart,
         right-weight (nat_lt 0 (length bytes)) (in_buffer b (ends_behind x) (begin_place own.buffer (length bytes))),
         count-tally (ends_behind x) (places_of b nic apps),

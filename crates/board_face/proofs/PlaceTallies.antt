@@ -1,13 +1,15 @@
 -- What each event does to the places of a buffer: how many of them meet a test, as that a byte lies there.
-use Rattle.std.proofs.Common.{◌≡◌, ℕ, ◌+◌, ◌<◌, Bool, true, false, cond, List, [], ◌∷◌, ◌++◌, length, map, refl, ap, ◌∙◌, arith, ⊎_elim}
+use Rattle.board_face.specs.Holdings.{Hold, spare as kind_spare, here, card_weight, app_weight, weigh, kind_of, hold_place}
+use Rattle.board_face.specs.declared.views.{parts.Filling.{Filling}, nic.PlacedText.{PlacedText}}
+use Rattle.board_face.specs.declared.views.app.{HeldPiece.{HeldPiece}, LentPiece.{LentPiece}, SpareOwn.{SpareOwn}}
+use Rattle.board_face.{proofs.{CardExchange.{sides}, Weighing.{kinds-weigh}, Sums.{none}}, specs.{AppEvents.{begin_place}, Holders.{on_way, owed_in, returning_in}}}
+use Rattle.std.proofs.Common.{◌≡◌, ℕ, ◌+◌, ◌<◌, Bool, true, false, cond, List, [], ◌∷◌, length, refl, ap, ◌∙◌, arith, ⊎_elim}
 use Rattle.std.{specs.{Prelude.{filter, ◌==◌, ◌&&◌, nat_lt, if◌then◌else◌, All}, List.{flat_map}}, proofs.lemmas.List.Elements.{All-nil, All-cons}}
 use Rattle.std.proofs.lemmas.Bool.{eq-eqb, cases_lt}
 use Rattle.zr_kinds.specs.declared.place.Place.{Place}
-use Rattle.board_face.specs.AppEvents.{begin_place}
-use Rattle.board_face.specs.Holders.{Kind, own, piece, sent, held, spare, loan, owed, returning, places_in, on_way, sent_places, owed_in, returning_in}
-use Rattle.board_face.specs.{Holders.{making_places, nic_holders, app_holders, holders_of}, Places.{kind_place, filled_places, places_of, is_empty}}
+use Rattle.board_face.specs.{Holders.{making_places, holders_of}, Places.{kind_place, filled_places, places_of, is_empty}}
 use Rattle.board_face.specs.declared.views.{nic.NicSide.{NicSide}, app.AppSide.{AppSide}}
-use Rattle.board_face.proofs.{Tallies.{weight, tally, total, tally-append, tally-map, tally-flat, total-append, total-agree}, Counting.{total-flat}}
+use Rattle.board_face.proofs.{Tallies.{weight, tally, total, tally-append, tally-map, tally-flat, total-agree}}
 use Rattle.board_face.{specs.declared.views.nic.SentNote.{SentNote}, proofs.ListLemmas.{eqb_same}}
 
 -- a place in the buffer that meets the test
@@ -47,92 +49,97 @@ pub tally-filter : {A : Type 0} (p q : A → Bool) (xs : List A) → tally q (fi
 tally-filter p q [] = refl
 tally-filter p q (x ∷ xs) = filter-case q (p x) x (filter p xs) _ (tally-filter p q xs)
 
-tally-places_in : {A : Type 0} (b : ℕ) (test : Place → Bool) (f : A → Place) (xs : List A)
-    → tally test (places_in b (map f xs)) ≡ tally (λ x. in_buffer b test (f x)) xs
-tally-places_in b test f xs = tally-filter (λ p. p.buffer == b) test (map f xs) ∙ tally-map (in_buffer b test) f xs
+-- ---- as a weight of the holdings
 
--- ---- what the kinds of a list of holders have
+-- how many of a holding's places meet the test
+abbrev pub placed : (Place → Bool) → Hold → ℕ
+placed test h = tally test (hold_place h)
 
-abbrev kind_tally : (Place → Bool) → Kind → ℕ
-kind_tally test k = tally test (kind_place k)
+pub in-case : (c d : Bool) → weight (c && d) ≡ (if c then weight d + 0 else 0)
+in-case true d = omega arith
+in-case false d = refl
 
-total-kinds : {A : Type 0} (test : Place → Bool) (f : A → Kind) (g : A → Place) → ((x : A) → kind_place (f x) ≡ g x ∷ []) → (xs : List A)
-    → total (kind_tally test) (map f xs) ≡ tally (λ x. test (g x)) xs
-total-kinds test f g places [] = refl
-total-kinds test f g places (x ∷ xs) =
-    let here : tally test (kind_place (f x)) ≡ weight (test (g x)) + 0 = ap (tally test) (places x) in
-    omega (arith, here, total-kinds test f g places xs)
+in-total : {A : Type 0} (b : ℕ) (test : Place → Bool) (f : A → Place) (xs : List A)
+    → tally (λ x. in_buffer b test (f x)) xs ≡ total (λ x. here b (f x).buffer (tally test (f x ∷ []))) xs
+in-total b test f [] = refl
+in-total b test f (x ∷ xs) = omega (arith, in-case ((f x).buffer == b) (test (f x)), in-total b test f xs)
 
-total-no_place : {A : Type 0} (test : Place → Bool) (f : A → Kind) → ((x : A) → kind_place (f x) ≡ []) → (xs : List A)
-    → total (kind_tally test) (map f xs) ≡ 0
-total-no_place test f none [] = refl
-total-no_place test f none (x ∷ xs) =
-    let here : tally test (kind_place (f x)) ≡ 0 = ap (tally test) (none x) in
-    omega (arith, here, total-no_place test f none xs)
+in-all : (test : Place → Bool) (ps : List Place) → tally test ps ≡ total (λ p. tally test (p ∷ [])) ps
+in-all test [] = refl
+in-all test (p ∷ ps) = omega (arith, in-all test ps)
 
-total-both : {A : Type 0} (f g : A → ℕ) (xs : List A) → total f xs + total g xs ≡ total (λ x. f x + g x) xs
-total-both f g [] = refl
-total-both f g (x ∷ xs) = omega (arith, total-both f g xs)
+pub spare-case : (test : Place → Bool) (c d : Bool) (p : Place) → weight (c && (d && test p)) ≡ (if d then tally test (if c then p ∷ [] else []) else 0)
+spare-case test true true p = omega arith
+spare-case test true false p = refl
+spare-case test false true p = refl
+spare-case test false false p = refl
 
-nic-places : (b : ℕ) (test : Place → Bool) (nic : NicSide) → total (kind_tally test) (nic_holders b nic) ≡ piece_places b test nic
-nic-places b test nic =
-    let owns = filter (λ o. o.buffer == b) nic.view.owns in
-    let all = map (λ p. p.place) nic.view.pieces ++ making_places nic.inside.making in
+spare-total : (b : ℕ) (test : Place → Bool) (a : ℕ) (xs : List SpareOwn)
+    → tally (λ (s : SpareOwn). nat_lt 0 (length s.bytes) && in_buffer b test (begin_place s.own.buffer (length s.bytes))) xs
+    ≡ total (λ s. here b s.own.buffer (placed test (kind_spare a s.own (length s.bytes)))) xs
+spare-total b test a [] = refl
+spare-total b test a (s ∷ xs) = omega (
+  arith,
+  spare-case test (nat_lt 0 (length s.bytes)) (s.own.buffer == b) (begin_place s.own.buffer (length s.bytes)),
+  spare-total b test a xs,
+)
+
+pub card-placed : (b : ℕ) (test : Place → Bool) (nic : NicSide) → piece_places b test nic ≡ card_weight (placed test) b nic
+card-placed b test nic =
     omega (
       arith,
-      total-append (kind_tally test) (map (λ o. own) owns) (map piece (places_in b all)),
-      total-no_place test (λ o. own) (λ _. refl) owns,
-      total-kinds test piece (λ p. p) (λ _. refl) (places_in b all),
-      tally-filter (λ (p : Place). p.buffer == b) test all,
-      tally-append (in_buffer b test) (map (λ p. p.place) nic.view.pieces) (making_places nic.inside.making),
-      tally-map (in_buffer b test) (λ p. p.place) nic.view.pieces,
+      none (λ (o : Filling). o.buffer) b nic.view.owns,
+      in-total b test (λ (p : PlacedText). p.place) nic.view.pieces,
+      in-total b test (λ (p : Place). p) (making_places nic.inside.making),
     )
 
-app-places : (b : ℕ) (test : Place → Bool) (nic : NicSide) (app : AppSide)
-    → total (kind_tally test) (app_holders b nic app) + tally test (filled_places b app) ≡ app_places b test nic app
-app-places b test nic app =
-    let n = app.view.app in
-    let sents = places_in b (sent_places nic app) in
-    let helds = places_in b (map (λ h. h.place) app.view.helds) in
-    let spares = filter (λ s. s.own.buffer == b) app.view.owns in
-    let loans = places_in b (map (λ l. l.place) app.view.loans) in
-    let oweds = owed_in b nic app in
-    let returnings = returning_in b nic app in
-    let filled = filter (λ s. nat_lt 0 (length s.bytes)) app.view.owns in
-    simp total-append (
+pub app-placed : (b : ℕ) (test : Place → Bool) (nic : NicSide) (x : AppSide) → app_places b test nic x ≡ app_weight (placed test) b nic x
+app-placed b test nic x =
     omega (
       arith,
-      total-kinds test (sent n) (λ p. p) (λ _. refl) sents,
-      total-kinds test (held n) (λ p. p) (λ _. refl) helds,
-      total-no_place test (λ s. spare n) (λ _. refl) spares,
-      total-kinds test (loan n) (λ p. p) (λ _. refl) loans,
-      total-kinds test (owed n) (λ p. p) (λ _. refl) oweds,
-      total-kinds test (returning n) (λ p. p) (λ _. refl) returnings,
-      tally-places_in b test (λ s. s.note.place) (filter (λ s. s.note.split) (on_way nic app)),
-      tally-places_in b test (λ h. h.place) app.view.helds,
-      tally-places_in b test (λ l. l.place) app.view.loans,
-      tally-map test (λ s. begin_place s.own.buffer (length s.bytes)) (filter (λ s. s.own.buffer == b) filled),
-      tally-filter (λ s. s.own.buffer == b) (λ s. test (begin_place s.own.buffer (length s.bytes))) filled,
-      tally-filter (λ s. nat_lt 0 (length s.bytes)) (λ s. in_buffer b test (begin_place s.own.buffer (length s.bytes))) app.view.owns,
+      in-total b test (λ (s : SentNote). s.note.place) (filter (λ s. s.note.split) (on_way nic x)),
+      in-total b test (λ (h : HeldPiece). h.place) x.view.helds,
+      in-total b test (λ (l : LentPiece). l.place) x.view.loans,
+      in-all test (owed_in b nic x),
+      in-all test (returning_in b nic x),
+      spare-total b test x.view.app x.view.owns,
     )
+
+-- ---- the places are as many
+
+spares-placed : (b : ℕ) (test : Place → Bool) (a : ℕ) (x : AppSide)
+    → tally test (filled_places b x) ≡ total (λ (s : SpareOwn). here b s.own.buffer (placed test (kind_spare a s.own (length s.bytes)))) x.view.owns
+spares-placed b test a x =
+    let f : SpareOwn → Place = λ s. begin_place s.own.buffer (length s.bytes) in
+    let full = filter (λ (s : SpareOwn). nat_lt 0 (length s.bytes)) x.view.owns in
+    tally-map test f (filter (λ (s : SpareOwn). s.own.buffer == b) full)
+    ∙ tally-filter (λ s. s.own.buffer == b) (λ s. test (f s)) full
+    ∙ tally-filter (λ s. nat_lt 0 (length s.bytes)) (λ s. in_buffer b test (f s)) x.view.owns
+    ∙ spare-total b test a x.view.owns
+
+total-sum : {A : Type 0} (f g h : A → ℕ) → ((x : A) → f x ≡ g x + h x) → (xs : List A) → total f xs ≡ total g xs + total h xs
+total-sum f g h each [] = refl
+total-sum f g h each (x ∷ xs) = omega (arith, each x, total-sum f g h each xs)
+
+pub places-weigh : (b : ℕ) (test : Place → Bool) (nic : NicSide) (apps : List AppSide)
+    → tally test (places_of b nic apps) ≡ weigh (placed test) b (sides nic apps)
+places-weigh b test nic apps =
+    let kinds : Hold → ℕ = λ h. tally test (kind_place (kind_of h)) in
+    omega (
+      arith,
+      tally-append test (flat_map kind_place (holders_of b nic apps)) (flat_map (filled_places b) apps),
+      tally-flat test kind_place (holders_of b nic apps),
+      kinds-weigh (λ k. tally test (kind_place k)) b (sides nic apps),
+      tally-flat test (filled_places b) apps,
+      total-sum (app_weight (placed test) b nic) (app_weight kinds b nic) (λ x. tally test (filled_places b x))
+          (λ x. omega (arith, spares-placed b test x.view.app x, none (λ (s : SpareOwn). s.own.buffer) b x.view.owns)) apps,
     )
 
 -- how many places of a buffer meet a test, as a sum
 pub places-parts : (b : ℕ) (test : Place → Bool) (nic : NicSide) (apps : List AppSide)
     → tally test (places_of b nic apps) ≡ piece_places b test nic + total (app_places b test nic) apps
 places-parts b test nic apps =
-    omega (
-      arith,
-      tally-append test (flat_map kind_place (holders_of b nic apps)) (flat_map (filled_places b) apps),
-      tally-flat test kind_place (holders_of b nic apps),
-      tally-flat test (filled_places b) apps,
-      total-append (kind_tally test) (nic_holders b nic) (flat_map (app_holders b nic) apps),
-      nic-places b test nic,
-      total-flat (kind_tally test) (app_holders b nic) apps,
-      total-both (λ app. total (kind_tally test) (app_holders b nic app)) (λ app. tally test (filled_places b app)) apps,
-      total-agree (λ app. total (kind_tally test) (app_holders b nic app) + tally test (filled_places b app)) (app_places b test nic)
-          (app-places b test nic) apps,
-    )
+    omega (arith, places-weigh b test nic apps, card-placed b test nic, total-agree (app_places b test nic) (app_weight (placed test) b nic) (app-placed b test nic) apps)
 
 -- ---- one among many
 

@@ -1,19 +1,13 @@
 -- How many elements of a list meet a test, and sums over a list, by recursion, so that they compute.
+use Rattle.std.{specs.Prelude.{count_by}, proofs.lemmas.List.Sums.{length-filter}}
 use Rattle.std.proofs.Common.{◌≡◌, ℕ, zero, suc, ◌+◌, ◌<◌, ◌≤◌, Bool, true, false, cond, List, [], ◌∷◌, ◌++◌, length, map}
-use Rattle.std.{proofs.Common.{get_or, set, refl, ap, sym, ◌∙◌, arith, length-append}, specs.{Prelude.{if◌then◌else◌, filter, Contains}, List.{flat_map}}}
-use Rattle.std.proofs.lemmas.Bool.{false≢true}
+use Rattle.std.{proofs.{Common.{get_or, set, refl, ap, sym, ◌∙◌, arith, length-append}, lemmas.Bool.{false≢true}}, specs.{Prelude.{filter, Contains}, List.{flat_map}}}
 use Rattle.board_face.specs.Lists.{without}
-
-abbrev pub weight : Bool → ℕ
-weight test = if test then 1 else 0
+pub use Rattle.board_face.specs.Lists.{total, weight}
 
 abbrev pub tally : {A : Type 0} → (A → Bool) → List A → ℕ
 tally test [] = 0
 tally test (x ∷ xs) = weight (test x) + tally test xs
-
-abbrev pub total : {A : Type 0} → (A → ℕ) → List A → ℕ
-total f [] = 0
-total f (x ∷ xs) = f x + total f xs
 
 pub tally-append : {A : Type 0} (test : A → Bool) (xs ys : List A) → tally test (xs ++ ys) ≡ tally test xs + tally test ys
 tally-append test [] ys = omega arith
@@ -48,23 +42,39 @@ tally-agree p q same (x ∷ xs) = rw (same x) (ap (λ n. weight (q x) + n) (tall
 
 -- ---- one element taken out
 
-without-case : {A B : Type 0} (f : A → B) (test : B → Bool) (b : Bool) (w : ℕ) (x : A) (xs ys : List A) → (b ≡ true → weight (test (f x)) ≡ w)
-    → (b ≡ false → tally (λ y. test (f y)) ys + w ≡ tally (λ y. test (f y)) xs)
-    → tally (λ y. test (f y)) (cond b xs (x ∷ ys)) + w ≡ weight (test (f x)) + tally (λ y. test (f y)) xs
-without-case f test true w x xs ys here there = omega (arith, here refl)
-without-case f test false w x xs ys here there = omega (arith, there refl)
+without-case : {A B : Type 0} (f : A → B) (g : B → ℕ) (c : Bool) (w : ℕ) (x : A) (xs ys : List A) → (c ≡ true → g (f x) ≡ w)
+    → (c ≡ false → total (λ y. g (f y)) ys + w ≡ total (λ y. g (f y)) xs)
+    → total (λ y. g (f y)) (cond c xs (x ∷ ys)) + w ≡ g (f x) + total (λ y. g (f y)) xs
+without-case f g true w x xs ys here there = omega (arith, here refl)
+without-case f g false w x xs ys here there = omega (arith, there refl)
 
--- Where the list has an element that shows q, the first that `same` finds shows q too, and taking it out takes q's weight.
+-- Where the list has an element that shows q, the first that `same` finds shows q too, and taking it out takes what q weighs.
+pub total-without : {A B : Type 0} (f : A → B) (same : B → Bool) (q : B) → ((y : B) → same y ≡ true → y ≡ q) → same q ≡ true
+    → (g : B → ℕ) (xs : List A) → Contains (map f xs) q
+    → total (λ x. g (f x)) (without (λ x. same (f x)) xs) + g q ≡ total (λ x. g (f x)) xs
+total-without f same q is refls g [] (k, there, e) = absurd (omega arith)
+total-without f same q is refls g (x ∷ xs) (zero, there, e) =
+    without-case f g (same (f x)) (g q) x xs (without (λ x. same (f x)) xs) (λ meets. ap g (is (f x) meets))
+    (λ misses. absurd (false≢true (sym misses ∙ (ap same e ∙ refls))))
+total-without f same q is refls g (x ∷ xs) (suc k, there, e) =
+    without-case f g (same (f x)) (g q) x xs (without (λ x. same (f x)) xs) (λ meets. ap g (is (f x) meets))
+    (λ misses. total-without f same q is refls g xs (k, omega arith, e))
+
+pub tally-total : {A : Type 0} (test : A → Bool) (xs : List A) → tally test xs ≡ total (λ x. weight (test x)) xs
+tally-total test [] = refl
+tally-total test (x ∷ xs) = omega (arith, tally-total test xs)
+
+-- and so with a count of those that meet a test
 pub tally-without : {A B : Type 0} (f : A → B) (same : B → Bool) (q : B) → ((y : B) → same y ≡ true → y ≡ q) → same q ≡ true
     → (test : B → Bool) (xs : List A) → Contains (map f xs) q
     → tally (λ x. test (f x)) (without (λ x. same (f x)) xs) + weight (test q) ≡ tally (λ x. test (f x)) xs
-tally-without f same q is refls test [] (k, there, e) = absurd (omega arith)
-tally-without f same q is refls test (x ∷ xs) (zero, there, e) =
-    without-case f test (same (f x)) (weight (test q)) x xs (without (λ x. same (f x)) xs) (λ meets. ap (λ y. weight (test y)) (is (f x) meets))
-    (λ misses. absurd (false≢true (sym misses ∙ (ap same e ∙ refls))))
-tally-without f same q is refls test (x ∷ xs) (suc k, there, e) =
-    without-case f test (same (f x)) (weight (test q)) x xs (without (λ x. same (f x)) xs) (λ meets. ap (λ y. weight (test y)) (is (f x) meets))
-    (λ misses. tally-without f same q is refls test xs (k, omega arith, e))
+tally-without f same q is refls test xs has =
+    omega (
+      arith,
+      tally-total (λ x. test (f x)) xs,
+      tally-total (λ x. test (f x)) (without (λ x. same (f x)) xs),
+      total-without f same q is refls (λ y. weight (test y)) xs has,
+    )
 
 -- ---- sums
 
@@ -97,3 +107,6 @@ total-le f g (x ∷ xs) each =
     let here : f x ≤ g x = each x (0, omega arith, refl) in
     let there = total-le f g xs (λ y has. each y (suc has.0, omega arith, has.2)) in
     omega arith
+
+pub count-tally : {A : Type 0} (test : A → Bool) (xs : List A) → count_by test xs ≡ tally test xs
+count-tally test xs = sym (length-filter test xs) ∙ length-tally test xs

@@ -1,6 +1,6 @@
 -- What each event leaves of the texts that are shown, while the area's bytes stay as they are.
-use Rattle.std.proofs.Common.{◌<◌, ◌≡◌, ℕ, zero, suc, ◌+◌, ◌-◌, ◌≤◌, Bool, true, false, cond, List, [], ◌∷◌, ◌++◌, length}
-use Rattle.std.proofs.Common.{map, take, drop, refl, ap, sym, ◌∙◌, subst, ⊎_elim, arith, length-take, length-drop, get_or-take, get_or-drop, zero-add, add_assoc}
+use Rattle.std.proofs.{lemmas.List.{drop-drop}, Common.{◌<◌, ◌≡◌, ℕ, zero, suc, ◌+◌, ◌-◌, ◌≤◌, Bool, true, false, cond, List, [], ◌∷◌, ◌++◌, length}}
+use Rattle.std.proofs.Common.{map, take, drop, refl, ap, sym, ◌∙◌, subst, ⊎_elim, arith, length-take, length-drop, get_or-take, get_or-drop, add_assoc}
 use Rattle.std.{specs.Prelude.{◌≢◌, filter, ◌==◌, All, Contains, Option}, proofs.{lemmas.List.{drop-append-le, length-take-le}, Math.Seq.{take-length}}}
 use Rattle.std.proofs.lemmas.List.Elements.{filter-append, All-nil, All-cons, All-head, All-tail, All-push, All-append, All-drop, All-filter, All-weaker}
 use Rattle.std.proofs.lemmas.Bool.{false≢true, cases_lt}
@@ -38,17 +38,8 @@ All-at_first f g other P same q is refls (x ∷ xs) (suc k, there, e) all =
     first-case f g P q (same (f x)) x (at_first (λ y. same (f y)) g other xs) (is (f x)) (All-head (λ y. P (f y) (g y)) x xs all)
     (λ misses. All-at_first f g other P same q is refls xs (k, omega arith, e) (All-tail (λ y. P (f y) (g y)) x xs all))
 
-drop-none : {A : Type 0} (k : ℕ) → drop {A = A} k [] ≡ []
-drop-none zero = refl
-drop-none (suc k) = refl
-
-drop-on : {A : Type 0} (w h : ℕ) (xs : List A) → drop (h + w) xs ≡ drop w (drop h xs)
-drop-on w zero xs = rw (zero-add w) refl
-drop-on w (suc h) [] = drop-none (suc h + w) ∙ sym (drop-none w)
-drop-on w (suc h) (x ∷ xs) = let next : suc h + w ≡ suc (h + w) = omega arith in rw next (drop-on w h xs)
-
 All-ended : {A : Type 0} (P : A → Type 0) (h h' w : ℕ) (xs : List A) → h' ≡ h + w → All P (drop h xs) → All P (drop h' xs)
-All-ended P h h' w xs e all = rw (e, drop-on w h xs) (All-drop P w (drop h xs) all)
+All-ended P h h' w xs e all = rw (e, sym (drop-drop w h xs)) (All-drop P w (drop h xs) all)
 
 module _ (byte : ℕ → ℕ → ℕ) where
   -- ---- texts by their origin
@@ -72,6 +63,25 @@ module _ (byte : ℕ → ℕ → ℕ) where
       let empty : place.len ≡ 0 = empty-text place _ none shown.len in
       record { len = rw (take-zero place.len (drop at (bytes_sent k (notes ++ s ∷ []))) empty) (sym empty); bytes = λ i small. absurd (omega arith) })
       (cases_lt k (length notes))
+
+  -- ---- texts that an application goes on with
+
+  -- where more of what was owed was ended, by an entry in hand or a scrub, all texts that are left stay shown
+  pub AppIsShown-ended : (nic nic' : NicSide) (app : AppSide) (inside : AppInside) → nic'.view.sent ≡ nic.view.sent
+      → ((b : ℕ) → ended_in b nic app ≤ ended_in b nic' (record app { inside = inside })) → AppIsShown byte nic app
+      → AppIsShown byte nic' (record app { inside = inside })
+  AppIsShown-ended nic nic' app inside sents ends shown = record {
+    sent = rw sents shown.sent;
+    helds = rw sents shown.helds;
+    spares = shown.spares;
+    loans = rw sents shown.loans;
+    owed = λ b.
+        let now : AppSide = record app { inside = inside } in
+        let h = ended_in b nic app in
+        let h' = ended_in b nic' now in
+        rw sents (All-ended (λ (l : LentPiece). IsShown byte l.place (text_of nic app l.origin l.place)) h h' (h' - h)
+        (filter (λ (l : LentPiece). l.place.buffer == b) app.view.returned) (let more = ends b in omega arith) (shown.owed b));
+  }
 
   -- ---- the card's events
 
@@ -99,13 +109,7 @@ module _ (byte : ℕ → ℕ → ℕ) where
 
   pub AppIsShown-nic : (nic : NicSide) (v : NicView) (app : AppSide) → v.sent ≡ nic.view.sent → v.dealt ≡ nic.view.dealt → AppIsShown byte nic app
       → AppIsShown byte (nic_at nic v) app
-  AppIsShown-nic nic v app sents deals shown = record {
-    sent = rw sents shown.sent;
-    helds = rw sents shown.helds;
-    spares = shown.spares;
-    loans = rw sents shown.loans;
-    owed = λ b. rw (sents, deals) (shown.owed b);
-  }
+  AppIsShown-nic nic v app sents deals shown = AppIsShown-ended nic (nic_at nic v) app app.inside sents (λ b. rw deals (omega arith)) shown
 
   pub AppIsShown-sent_other : (nic : NicSide) (v : NicView) (app : AppSide) (s : SentNote) → v.sent ≡ nic.view.sent ++ s ∷ []
       → v.dealt ≡ nic.view.dealt → s.app ≢ app.view.app → AppIsShown byte nic app → AppIsShown byte (nic_at nic v) app
@@ -144,14 +148,7 @@ module _ (byte : ℕ → ℕ → ℕ) where
   -- entries that are dealt with end what is owed from its begin
   pub AppIsShown-dealt : (nic : NicSide) (v : NicView) (app : AppSide) (w : ℕ → ℕ) → v.sent ≡ nic.view.sent
       → ((b : ℕ) → ended_in b (nic_at nic v) app ≡ ended_in b nic app + w b) → AppIsShown byte nic app → AppIsShown byte (nic_at nic v) app
-  AppIsShown-dealt nic v app w sents ends shown = record {
-    sent = rw sents shown.sent;
-    helds = rw sents shown.helds;
-    spares = shown.spares;
-    loans = rw sents shown.loans;
-    owed = λ b. rw sents (All-ended (λ (l : LentPiece). IsShown byte l.place (text_of nic app l.origin l.place)) (ended_in b nic app)
-        (ended_in b (nic_at nic v) app) (w b) (filter (λ (l : LentPiece). l.place.buffer == b) app.view.returned) (ends b) (shown.owed b));
-  }
+  AppIsShown-dealt nic v app w sents ends shown = AppIsShown-ended nic (nic_at nic v) app app.inside sents (λ b. omega (arith, ends b)) shown
 
   -- ---- an application's events
 
@@ -217,7 +214,7 @@ module _ (byte : ℕ → ℕ → ℕ) where
 
   shown-rest : (notes : List SentNote) (o : Origin) (place : Place) (at : ℕ) → at ≤ place.len → IsShown byte place (origin_bytes notes o place.len)
       → IsShown byte (rest_place place at) (origin_bytes notes (further o at) (place.len - at))
-  shown-rest notes (of_note k from) place at within shown = rw (drop-on at from (bytes_sent k notes))
+  shown-rest notes (of_note k from) place at within shown = rw (sym (drop-drop at from (bytes_sent k notes)))
       (rest-of place at (drop from (bytes_sent k notes)) within shown)
   shown-rest notes (of_copy text) place at within shown = rest-of place at text within shown
 
@@ -316,14 +313,8 @@ module _ (byte : ℕ → ℕ → ℕ) where
   pub AppIsShown-scrubbed : (nic : NicSide) (app : AppSide) (took : List ℕ) (w : ℕ → ℕ)
       → ((b : ℕ) → ended_in b nic (scrubbed_side app took) ≡ ended_in b nic app + w b) → AppIsShown byte nic app
       → AppIsShown byte nic (scrubbed_side app took)
-  AppIsShown-scrubbed nic app took w ends shown = record {
-    sent = shown.sent;
-    helds = shown.helds;
-    spares = shown.spares;
-    loans = shown.loans;
-    owed = λ b. All-ended (λ (l : LentPiece). IsShown byte l.place (text_of nic app l.origin l.place)) (ended_in b nic app)
-        (ended_in b nic (scrubbed_side app took)) (w b) (filter (λ (l : LentPiece). l.place.buffer == b) app.view.returned) (ends b) (shown.owed b);
-  }
+  AppIsShown-scrubbed nic app took w ends shown =
+      let is = AppIsShown-ended nic nic app (record app.inside { scrub_took = took }) refl (λ b. omega (arith, ends b)) shown in assumption
 
   -- an event that touches no holding leaves all texts
   pub AppIsShown-same : (nic : NicSide) (app : AppSide) (v : AppView) → SameHoldings app.view v → AppIsShown byte nic app
@@ -362,13 +353,7 @@ module _ (byte : ℕ → ℕ → ℕ) where
   -- neither part touches an application's texts
   pub AppIsShown-making : (nic : NicSide) (v : NicView) (making : Option Making) (app : AppSide) → v.sent ≡ nic.view.sent → v.dealt ≡ nic.view.dealt
       → AppIsShown byte nic app → AppIsShown byte (making_at nic v making) app
-  AppIsShown-making nic v making app sents deals shown = record {
-    sent = rw sents shown.sent;
-    helds = rw sents shown.helds;
-    spares = shown.spares;
-    loans = rw sents shown.loans;
-    owed = λ b. rw (sents, deals) (shown.owed b);
-  }
+  AppIsShown-making nic v making app sents deals shown = AppIsShown-ended nic (making_at nic v making) app app.inside sents (λ b. rw deals (omega arith)) shown
 
   pub AppIsShown-text_done : (nic : NicSide) (own : Filling) (bytes : List ℕ) (making : Option Making) (app : AppSide) → AppIsShown byte nic app
       → AppIsShown byte (making_at nic (text_done nic.view own bytes) making) app
@@ -391,23 +376,4 @@ module _ (byte : ℕ → ℕ → ℕ) where
     spares = λ k d small. shown-stored byte' _ _ (spares k d small) (shown.spares k d small);
     loans = λ k d small. shown-stored byte' _ _ (loans k d small) (shown.loans k d small);
     owed = λ b k d small. shown-stored byte' _ _ (oweds b k d small) (shown.owed b k d small);
-  }
-
-  -- ---- what a board is in the middle of
-
-  -- where more of what was owed was ended, by an entry in hand or a scrub, all texts that are left stay shown
-  pub AppIsShown-ended : (nic nic' : NicSide) (app : AppSide) (inside : AppInside) → nic'.view.sent ≡ nic.view.sent
-      → ((b : ℕ) → ended_in b nic app ≤ ended_in b nic' (record app { inside = inside })) → AppIsShown byte nic app
-      → AppIsShown byte nic' (record app { inside = inside })
-  AppIsShown-ended nic nic' app inside sents ends shown = record {
-    sent = rw sents shown.sent;
-    helds = rw sents shown.helds;
-    spares = shown.spares;
-    loans = rw sents shown.loans;
-    owed = λ b.
-        let now : AppSide = record app { inside = inside } in
-        let h = ended_in b nic app in
-        let h' = ended_in b nic' now in
-        rw sents (All-ended (λ (l : LentPiece). IsShown byte l.place (text_of nic app l.origin l.place)) h h' (h' - h)
-        (filter (λ (l : LentPiece). l.place.buffer == b) app.view.returned) (let more = ends b in omega arith) (shown.owed b));
   }

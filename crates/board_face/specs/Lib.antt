@@ -27,3 +27,6 @@ pub mod Used
 pub mod OwnBuffers
 pub mod Ended
 pub mod Laws
+pub mod BoardSteps
+pub mod Holdings
+pub mod FineSteps

@@ -20,3 +20,12 @@ count_below test (suc n) = (if test n then 1 else 0) + count_below test n
 -- two places are one
 abbrev pub same_place : Place → Place → Bool
 same_place p q = (p.buffer == q.buffer) && (p.offset == q.offset) && (p.len == q.len)
+
+-- the sum of what each element weighs
+abbrev pub total : {A : Type 0} → (A → ℕ) → List A → ℕ
+total f [] = 0
+total f (x ∷ xs) = f x + total f xs
+
+-- 1 where the test is met
+abbrev pub weight : Bool → ℕ
+weight test = if test then 1 else 0
