@@ -1,41 +1,26 @@
 -- The log goes on to tell of a board after each event of an application.
-use Rattle.std.proofs.Common.{◌≡◌, ◌∙◌, ℕ, ◌+◌, ◌-◌, ◌<◌, Bool, true, false, [], ◌∷◌, length, eqb, ltb, refl, sym, ap, subst, arith, ⊎_elim, if◌then◌else◌}
-use Rattle.std.{specs.{Prelude.{◌&&◌, ◌||◌}, List.{flat_map}}, proofs.lemmas.{Bool.{lt-ltb, eq-eqb, or_right}, List.Elements.{All-get_or}}}
-use Rattle.area_layout.{proofs.Words.{words_apart}, specs.Layout.{pool_buffers}}
+use Rattle.std.proofs.Common.{◌≡◌, ◌∙◌, ℕ, ◌+◌, ◌-◌, ◌<◌, Bool, true, false, Some, List, [], ◌∷◌, length, eqb, ltb, refl, sym, ap, subst, arith, ⊎_elim, if◌then◌else◌}
+use Rattle.std.{specs.{Prelude.{◌&&◌, ◌||◌}}, proofs.lemmas.{Bool.{lt-ltb, eq-eqb, or_right}, List.Elements.{All-get_or}}}
+use Rattle.area_layout.{proofs.Words.{words_apart}, specs.Layout.{pool_buffers, size_of}}
 use Rattle.run_records.specs.declared.event.Event.TheVariants as event
 use Rattle.run_records.specs.{declared.holding.Holding.{Holding}, Setting.{total_buffers, pool_buffers as run_pool_buffers}}
-use Rattle.run_records.{specs.Holders.{is_pool_buffer, is_reserve_of, is_same}, proofs.Weighing.{one_if}}
+use Rattle.run_records.{specs.{Holders.{is_pool_buffer, is_reserve_of, is_same}, declared.event.Event.{Event}}, proofs.Weighing.{one_if}}
 use Rattle.run_records.specs.declared.holding.Holding.TheVariants as holding
-use Rattle.board_face.specs.AppEvents.{app_saw, took_note, took_linear, told_end, cut, released, lent, has_read, abandoned, gave, pushed_raw, came_to_rest}
-use Rattle.board_face.specs.{AppEvents.{got_spare, filled, own_bytes, lent_own, fell_quiet, left_board}, Laws.{AllSides, by_app, pool_of, user_of}}
-use Rattle.board_face.specs.{OwnBuffers.{IsOwnBuffer}, Sides.{IsApp, app_at}, declared.views.{parts.Setting.{Setting as Shared}, app.AppView.{AppView}}}
-use Rattle.board_face.{specs.declared.views.app.AppSide.{AppSide}, proofs.{ListLemmas.{not-eqb}, AppLemmas.{SameHoldings}}}
-use Rattle.event_log.specs.AppLaws.{TookNoteLaw, CutLaw, ReleasedLaw, LentLaw, BackLaw, GotSpareLaw, LentOwnLaw, AppUnloggedLaw}
-use Rattle.event_log.specs.{IsLogged.{AreSound, KeepsLog, run_of}, Plain.{weight}}
-use Rattle.event_log.proofs.AppShifts.{shifts-took_note, same-took_linear, shifts-cut, shifts-released, shifts-lent, shifts-abandoned, shifts-gave}
-use Rattle.event_log.proofs.AppShifts.{shifts-got_spare, same-filled, shifts-lent_own}
-use Rattle.event_log.proofs.AppTallies.{gains-filled, takes-none, tallies-abandoned, tallies-gave, tallies-got_spare, tallies-lent, tallies-lent_own, tallies-none}
-use Rattle.event_log.proofs.{AppTallies.{tallies-took_note}, CardLaws.{from-none, no-length}, ShortFills.{own_bytes-short}}
-use Rattle.event_log.proofs.Following.{Becomes, follows-by, logged-same, logs-by, weights_of}
-use Rattle.event_log.proofs.{Needs.{NoneReturns-app, app-there, both-said, one-becomes, pool-said, within-by, within-there}, Parts.{app_weight}}
-use Rattle.event_log.{proofs.{Settings.{pool_buffers-same}, Shifts.{app-shift}, Tallying.{Gains, SameLists, gains-none, keeps-app}}, specs.Tallies.{taken_as}}
-
--- ---- notes
-
-pub took_note-law : TookNoteLaw
-took_note-law s sound a app at note split next =
-    let p = note.place in
-    let v = took_note app.view note in
-    let new = by_app s a app v in
-    let e = event.Held a p.buffer p.offset p.len in
-    let x = holding.Sent a p.offset p.len in
-    let y = holding.Held a p.offset p.len in
-    let shifts = shifts-took_note s a app at note split next in
-    let becomes = one-becomes e p.buffer x (y ∷ []) s new sound shifts refl
-    (λ there none. rw (app-there s sound a app at, within-by s sound p.buffer p.offset p.len there none) refl) (λ held. refl) in
-    logs-by e s new refl (follows-by e p.buffer (x ∷ []) (y ∷ []) s new refl (NoneReturns-app s a app v at sound.returns) shifts (λ held p u. refl)
-    becomes)
-    (tallies-took_note s a app at note split)
+use Rattle.board_face.specs.BoardSteps.{AppStep, AppCan, apply, app, app_view, polls, cuts, releases, lends, gives, abandons, spares, lends_own}
+use Rattle.board_face.specs.Holdings.{app_ends, app_begins, weight as hold_weight}
+use Rattle.board_face.specs.{AppCalls.{HasHeld, HasSpare, IsFilled}, declared.views.parts.Filling.{Filling}}
+use Rattle.zr_kinds.specs.declared.place.{Note.{Note}, Place.{Place}}
+use Rattle.event_log.{specs.{Fills.{AreShort}, IsLogged.{Logs, AreSound, KeepsLog, run_of}, Plain.{weight}}, proofs.Tallying.{Tallies}}
+use Rattle.board_face.proofs.Tallies.{weight as one}
+use Rattle.run_records.specs.Holders.{becomes, buffer_of, changed, is_app, is_buffer, is_in_range, is_within}
+use Rattle.board_face.specs.{AppEvents.{begin_place, got_spare, own_bytes}, Laws.{AllSides, pool_of, user_of}}
+use Rattle.board_face.specs.{OwnBuffers.{IsOwnBuffer}, Sides.{IsApp, app_at, side_in}, declared.views.{parts.Setting.{Setting as Shared}}}
+use Rattle.board_face.{specs.declared.views.app.AppSide.{AppSide}, proofs.{ListLemmas.{not-eqb}}}
+use Rattle.event_log.proofs.AppTallies.{tallies-abandoned, tallies-gave, tallies-got_spare, tallies-lent, tallies-lent_own, tallies-none, tallies-took_note}
+use Rattle.event_log.proofs.{CardLaws.{from-none, no-length}, Counting.{ends}, ShortFills.{own_bytes-short}}
+use Rattle.event_log.proofs.Following.{Becomes, Counts, Shifts, follows-by, logged-same, logs-by}
+use Rattle.event_log.proofs.{Needs.{NoneReturns-app, app-there, both-said, one-ends, pool-said, within-by, within-there}}
+use Rattle.event_log.{proofs.{Settings.{pool_buffers-same}, Shifts.{recorded, step-same, step-shifts}, Tallying.{Gains, SameLists, gains-none, keeps-app}}}
 
 -- ---- pieces
 
@@ -52,98 +37,104 @@ not-part a o l m some less =
     neither true false e = refl
     neither false d e = refl
 
-pub cut-law : CutLaw
-cut-law s sound a app at p m out some less =
-    let v = cut app.view p m in
-    let new = by_app s a app v in
-    let e = event.Cut a p.buffer p.offset p.len m (pool_of new p.buffer) in
-    let x = holding.Held a p.offset p.len in
-    let news = holding.Held a p.offset m ∷ holding.Held a (p.offset + m) (p.len - m) ∷ [] in
-    let shifts = shifts-cut s a app at p m out in
-    let becomes = one-becomes e p.buffer x news s new sound shifts (not-part a p.offset p.len m some less)
-    (λ there none. rw (app-there s sound a app at, within-by s sound p.buffer p.offset p.len there none) refl)
-    (λ held. rw (lt-ltb 0 m some, lt-ltb m p.len less) refl) in
-    logs-by e s new refl (follows-by e p.buffer (x ∷ []) news s new refl (NoneReturns-app s a app v at sound.returns) shifts
-    (λ held q u. pool-said held (pool_of new p.buffer) q) becomes)
-    (tallies-none e s a app v at (λ n. assumption)
-    (assumption) (gains-none app.view v refl refl refl refl) (assumption))
+module _ (s : AllSides) (sound : AreSound s) (a : ℕ) (at : IsApp s.apps a (side_in s.apps a)) where
+  abbrev x : AppSide
+  x = side_in s.apps a
 
-pub released-law : ReleasedLaw
-released-law s sound a app at p out =
-    let v = released app.view p in
-    let new = by_app s a app v in
-    let e = event.Free a p.buffer p.offset p.len (pool_of new p.buffer) in
-    let x = holding.Held a p.offset p.len in
-    let shifts = shifts-released s a app at p out in
-    let becomes = one-becomes e p.buffer x [] s new sound shifts refl
-    (λ there none. rw (app-there s sound a app at, within-by s sound p.buffer p.offset p.len there none) refl) (λ held. refl) in
-    logs-by e s new refl (follows-by e p.buffer (x ∷ []) [] s new refl (NoneReturns-app s a app v at sound.returns) shifts
-    (λ held q u. pool-said held (pool_of new p.buffer) q) becomes)
-    (tallies-none e s a app v at (λ n. assumption)
-    (assumption) (gains-none app.view v refl refl refl refl) (assumption))
+  abbrev next : AppStep → AllSides
+  next step = apply (app a step) s
 
--- ---- loans
+  -- bytes of a holder that is there are in the area
+  within : (p : Place) → is_buffer (run_of s) p.buffer ≡ true → one (ltb (size_of s.nic.view.setting.layout p.buffer) (p.offset + p.len)) ≡ 0
+      → (is_app (run_of s) a && is_within (run_of s) p.buffer p.offset p.len) ≡ true
+  within p there none = rw (app-there s sound a x at, within-by s sound p.buffer p.offset p.len there none) refl
 
-pub lent-law : LentLaw
-lent-law s sound a app at p out =
-    let v = lent app.view p in
-    let new = by_app s a app v in
-    let e = event.Lend a p.buffer p.offset p.len (pool_of new p.buffer) (user_of new a p.buffer) in
-    let x = holding.Held a p.offset p.len in
-    let y = holding.Loan a p.offset p.len in
-    let shifts = shifts-lent s a app at p out in
-    let becomes = one-becomes e p.buffer x (y ∷ []) s new sound shifts refl
-    (λ there none. rw (app-there s sound a app at, within-by s sound p.buffer p.offset p.len there none) refl) (λ held. refl) in
-    logs-by e s new refl (follows-by e p.buffer (x ∷ []) (y ∷ []) s new refl (NoneReturns-app s a app v at sound.returns) shifts
-    (λ held q u. both-said held (pool_of new p.buffer) a (user_of new a p.buffer) q (u a)) becomes)
-    (tallies-lent s a app at p (pool_of new p.buffer) (user_of new a p.buffer))
+  -- one holder of a place ends, and others begin there
+  place-ends : (step : AppStep) (e : Event) (p : Place) (old : Holding) (news : List Holding) → buffer_of e ≡ Some p.buffer
+      → Shifts p.buffer (old ∷ []) news s (next step) → weight (one_if (is_same old)) news ≡ 0
+      → (is_buffer (run_of s) p.buffer ≡ true → one (ends (size_of s.nic.view.setting.layout p.buffer) old) ≡ 0 → is_in_range (run_of s) e ≡ true)
+      → ((held : List Holding) → changed (run_of s) held e ≡ becomes old news held) → Counts e p.buffer (next step) → Tallies e s (next step)
+      → Logs e s (next step)
+  place-ends step e p old news names shifts none range does counts tallies =
+      one-ends e p.buffer old news s (next step) sound (NoneReturns-app s a x (app_view step x.view) at sound.returns) refl names shifts none range does
+      counts tallies
 
-pub back-law : BackLaw
-back-law = record {
-  gave = λ s sound a app at p out.
-      let v = gave app.view p in
-      let new = by_app s a app v in
-      let e = event.Back a p.buffer p.offset p.len (user_of new a p.buffer) in
-      let x = holding.Loan a p.offset p.len in
-      let shifts = shifts-gave s sound.fit a app at p out in
-      let becomes = one-becomes e p.buffer x (holding.Owed a ∷ []) s new sound shifts refl
-      (λ there none. rw (app-there s sound a app at, within-by s sound p.buffer p.offset p.len there none) refl) (λ held. refl) in
-      logs-by e s new refl (follows-by e p.buffer (x ∷ []) (holding.Owed a ∷ []) s new refl (NoneReturns-app s a app v at sound.returns) shifts
-      (λ held q u. eq-eqb _ _ (u a)) becomes)
-      (tallies-gave s a app at p (user_of new a p.buffer) out);
-  abandoned = λ s sound a app at p out.
-      let v = abandoned app.view p in
-      let new = by_app s a app v in
-      let e = event.Back a p.buffer p.offset p.len (user_of new a p.buffer) in
-      let x = holding.Loan a p.offset p.len in
-      let shifts = shifts-abandoned s sound.fit a app at p out in
-      let becomes = one-becomes e p.buffer x (holding.Owed a ∷ []) s new sound shifts refl
-      (λ there none. rw (app-there s sound a app at, within-by s sound p.buffer p.offset p.len there none) refl) (λ held. refl) in
-      logs-by e s new refl (follows-by e p.buffer (x ∷ []) (holding.Owed a ∷ []) s new refl (NoneReturns-app s a app v at sound.returns) shifts
-      (λ held q u. eq-eqb _ _ (u a)) becomes)
-      (tallies-abandoned s a app at p (user_of new a p.buffer) out);
-}
+  pub polled-logs : (note : Note) → AppCan (polls note) s.nic x
+      → Logs (event.Held a note.place.buffer note.place.offset note.place.len) s (next (polls note))
+  polled-logs note can =
+      let p = note.place in
+      place-ends (polls note) (event.Held a p.buffer p.offset p.len) p (holding.Sent a p.offset p.len) (holding.Held a p.offset p.len ∷ []) refl
+      (step-shifts (app a (polls note)) s (at, can) p.buffer (refl, tt) (refl, tt)) refl (λ there none. within p there none) (λ held. refl) (λ held q u. refl)
+      (tallies-took_note s a x at note can.0)
+
+  pub cut-logs : (p : Place) (m : ℕ) → HasHeld x.view p → 0 < m → m < p.len
+      → Logs (event.Cut a p.buffer p.offset p.len m (pool_of (next (cuts p m)) p.buffer)) s (next (cuts p m))
+  cut-logs p m out some less =
+      let pool = pool_of (next (cuts p m)) p.buffer in
+      let e = event.Cut a p.buffer p.offset p.len m pool in
+      let v = app_view (cuts p m) x.view in
+      place-ends (cuts p m) e p (holding.Held a p.offset p.len) (holding.Held a p.offset m ∷ holding.Held a (p.offset + m) (p.len - m) ∷ []) refl
+      (step-shifts (app a (cuts p m)) s (at, out) p.buffer (refl, tt) (refl, (refl, tt))) (not-part a p.offset p.len m some less)
+      (λ there none. within p there none) (λ held. rw (lt-ltb 0 m some, lt-ltb m p.len less) refl) (λ held q u. pool-said held pool q)
+      (tallies-none e s a x v at (λ n. assumption) (assumption) (gains-none x.view v refl refl refl refl) (assumption))
+
+  pub released-logs : (p : Place) → HasHeld x.view p
+      → Logs (event.Free a p.buffer p.offset p.len (pool_of (next (releases p)) p.buffer)) s (next (releases p))
+  released-logs p out =
+      let pool = pool_of (next (releases p)) p.buffer in
+      let e = event.Free a p.buffer p.offset p.len pool in
+      let v = app_view (releases p) x.view in
+      place-ends (releases p) e p (holding.Held a p.offset p.len) [] refl (step-shifts (app a (releases p)) s (at, out) p.buffer (refl, tt) tt) refl
+      (λ there none. within p there none) (λ held. refl) (λ held q u. pool-said held pool q)
+      (tallies-none e s a x v at (λ n. assumption) (assumption) (gains-none x.view v refl refl refl refl) (assumption))
+
+  -- ---- loans
+
+  pub lent-logs : (p : Place) → HasHeld x.view p
+      → let new = next (lends p) in Logs (event.Lend a p.buffer p.offset p.len (pool_of new p.buffer) (user_of new a p.buffer)) s new
+  lent-logs p out =
+      let pool = pool_of (next (lends p)) p.buffer in
+      let user = user_of (next (lends p)) a p.buffer in
+      place-ends (lends p) (event.Lend a p.buffer p.offset p.len pool user) p (holding.Held a p.offset p.len) (holding.Loan a p.offset p.len ∷ []) refl
+      (step-shifts (app a (lends p)) s (at, out) p.buffer (refl, tt) (refl, tt)) refl (λ there none. within p there none) (λ held. refl)
+      (λ held q u. both-said held pool a user q (u a)) (tallies-lent s a x at p pool user)
+
+  pub gave-logs : (p : Place) → AppCan (gives p) s.nic x
+      → let new = next (gives p) in Logs (event.Back a p.buffer p.offset p.len (user_of new a p.buffer)) s new
+  gave-logs p can =
+      let user = user_of (next (gives p)) a p.buffer in
+      place-ends (gives p) (event.Back a p.buffer p.offset p.len user) p (holding.Loan a p.offset p.len) (holding.Owed a ∷ []) refl
+      (step-shifts (app a (gives p)) s (at, can) p.buffer (refl, tt) (refl, tt)) refl (λ there none. within p there none) (λ held. refl)
+      (λ held q u. eq-eqb _ _ (u a)) (tallies-gave s a x at p user can.0)
+
+  pub abandoned-logs : (p : Place) → AppCan (abandons p) s.nic x
+      → let new = next (abandons p) in Logs (event.Back a p.buffer p.offset p.len (user_of new a p.buffer)) s new
+  abandoned-logs p can =
+      let user = user_of (next (abandons p)) a p.buffer in
+      place-ends (abandons p) (event.Back a p.buffer p.offset p.len user) p (holding.Loan a p.offset p.len) (holding.Owed a ∷ []) refl
+      (step-shifts (app a (abandons p)) s (at, can) p.buffer (refl, tt) (refl, tt)) refl (λ there none. within p there none) (λ held. refl)
+      (λ held q u. eq-eqb _ _ (u a)) (tallies-abandoned s a x at p user can.0)
 
 -- ---- spares
 
 -- the application's setting is the board's
-own-setting : (s : AllSides) → AreSound s → (a : ℕ) (app : AppSide) → IsApp s.apps a app → app.view.setting ≡ s.nic.view.setting
-own-setting s sound a app at =
-    let P : AppSide → Type 0 = λ x. x.view.setting ≡ s.nic.view.setting in
-    subst P at.is (All-get_or P s.apps a app at.there sound.setting.same)
+own-setting : (s : AllSides) → AreSound s → (a : ℕ) (x : AppSide) → IsApp s.apps a x → x.view.setting ≡ s.nic.view.setting
+own-setting s sound a x at =
+    let P : AppSide → Type 0 = λ y. y.view.setting ≡ s.nic.view.setting in
+    subst P at.is (All-get_or P s.apps a x at.there sound.setting.same)
 
 -- what may be a spare of the application
 record MayBeSpare (s : AllSides) (a buffer : ℕ) : Type 0 where
   pub within : buffer < total_buffers (run_of s)
   pub fits : (is_pool_buffer (run_of s) buffer || is_reserve_of (run_of s) a buffer) ≡ true
 
-may-be_spare : (s : AllSides) → AreSound s → (a : ℕ) (app : AppSide) → IsApp s.apps a app → (buffer : ℕ) → IsOwnBuffer app.view buffer
+may-be_spare : (s : AllSides) → AreSound s → (a : ℕ) (x : AppSide) → IsApp s.apps a x → (buffer : ℕ) → IsOwnBuffer x.view buffer
     → MayBeSpare s a buffer
-may-be_spare s sound a app at buffer own =
+may-be_spare s sound a x at buffer own =
     let layout = s.nic.view.setting.layout in
     let pool = run_pool_buffers (run_of s).areas in
-    let same : pool ≡ pool_buffers app.view.setting.layout =
-    pool_buffers-same layout ∙ sym (ap (λ (x : Shared). pool_buffers x.layout) (own-setting s sound a app at)) in
+    let same : pool ≡ pool_buffers x.view.setting.layout =
+    pool_buffers-same layout ∙ sym (ap (λ (x : Shared). pool_buffers x.layout) (own-setting s sound a x at)) in
     ⊎_elim
     (λ of_pool.
     let less : buffer < pool = omega (arith, of_pool, same) in
@@ -153,69 +144,49 @@ may-be_spare s sound a app at buffer own =
     record { within = omega (arith, is, at.there, sound.setting.many); fits = rw (eq-eqb buffer (pool + a) is) (or_right (ltb buffer pool) true refl) })
     own
 
-pub got_spare-law : GotSpareLaw
-got_spare-law s sound a app at buffer own none =
-    let v = got_spare app.view buffer in
-    let new = by_app s a app v in
+pub spared-logs : (s : AllSides) → AreSound s → (a : ℕ) → IsApp s.apps a (side_in s.apps a) → (buffer : ℕ)
+    → IsOwnBuffer (side_in s.apps a).view buffer → pool_of s buffer ≡ 0
+    → let new = apply (app a (spares buffer)) s in Logs (event.Spare a buffer (pool_of new buffer)) s new
+spared-logs s sound a at buffer own none =
+    let x = side_in s.apps a in
+    let v = got_spare x.view buffer in
+    let new = apply (app a (spares buffer)) s in
     let e = event.Spare a buffer (pool_of new buffer) in
-    let x = holding.Spare a in
-    let may = may-be_spare s sound a app at buffer own in
-    let becomes : Becomes e buffer [] (x ∷ []) s = λ h same. (
-      rw (app-there s sound a app at, lt-ltb buffer (total_buffers (run_of s)) may.within) refl,
-      (x ∷ [], rw (may.fits, no-length s sound h same buffer none) refl, from-none s sound h same buffer none (x ∷ [])),
+    let one = holding.Spare a in
+    let may = may-be_spare s sound a x at buffer own in
+    let becomes : Becomes e buffer [] (one ∷ []) s = λ h same. (
+      rw (app-there s sound a x at, lt-ltb buffer (total_buffers (run_of s)) may.within) refl,
+      (one ∷ [], rw (may.fits, no-length s sound h same buffer none) refl, from-none s sound h same buffer none (one ∷ [])),
     ) in
-    logs-by e s new refl (follows-by e buffer [] (x ∷ []) s new refl (NoneReturns-app s a app v at sound.returns) (shifts-got_spare s a app at buffer)
+    logs-by e s new refl (follows-by e buffer [] (one ∷ []) s new refl (NoneReturns-app s a x v at sound.returns)
+    (step-shifts (app a (spares buffer)) s (at, tt) buffer tt (refl, tt))
     (λ held q u. pool-said held (pool_of new buffer) q) becomes)
-    (tallies-got_spare s a app at buffer (pool_of new buffer))
+    (tallies-got_spare s a x at buffer (pool_of new buffer))
 
-pub lent_own-law : LentOwnLaw
-lent_own-law s sound a app at it out some short =
-    let few = own_bytes-short s.apps a app at short it in
-    let v = lent_own app.view it in
-    let l = length (own_bytes app.view it) in
-    let new = by_app s a app v in
+pub lent_own-logs : (s : AllSides) → AreSound s → (a : ℕ) → IsApp s.apps a (side_in s.apps a) → (it : Filling) → HasSpare (side_in s.apps a).view it
+    → IsFilled (side_in s.apps a).view it → AreShort s.apps
+    → let new = apply (app a (lends_own it)) s in
+    Logs (event.Own a it.buffer (length (own_bytes (side_in s.apps a).view it)) (pool_of new it.buffer) (user_of new a it.buffer)) s new
+lent_own-logs s sound a at it out some short =
+    let x = side_in s.apps a in
+    let few = own_bytes-short s.apps a x at short it in
+    let l = length (own_bytes x.view it) in
+    let new = apply (app a (lends_own it)) s in
     let e = event.Own a it.buffer l (pool_of new it.buffer) (user_of new a it.buffer) in
-    let x = holding.Spare a in
-    let y = holding.Loan a 0 l in
-    let shifts = shifts-lent_own s a app at it out in
     let size = (words_apart s.nic.view.setting.layout sound.layout).size it.buffer in
-    let becomes = one-becomes e it.buffer x (y ∷ []) s new sound shifts refl
-    (λ there none. rw (app-there s sound a app at, within-there s sound it.buffer 0 l there (omega (arith, few, size.least))) refl)
-    (λ held. rw (lt-ltb 0 l some, lt-ltb l 257 (omega (arith, few))) refl) in
-    logs-by e s new refl (follows-by e it.buffer (x ∷ []) (y ∷ []) s new refl (NoneReturns-app s a app v at sound.returns) shifts
-    (λ held q u. both-said held (pool_of new it.buffer) a (user_of new a it.buffer) q (u a)) becomes)
-    (tallies-lent_own s a app at it out (pool_of new it.buffer) (user_of new a it.buffer))
+    place-ends s sound a at (lends_own it) e (begin_place it.buffer l) (holding.Spare a) (holding.Loan a 0 l ∷ []) refl
+    (step-shifts (app a (lends_own it)) s (at, out) it.buffer (refl, tt) (refl, tt)) refl
+    (λ there none. rw (app-there s sound a x at, within-there s sound it.buffer 0 l there (omega (arith, few, size.least))) refl)
+    (λ held. rw (lt-ltb 0 l some, lt-ltb l 257 (omega (arith, few))) refl)
+    (λ held q u. both-said held (pool_of new it.buffer) a (user_of new a it.buffer) q (u a))
+    (tallies-lent_own s a x at it out (pool_of new it.buffer) (user_of new a it.buffer))
 
 -- ---- no event
 
-same-app : (s : AllSides) (a : ℕ) (app : AppSide) (v : AppView) → IsApp s.apps a app → Gains 0 0 0 app.view v → SameLists app.view v
-    → ((b : ℕ) (f : Holding → ℕ) → weights_of (by_app s a app v) b f ≡ weights_of s b f) → KeepsLog s (by_app s a app v)
-same-app s a app v at none same weighs = logged-same s (by_app s a app v) refl weighs (keeps-app s a app (app_at app v) at none same)
-
--- where nothing of what is held or counted changes
-untouched : (s : AllSides) (a : ℕ) (app : AppSide) (v : AppView) → IsApp s.apps a app → SameHoldings app.view v → v.spares ≡ app.view.spares
-    → KeepsLog s (by_app s a app v)
-untouched s a app v at same spares =
-    same-app s a app v at (gains-none app.view v same.loans same.returned same.owns spares)
-    (record { taken = ap (flat_map taken_as) same.taken; returned = same.returned; spares = spares })
-    (λ b f. omega (arith, app-shift s a app v at b f, weighs b f))
-  where
-    weighs : (b : ℕ) (f : Holding → ℕ) → app_weight f b s.nic (app_at app v) ≡ app_weight f b s.nic app
-    weighs b f = rw (same.app, same.taken, same.helds, same.owns, same.loans, same.returned) refl
-
-pub app-unlogged : AppUnloggedLaw
-app-unlogged = record {
-  linear = λ s a app at note split next bytes. let v = took_linear app.view note bytes in
-      same-app s a app v at (gains-none app.view v refl refl refl refl)
-      (record { taken = takes-none app.view.taken _ split; returned = refl; spares = refl }) (same-took_linear s a app at note split next bytes);
-  fill = λ s a app at own bytes out.
-      same-app s a app (filled app.view own bytes) at (gains-filled app.view own bytes out) (assumption)
-      (same-filled s a app at own bytes out);
-  look = λ s a app at look. untouched s a app (app_saw app.view look) at (assumption) refl;
-  read = λ s a app at p from bytes. untouched s a app (has_read app.view p from bytes) at (assumption) refl;
-  raw = λ s a app at entry. untouched s a app (pushed_raw app.view entry) at (assumption) refl;
-  settled = λ s a app at. untouched s a app (came_to_rest app.view) at (assumption) refl;
-  quiet = λ s a app at. untouched s a app (fell_quiet app.view) at (assumption) refl;
-  end = λ s a app at. untouched s a app (told_end app.view) at (assumption) refl;
-  left = λ s a app at. untouched s a app (left_board app.view) at (assumption) refl;
-}
+pub app-keeps : (step : AppStep) (s : AllSides) (a : ℕ) (at : IsApp s.apps a (side_in s.apps a)) → AppCan step s.nic (side_in s.apps a)
+    → let x = side_in s.apps a in let v = app_view step x.view in
+    ((b : ℕ) (f : Holding → ℕ) → hold_weight (recorded f) b (app_ends a step x.view) ≡ hold_weight (recorded f) b (app_begins a step x.view))
+    → Gains 0 0 0 x.view v → SameLists x.view v → KeepsLog s (apply (app a step) s)
+app-keeps step s a at can same none lists =
+    logged-same s (apply (app a step) s) refl (step-same (app a step) s (at, can) same)
+    (keeps-app s a (side_in s.apps a) (app_at (side_in s.apps a) (app_view step (side_in s.apps a).view)) at none lists)

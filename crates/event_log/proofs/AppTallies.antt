@@ -10,12 +10,22 @@ use Rattle.board_face.specs.{AppEvents.{gave, lent_own, took_note}, Laws.{AllSid
 use Rattle.board_face.specs.declared.views.{parts.Filling.{Filling}, app.{AppView.{AppView}, AppSide.{AppSide}, LentPiece.{LentPiece}, SpareOwn.{SpareOwn}}}
 use Rattle.board_face.{specs.declared.views.app.{TakenNote.{TakenNote}, Origin.TheVariants.{Copied as of_copy}}, proofs.ListLemmas.{eqb_same, not-eqb}}
 use Rattle.board_face.proofs.Tallies.{weight as one, total}
-use Rattle.event_log.{specs.Tallies.{len_of, place_of, taken_as}, proofs.AppShifts.{loans-less, owns-less}}
+use Rattle.event_log.specs.Tallies.{len_of, place_of, taken_as}
+use Rattle.board_face.specs.{Lists.{same_place}, Tokens.{same_filling}}
+use Rattle.board_face.proofs.{ListLemmas.{same_place-refl, same_filling-refl, same_place-is, same_filling-is}, Sums.{total-without}}
 use Rattle.event_log.proofs.Tallying.{Gains, IsNoneOfCard, SameLists, Tallies, TellsNothing, app-stays, gains-none, sum-total, tallies-app}
 
 length-total : {A : Type 0} (xs : List A) → total (λ x. 1) xs ≡ length xs
 length-total [] = refl
 length-total (x ∷ xs) = omega (arith, length-total xs)
+
+loans-less : (v : AppView) (place : Place) → HasLoan v place → (g : Place → ℕ)
+    → total (λ (l : LentPiece). g l.place) (loans_without v place) + g place ≡ total (λ (l : LentPiece). g l.place) v.loans
+loans-less v place out g = total-without (λ (l : LentPiece). l.place) (same_place place) place (same_place-is place) (same_place-refl place) g v.loans out
+
+owns-less : (v : AppView) (it : Filling) → HasSpare v it → (g : Filling → ℕ)
+    → total (λ (x : SpareOwn). g x.own) (owns_without v it) + g it ≡ total (λ (x : SpareOwn). g x.own) v.owns
+owns-less v it out g = total-without (λ (x : SpareOwn). x.own) (same_filling it) it (same_filling-is it) (same_filling-refl it) g v.owns out
 
 -- ---- gains
 

@@ -1,24 +1,24 @@
 -- The log goes on to tell of a board after each event of the card.
-use Rattle.std.proofs.Common.{◌≡◌, ◌∙◌, ℕ, ◌+◌, ◌<◌, ◌≤◌, true, false, List, [], ◌∷◌, ◌++◌, length, eqb, ltb, Some, refl, sym, ap, arith, ⊎_elim, if◌then◌else◌, leb}
+use Rattle.std.proofs.Common.{◌≡◌, ◌∙◌, ℕ, ◌+◌, ◌<◌, ◌≤◌, Bool, true, false, List, [], ◌∷◌, ◌++◌, length, eqb, ltb, Some, refl, sym, ap, arith, ⊎_elim, if◌then◌else◌, leb}
 use Rattle.std.{specs.{Prelude.{◌||◌, ◌%◌, not, count_by}, List.{list_any, list_all, flat_map}}, proofs.lemmas.Bool.{lt-ltb, le-leb, eq-eqb, cases_lt, or_right}}
 use Rattle.std.proofs.lemmas.List.{append-nil, flat_map_more, map-append, Elements.{All-contains}}
-use Rattle.area_layout.specs.Layout.{size_of}
+use Rattle.area_layout.specs.Layout.{size_of, pool_buffers}
 use Rattle.run_records.specs.{declared.{event.Event.{Event}, holding.Holding.{Holding}}, Setting.{Setting, total_buffers, pool_buffers as run_pool_buffers}}
 use Rattle.run_records.{specs.Holders.{Holdings, after, is_app, is_apart, is_buffer, is_same}, proofs.Weighing.{Moves, one_if, weight-append}}
 use Rattle.run_records.specs.declared.event.Event.TheVariants as event
 use Rattle.run_records.specs.declared.holding.Holding.TheVariants as holding
-use Rattle.board_face.specs.{Laws.{AllSides, by_card, pool_of, user_of}, NicCalls.{HasOwn}}
-use Rattle.board_face.specs.NicEvents.{took, placed, sent, sent_linear, gave_up, shut, passed_over, honoured, swept, nic_saw, saw_leave, nic_ended}
-use Rattle.board_face.specs.{Places.{places_of, ends_behind}, Sides.{nic_at}, Tokens.{FitsBuffer}, declared.views.parts.Setting.{Setting as Shared}}
+use Rattle.board_face.specs.{Laws.{AllSides, by_card, pool_of, user_of}, NicCalls.{HasOwn}, Sides.{IsApp, side_in}}
+use Rattle.board_face.specs.{BoardSteps.{CardStep, CardCan, apply, card, card_view, takes, places, sends, shuts, honours, strays}, Holdings.{card_ends, card_begins}}
+use Rattle.zr_kinds.{specs.declared.{place.{Note.{Note}, Place.{Place}}, ring.Rqe.{Rqe}}, proofs.Booleans.{if-le}}
+use Rattle.board_face.specs.NicEvents.{took, placed, sent, gave_up, shut, passed_over, honoured}
+use Rattle.board_face.specs.{Places.{places_of, ends_behind}, Tokens.{FitsBuffer}, declared.views.parts.Setting.{Setting as Shared}}
 use Rattle.board_face.{specs.declared.views.{parts.Filling.{Filling}, nic.{Dealt.{Dealt}, NicView.{NicView}, SentNote.{SentNote}}}, proofs.Tallies.{weight as one}}
-use Rattle.event_log.specs.{CardLaws.{TookLaw, PlacedLaw, SentLaw, ShutLaw, HonouredLaw, PassedOverLaw, CardUnloggedLaw}, IsLogged.{AreSound, KeepsLog, run_of}}
+use Rattle.event_log.specs.{IsLogged.{AreSound, KeepsLog, Logs, run_of}}
 use Rattle.event_log.specs.{Settings.{setting_of}, Plain.{SameHoldings, weight}, Tallies.{dealt_as, is_stray, sent_as, strays_of, was_stray}}
-use Rattle.event_log.proofs.CardShifts.{shifts-took, shifts-placed, shifts-sent, shifts-shut, shifts-honoured, same-passed_over, same-sent_linear}
-use Rattle.event_log.proofs.{Counting.{buffer-there, ends, ends-weight, held-some, length-held}, Following.{Becomes, follows-by, logged-same, logs-by, was-there}}
-use Rattle.event_log.proofs.{Needs.{NoneReturns-card, app-there, both-said, one-becomes, pool-said, within-by, within-there}, Parts.{card_weight}}
-use Rattle.event_log.proofs.{Settings.{pool_buffers-same}, Shifts.{card-shift}}
+use Rattle.event_log.proofs.{Counting.{buffer-there, ends, ends-weight, held-some, length-held}, Following.{Becomes, Shifts, follows-by, logged-same, logs-by, was-there}}
+use Rattle.event_log.proofs.{Needs.{NoneReturns-card, app-there, both-said, one-ends, pool-said, within-by, within-there}}
+use Rattle.event_log.proofs.{Settings.{pool_buffers-same}, Shifts.{here-more, step-same, step-shifts}}
 use Rattle.event_log.proofs.{Tallying.{CardGains, Tallies, TellsNothing, card-stays, count-push, keeps-card, tallies-card}, Weighing.{all-pass, weight-le}}
-use Rattle.zr_kinds.proofs.Booleans.{if-le}
 
 -- an event that tells of no loan, of a card that dealt with no entry
 tallies-unstrayed : (e : Event) (s : AllSides) (v : NicView) → ((a : ℕ) → TellsNothing a e) → is_stray e ≡ false → v.dealt ≡ s.nic.view.dealt
@@ -39,9 +39,10 @@ from-none s sound h same b none news f = omega (arith, none-weigh f (h b) (lengt
 pub no-length : (s : AllSides) → AreSound s → (h : Holdings) → SameHoldings h s → (b : ℕ) → pool_of s b ≡ 0 → eqb (length (h b)) 0 ≡ true
 no-length s sound h same b none = eq-eqb (length (h b)) 0 (length-held s sound h same b ∙ none)
 
-pub took-law : TookLaw
-took-law s sound buffer pool none =
-    let new = by_card s (took s.nic.view buffer) in
+pub took-logs : (s : AllSides) → AreSound s → (buffer : ℕ) → buffer < pool_buffers s.nic.view.setting.layout → pool_of s buffer ≡ 0
+    → let new = apply (card (takes buffer)) s in Logs (event.Take buffer (pool_of new buffer)) s new
+took-logs s sound buffer pool none =
+    let new = apply (card (takes buffer)) s in
     let e = event.Take buffer (pool_of new buffer) in
     let layout = s.nic.view.setting.layout in
     let of_pool : buffer < run_pool_buffers (run_of s).areas = omega (arith, pool, pool_buffers-same layout) in
@@ -54,7 +55,7 @@ took-law s sound buffer pool none =
       ),
     ) in
     logs-by e s new refl (follows-by e buffer [] (holding.Own ∷ []) s new refl (NoneReturns-card s (took s.nic.view buffer) sound.returns)
-    (shifts-took s buffer) (λ held p u. pool-said held (pool_of new buffer) p) becomes)
+    (step-shifts (card (takes buffer)) s tt buffer tt (refl, tt)) (λ held p u. pool-said held (pool_of new buffer) p) becomes)
     (tallies-unstrayed e s (took s.nic.view buffer) (λ n. assumption) refl refl
     (record { takes = refl; sends = sym (append-nil _); deals = sym (append-nil _) }))
 
@@ -80,7 +81,7 @@ not-apart o l (holding.Owed a) = omega arith
 module _ (s : AllSides) (sound : AreSound s) (it : Filling) (out : HasOwn s.nic.view it) (h : Holdings) (same : SameHoldings h s) where
   -- the card is among the holders of a buffer that it fills
   own-there : list_any (is_same holding.Own) (h it.buffer) ≡ true
-  own-there = was-there it.buffer holding.Own [] s (by_card s (shut s.nic.view it false)) (shifts-shut s it false out) refl refl h same
+  own-there = was-there it.buffer holding.Own [] s (apply (card (shuts it false)) s) (step-shifts (card (shuts it false)) s out it.buffer (refl, tt) tt) refl refl h same
 
   own-some : is_buffer (run_of s) it.buffer ≡ true
   own-some = buffer-there s sound h same it.buffer (held-some s sound h same it.buffer holding.Own own-there)
@@ -99,10 +100,18 @@ module _ (s : AllSides) (sound : AreSound s) (it : Filling) (out : HasOwn s.nic.
         behind,
       ))
 
-pub placed-law : PlacedLaw
-placed-law s sound it bytes out some within =
+-- a holder that ends and begins is no change
+kept-apart : (buffer : ℕ) (x : Holding) (news : List Holding) (old new : AllSides) → Shifts buffer (x ∷ []) (x ∷ news) old new
+    → Shifts buffer [] news old new
+kept-apart buffer x news old new both b f =
+    omega (arith, both b f, here-more b buffer (f x) 0, here-more b buffer (f x) (weight f news))
+
+pub placed-logs : (s : AllSides) → AreSound s → (it : Filling) (bytes : List ℕ) → HasOwn s.nic.view it → 0 < length bytes
+    → it.start + length bytes ≤ it.size
+    → let new = apply (card (places it bytes)) s in Logs (event.Place it.buffer it.start (length bytes) (pool_of new it.buffer)) s new
+placed-logs s sound it bytes out some within =
     let l = length bytes in
-    let new = by_card s (placed s.nic.view it bytes) in
+    let new = apply (card (places it bytes)) s in
     let e = event.Place it.buffer it.start l (pool_of new it.buffer) in
     let x = holding.Piece it.start l in
     let P : Filling → Type 0 = λ o. FitsBuffer o × (o.size ≡ size_of s.nic.view.setting.layout o.buffer) in
@@ -118,7 +127,7 @@ placed-law s sound it bytes out some within =
       ),
     ) in
     logs-by e s new refl (follows-by e it.buffer [] (x ∷ []) s new refl (NoneReturns-card s (placed s.nic.view it bytes) sound.returns)
-    (shifts-placed s it bytes out) (λ held p u. pool-said held (pool_of new it.buffer) p) becomes)
+    (kept-apart it.buffer holding.Own (x ∷ []) s new (step-shifts (card (places it bytes)) s out it.buffer (refl, tt) (refl, (refl, tt)))) (λ held p u. pool-said held (pool_of new it.buffer) p) becomes)
     (tallies-unstrayed e s (placed s.nic.view it bytes) (λ n. assumption) refl refl
     (card-stays e s.nic.view (placed s.nic.view it bytes) (assumption) refl refl refl))
 
@@ -129,48 +138,44 @@ sends-more : (notes : List SentNote) (n : SentNote) → n.note.split ≡ true �
 sends-more notes n split = sym (flat_map_more sent_as [] notes n)
     ∙ ap (λ c. flat_map sent_as notes ++ (if c then (n.app, n.note.place) ∷ [] else [])) split
 
-sends-none : (notes : List SentNote) (n : SentNote) → n.note.split ≡ false → flat_map sent_as (notes ++ n ∷ []) ≡ flat_map sent_as notes
+pub sends-none : (notes : List SentNote) (n : SentNote) → n.note.split ≡ false → flat_map sent_as (notes ++ n ∷ []) ≡ flat_map sent_as notes
 sends-none notes n split = sym (flat_map_more sent_as [] notes n)
     ∙ (ap (λ c. flat_map sent_as notes ++ (if c then (n.app, n.note.place) ∷ [] else [])) split ∙ append-nil (flat_map sent_as notes))
 
-pub sent-law : SentLaw
-sent-law s sound a app at note split out =
+pub sent-logs : (s : AllSides) → AreSound s → (a : ℕ) (note : Note) → CardCan (sends a note) s
+    → Logs (event.Sent a note.place.buffer note.place.offset note.place.len) s (apply (card (sends a note)) s)
+sent-logs s sound a note can =
     let p = note.place in
-    let new = by_card s (sent s.nic.view a note) in
     let e = event.Sent a p.buffer p.offset p.len in
-    let x = holding.Piece p.offset p.len in
-    let y = holding.Sent a p.offset p.len in
-    let shifts = shifts-sent s sound.fit a app at note split out in
-    let becomes = one-becomes e p.buffer x (y ∷ []) s new sound shifts refl
-    (λ there none. rw (app-there s sound a app at, within-by s sound p.buffer p.offset p.len there none) refl) (λ held. refl) in
-    logs-by e s new refl (follows-by e p.buffer (x ∷ []) (y ∷ []) s new refl (NoneReturns-card s (sent s.nic.view a note) sound.returns) shifts
-    (λ held p u. refl) becomes)
+    one-ends e p.buffer (holding.Piece p.offset p.len) (holding.Sent a p.offset p.len ∷ []) s (apply (card (sends a note)) s) sound
+    (NoneReturns-card s (sent s.nic.view a note) sound.returns) refl refl (step-shifts (card (sends a note)) s can p.buffer (refl, tt) (refl, tt)) refl
+    (λ there none. rw (app-there s sound a _ can.1, within-by s sound p.buffer p.offset p.len there none) refl) (λ held. refl) (λ held p u. refl)
     (tallies-unstrayed e s (sent s.nic.view a note) (λ n. assumption) refl refl
-    (record { takes = sym (append-nil _); sends = sends-more s.nic.view.sent _ split; deals = sym (append-nil _) }))
+    (record { takes = sym (append-nil _); sends = sends-more s.nic.view.sent _ can.2; deals = sym (append-nil _) }))
 
-pub shut-law : ShutLaw
-shut-law s sound it last out =
-    let new = by_card s (shut s.nic.view it last) in
+pub shut-logs : (s : AllSides) → AreSound s → (it : Filling) (last : Bool) → HasOwn s.nic.view it
+    → let new = apply (card (shuts it last)) s in Logs (event.Shut it.buffer (pool_of new it.buffer)) s new
+shut-logs s sound it last out =
+    let new = apply (card (shuts it last)) s in
     let e = event.Shut it.buffer (pool_of new it.buffer) in
-    let shifts = shifts-shut s it last out in
-    let becomes = one-becomes e it.buffer holding.Own [] s new sound shifts refl (λ there none. there) (λ held. refl) in
-    logs-by e s new refl (follows-by e it.buffer (holding.Own ∷ []) [] s new refl (NoneReturns-card s (shut s.nic.view it last) sound.returns) shifts
-    (λ held p u. pool-said held (pool_of new it.buffer) p) becomes)
+    one-ends e it.buffer holding.Own [] s new sound (NoneReturns-card s (shut s.nic.view it last) sound.returns) refl refl
+    (step-shifts (card (shuts it last)) s out it.buffer (refl, tt) tt) refl (λ there none. there) (λ held. refl)
+    (λ held p u. pool-said held (pool_of new it.buffer) p)
     (tallies-unstrayed e s (shut s.nic.view it last) (λ n. assumption) refl refl
     (card-stays e s.nic.view (shut s.nic.view it last) (assumption) refl refl refl))
 
 -- ---- entries
 
-pub honoured-law : HonouredLaw
-honoured-law s sound a app at entry buffer last owes =
-    let v = gave_up (honoured s.nic.view a entry buffer) buffer last in
-    let new = by_card s v in
-    let e = event.Honour a buffer (pool_of new buffer) (user_of new a buffer) in
-    let x = holding.Owed a in
-    let shifts = shifts-honoured s sound.fit a app at entry buffer last owes in
-    let becomes = one-becomes e buffer x [] s new sound shifts refl (λ there none. rw (app-there s sound a app at, there) refl) (λ held. refl) in
-    logs-by e s new refl (follows-by e buffer (x ∷ []) [] s new refl (NoneReturns-card s v sound.returns) shifts
-    (λ held p u. both-said held (pool_of new buffer) a (user_of new a buffer) p (u a)) becomes)
+pub honoured-logs : (s : AllSides) → AreSound s → (a : ℕ) (entry : Rqe) (p : Place) (last : Bool) → CardCan (honours a entry p last) s
+    → let new = apply (card (honours a entry p last)) s in Logs (event.Honour a p.buffer (pool_of new p.buffer) (user_of new a p.buffer)) s new
+honoured-logs s sound a entry p last can =
+    let v = gave_up (honoured s.nic.view a entry p.buffer) p.buffer last in
+    let new = apply (card (honours a entry p last)) s in
+    let e = event.Honour a p.buffer (pool_of new p.buffer) (user_of new a p.buffer) in
+    one-ends e p.buffer (holding.Owed a) [] s new sound (NoneReturns-card s v sound.returns) refl refl
+    (step-shifts (card (honours a entry p last)) s can p.buffer (refl, tt) tt) refl
+    (λ there none. rw (app-there s sound a _ can.1, there) refl) (λ held. refl)
+    (λ held q u. both-said held (pool_of new p.buffer) a (user_of new a p.buffer) q (u a))
     (tallies-card e s v (λ n. assumption) (count-push (λ (d : Dealt). was_stray d.fate) s.nic.view.dealt _)
     (record { takes = sym (append-nil _); sends = sym (append-nil _); deals = map-append dealt_as s.nic.view.dealt _ }))
 
@@ -178,29 +183,22 @@ stray-is : (s : Setting) (h : Holdings) (a : ℕ) → is_app s a ≡ true → af
 unfolding after
 stray-is s h a there = rw there refl
 
-pub passed_over-law : PassedOverLaw
-passed_over-law s sound a app at entry =
+pub strayed-logs : (s : AllSides) → AreSound s → (a : ℕ) (entry : Rqe) → IsApp s.apps a (side_in s.apps a)
+    → Logs (event.Stray a) s (apply (card (strays a entry)) s)
+strayed-logs s sound a entry at =
     let v = passed_over s.nic.view a entry in
-    let new = by_card s v in
-    logs-by (event.Stray a) s new refl
-    (λ h same. (h, stray-is (run_of s) h a (app-there s sound a app at), λ b f. same b f ∙ sym (same-passed_over s a entry b f)))
+    logs-by (event.Stray a) s (by_card s v) refl
+    (λ h same. (h, stray-is (run_of s) h a (app-there s sound a _ at), λ b f. same b f ∙ sym (step-same (card (strays a entry)) s tt (λ b f. refl) b f)))
     (tallies-card (event.Stray a) s v (λ n. assumption) (count-push (λ (d : Dealt). was_stray d.fate) s.nic.view.dealt _)
     (record { takes = sym (append-nil _); sends = sym (append-nil _); deals = map-append dealt_as s.nic.view.dealt _ }))
 
 -- ---- no event
 
-same-card : (s : AllSides) (v : NicView) → v.used ≡ s.nic.view.used → v.sent ≡ s.nic.view.sent → v.dealt ≡ s.nic.view.dealt → v.setting ≡ s.nic.view.setting
-    → ((b : ℕ) (f : Holding → ℕ) → card_weight f b (nic_at s.nic v) ≡ card_weight f b s.nic) → KeepsLog s (by_card s v)
-same-card s v used sents deals setting weighs =
-    logged-same s (by_card s v) (ap (λ (x : Shared). setting_of x.layout) setting) (λ b f. omega (arith, card-shift s v sents deals b f, weighs b f))
-    (keeps-card s v used (ap (flat_map sent_as) sents) deals)
-
-pub card-unlogged : CardUnloggedLaw
-card-unlogged = record {
-  sweep = λ s word found. same-card s (swept s.nic.view word found) refl refl refl refl (λ b f. refl);
-  linear = λ s sound a app at note split bytes. let v = sent_linear s.nic.view a note bytes in
-      logged-same s (by_card s v) refl (λ b f. same-sent_linear s sound.fit a app at note b f split bytes) (keeps-card s v refl (sends-none s.nic.view.sent _ split) refl);
-  look = λ s look. same-card s (nic_saw s.nic.view look) refl refl refl refl (λ b f. refl);
-  leave = λ s a. same-card s (saw_leave s.nic.view a) refl refl refl refl (λ b f. refl);
-  end = λ s. same-card s (nic_ended s.nic.view) refl refl refl refl (λ b f. refl);
-}
+-- what neither ends nor begins a holding
+pub card-keeps : (step : CardStep) (s : AllSides) → CardCan step s → let v = card_view step s.nic.view in
+    card_ends step ≡ [] → card_begins step s.nic.view ≡ [] → v.setting ≡ s.nic.view.setting → v.used ≡ s.nic.view.used
+    → flat_map sent_as v.sent ≡ flat_map sent_as s.nic.view.sent → v.dealt ≡ s.nic.view.dealt → KeepsLog s (apply (card step) s)
+card-keeps step s can ends begins setting used sents deals =
+    logged-same s (apply (card step) s) (ap (λ (x : Shared). setting_of x.layout) setting)
+    (step-same (card step) s can (λ b f. rw (ends, begins) refl))
+    (keeps-card s (card_view step s.nic.view) used sents deals)

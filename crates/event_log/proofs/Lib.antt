@@ -1,4 +1,3 @@
-pub mod Sums
 pub mod Parts
 pub mod Settings
 pub mod Weighing
@@ -7,13 +6,12 @@ pub mod FirstEvents
 pub mod Tallying
 pub mod Following
 pub mod Shifts
-pub mod CardShifts
-pub mod AppShifts
 pub mod AppTallies
 pub mod Needs
 pub mod CardLaws
 pub mod ShortFills
 pub mod AppLaws
+pub mod StepLaw
 pub mod Runs
 pub mod Scrubs
 pub mod SoundSides

@@ -1,15 +1,15 @@
 -- What an event needs of the holders and of its numbers.
-use Rattle.std.{proofs.Common.{◌≡◌, ◌∙◌, ℕ, ◌+◌, ◌≤◌, true, List, [], ◌∷◌, length, ltb, refl, ap, subst, arith, ⊎_elim}, specs.Prelude.{◌&&◌, count_by, slice_index}}
+use Rattle.std.{proofs.Common.{◌≡◌, ◌∙◌, ℕ, ◌+◌, ◌≤◌, true, List, [], ◌∷◌, length, ltb, Some, refl, ap, subst, arith, ⊎_elim}, specs.Prelude.{◌&&◌, count_by, slice_index}}
 use Rattle.std.proofs.lemmas.{Bool.{cases_lt, lt-ltb, le-leb, eq-eqb}, List.Elements.{All-get_or, All-set}}
 use Rattle.area_layout.specs.Layout.{size_of}
 use Rattle.run_records.specs.{declared.{event.Event.{Event}, holding.Holding.{Holding}}, Setting.{size_of_buffer}}
-use Rattle.run_records.specs.Holders.{becomes, changed, is_app, is_buffer, is_in_range, is_same, is_user, is_user_count, is_pool_count, is_within}
+use Rattle.run_records.specs.Holders.{becomes, buffer_of, changed, is_app, is_buffer, is_in_range, is_same, is_user, is_user_count, is_pool_count, is_within}
 use Rattle.run_records.proofs.Weighing.{one_if, some_becomes}
 use Rattle.run_records.specs.declared.holding.Holding.TheVariants as holding
 use Rattle.board_face.specs.{Laws.{AllSides, by_card, by_app}, Sides.{IsApp, app_at}, declared.views.{nic.NicView.{NicView}, app.AppView.{AppView}}}
 use Rattle.board_face.{specs.declared.views.app.AppSide.{AppSide}, proofs.{ListLemmas.{eqb_same}, Tallies.{weight as one}}}
-use Rattle.event_log.{specs.{IsLogged.{AreSound, NoneReturns, run_of}, Plain.{weight}}, proofs.Counting.{buffer-there, ends, held-some, held-within}}
-use Rattle.event_log.proofs.{Following.{Becomes, Shifts, was-there}, Settings.{size-same}}
+use Rattle.event_log.{specs.{IsLogged.{AreSound, Logs, NoneReturns, run_of}, Plain.{weight}}, proofs.Counting.{buffer-there, ends, held-some, held-within}}
+use Rattle.event_log.proofs.{Following.{Becomes, Counts, Shifts, follows-by, logs-by, was-there}, Tallying.{Tallies}, Settings.{size-same}}
 
 -- ---- nothing is under way after the event either
 
@@ -73,3 +73,12 @@ one-becomes e buffer x news old new sound shifts none range does h same =
       range (buffer-there old sound h same buffer some) (held-within old sound h same buffer x there),
       (became.0, does (h buffer) ∙ became.1, became.2),
     )
+
+-- the log behind such an event
+pub one-ends : (e : Event) (buffer : ℕ) (x : Holding) (news : List Holding) (old new : AllSides) → AreSound old → NoneReturns new
+    → run_of new ≡ run_of old → buffer_of e ≡ Some buffer → Shifts buffer (x ∷ []) news old new → weight (one_if (is_same x)) news ≡ 0
+    → (is_buffer (run_of old) buffer ≡ true → one (ends (size_of old.nic.view.setting.layout buffer) x) ≡ 0 → is_in_range (run_of old) e ≡ true)
+    → ((held : List Holding) → changed (run_of old) held e ≡ becomes x news held) → Counts e buffer new → Tallies e old new → Logs e old new
+one-ends e buffer x news old new sound idle same names shifts none range does counts tallies =
+    logs-by e old new same (follows-by e buffer (x ∷ []) news old new names idle shifts counts
+    (one-becomes e buffer x news old new sound shifts none range does)) tallies

@@ -6,8 +6,8 @@ use Rattle.run_records.specs.declared.holding.Holding.{Holding}
 use Rattle.run_records.specs.declared.holding.Holding.TheVariants as holding
 use Rattle.board_face.specs.Holders.{Kind, own, piece, sent, held, spare, loan, owed, returning, places_in, on_way, owed_in, returning_in}
 use Rattle.board_face.specs.{Holders.{making_places, nic_holders, app_holders, holders_of}, declared.views.{nic.NicSide.{NicSide}, app.AppSide.{AppSide}}}
-use Rattle.board_face.proofs.{Tallies.{total, total-append, total-agree}, Parts.{owed_count, owed-count}, Counting.{total-flat}}
-use Rattle.event_log.{specs.Plain.{plain, weight}, proofs.Sums.{total-map, total-filter}}
+use Rattle.board_face.proofs.{Tallies.{total, total-append, total-agree}, Parts.{owed_count, owed-count}, Counting.{total-flat}, Sums.{total-map, total-filter}}
+use Rattle.event_log.specs.Plain.{plain, weight}
 
 -- what a holder of this buffer weighs, among those of all buffers
 abbrev pub here : ℕ → ℕ → ℕ → ℕ

@@ -4,8 +4,8 @@ pub mod Plain
 pub mod Tallies
 pub mod IsLogged
 pub mod Fills
-pub mod CardLaws
-pub mod AppLaws
+pub mod StepEvents
+pub mod StepLaw
 pub mod ScrubLaw
 pub mod SoundLaw
 pub mod SideLaw

@@ -14,6 +14,11 @@ has_room kept = kept.whole && nat_lt (length kept.events) kept.room
 abbrev pub logged : Kept → Event → Kept
 logged kept e = if has_room kept then record kept { events = kept.events ++ e ∷ [] } else record kept { whole = false }
 
+-- the log behind these events more, in order
+abbrev pub all_logged : Kept → List Event → Kept
+all_logged kept [] = kept
+all_logged kept (e ∷ events) = all_logged (logged kept e) events
+
 -- the log of all these events
 abbrev pub log_of : ℕ → List Event → Kept
 log_of room events = record { events = take room events; whole = nat_le (length events) room; room = room }

@@ -7,8 +7,6 @@ mod laws;
 mod log;
 
 pub use laws::{
-    app_unlogged, back, card_unlogged, cut, ended, fills, first_events, got_spare, honoured, lent,
-    lent_own, one_side, opened, passed_over, placed, released, scrubbed, sent, setting, shut,
-    sound, told, took, took_note,
+    ended, fills, first_events, one_side, opened, scrubbed, setting, sound, steps, told,
 };
 pub use log::EventLog;

@@ -1,4 +1,4 @@
-ghost use Rattle.event_log.specs.{Logs.{FirstEventsLaw}, Settings.{SettingLaw}, SideLaw.{OneSideLaw}, SoundLaw.{SoundLaw}, RunLaws.{OpenedLaw, EndedLaw}, ToldLaw.{ToldLaw}};
+ghost use Rattle.event_log.specs.{Fills.{FillsLaw}, Logs.{FirstEventsLaw}, Settings.{SettingLaw}, SideLaw.{OneSideLaw}, SoundLaw.{SoundLaw}, RunLaws.{OpenedLaw, EndedLaw}, ToldLaw.{ToldLaw}};
 
 /// A log that takes the events of a board one after another has the first of them that it has room for, and is whole where
 /// these are all.
@@ -35,4 +35,9 @@ pub fn ended()
 /// application's loans and copies, and of the strays.
 pub fn told()
     ensures { ToldLaw }
+{}
+
+/// Spares are filled with 256 bytes at most from the opening on, where none is taken, filled or lent.
+pub fn fills()
+    ensures { FillsLaw }
 {}

@@ -1,0 +1,18 @@
+-- The log goes on to tell of a board behind every step, once it has the events of the step.
+use Rattle.std.specs.{List.{AllByRecursion}}
+use Rattle.run_records.specs.LegalRun.{HasSmallNumbers}
+use Rattle.board_face.specs.{BoardSteps.{Step, Can, apply}, Laws.{AllSides}}
+use Rattle.event_log.specs.{Fills.{AreShort}, IsLogged.{AreSound, IsLogged}, Logs.{Kept, all_logged}, StepEvents.{MayTell, events_of}}
+
+-- The log tells of the sides.
+pub record IsRecorded (sides : AllSides) (log : Kept) : Type 0 where
+  pub logged : IsLogged sides log
+  -- so that the loan of a filled spare is no longer than its event may say
+  pub short : AreShort sides.apps
+
+abbrev pub StepLaw : Type 0
+StepLaw =
+    (step : Step) (s : AllSides) → AreSound s → Can step s → MayTell step s
+    → let new = apply step s in
+    (log : Kept) → AllByRecursion HasSmallNumbers (events_of step s new) → IsRecorded s log
+    → IsRecorded new (all_logged log (events_of step s new))
