@@ -46,4 +46,5 @@ pub mod RingSlots
 pub mod NotNow
 pub mod Counting
 pub mod Logging
+pub mod Returned
 pub mod Polls

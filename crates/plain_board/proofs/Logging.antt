@@ -1,13 +1,14 @@
 -- What a call of a face changes of a board's sides, and that the log goes on to tell of them.
 use Rattle.std.proofs.Common.{◌≡◌, ℕ, ◌^◌, ◌<◌, Bool, true, false, List, [], length, map, set, refl, ap, sym, ◌∙◌, arith}
-use Rattle.std.{specs.Prelude.{MatchBool, MatchResult, Result, Ok, Err}, proofs.lemmas.List.{length-set}}
+use Rattle.std.{specs.{Prelude.{MatchBool, MatchResult, Result, Ok, Err}, List.{AllByRecursion}}, proofs.{lemmas.List.{length-set}, Common.{subst}}}
 use Rattle.run_records.specs.{declared.event.Event.{Event}, LegalRun.{HasSmallNumbers}, Setting.{total_buffers}}
 use Rattle.area_layout.specs.Layout.{total as all_buffers}
-use Rattle.board_face.specs.{Blank.{blank_app}, Laws.{AllSides, Scrubs, by_card, pool_of, scrubbed_by}, NicCalls.{DealtWith}, NicEvents.{nic_saw}, Opened.{new_nic}}
+use Rattle.board_face.specs.{Blank.{blank_app}, Laws.{AllSides, Scrubs, pool_of, scrubbed_by}, Counts.{EndedWereReturned}, NicCalls.{DealtWith}, NicEvents.{nic_saw}, Opened.{new_nic}}
 use Rattle.board_face.specs.declared.{answers.Entry.{Entry, TheVariants.{Freed, Honoured, Stray, Empty}}, views.nic.NicLook.TheVariants.{RingEmpty}}
-use Rattle.board_face.specs.{Sides.{IsApp, app_at, nic_at}, declared.views.{nic.{NicView.{NicView}, NicSide.{NicSide}}, app.{AppView.{AppView}, AppSide.{AppSide}}}}
-use Rattle.board_face.proofs.CountLaws.{scrub_law}
-use Rattle.event_log.specs.{Fills.{AreShort}, IsLogged.{AreSound, KeepsLog, Logs, run_of}, Logs.{Kept, logged}, ScrubLaw.{scrub_logged, scrub_of, scrubbed_sides}}
+use Rattle.board_face.specs.{Sides.{app_at, nic_at}, declared.views.{nic.{NicView.{NicView}, NicSide.{NicSide}}, app.{AppView.{AppView}, AppSide.{AppSide}}}}
+use Rattle.board_face.{proofs.CountLaws.{scrub_law}, specs.BoardSteps.{CardStep, AppStep, Step, AppCan, CardCan, Can, apply, app_view, card_view, card, app}}
+use Rattle.event_log.specs.{IsLogged.{AreSound, run_of}, Logs.{Kept, all_logged}, ScrubLaw.{scrub_logged, scrub_of, scrubbed_sides}}
+use Rattle.event_log.{specs.StepEvents.{MayTell, app_events, card_events, events_of}, proofs.StepLaw.{step-law}}
 use Rattle.event_log.proofs.{OneSide.{one_side-law}, Scrubs.{scrubbed-law}, Settings.{total-same}, ShortFills.{fills-law}, SoundSides.{sound-law}}
 use Rattle.plain_board.specs.{Events.{IsNoReturn, TookOwed}, Recorded.{IsRecorded}, Stand.{Stand, setting_of, sides_of, side_of, others_of}}
 use Rattle.plain_board.{specs.Sound.{IsSound, taken_of, notes_of, refills_of}, proofs.{AppFrames.{here-of}, Counting.{holders-few}}}
@@ -18,29 +19,31 @@ sides-sound board sound =
     sound-law (sides_of board)
     (rw sound.set.card sound.sizes.layout)
     (record {
-      same = λ i app there. sound.set.roles i app there ∙ sym sound.set.card;
+      same = λ i x there. sound.set.roles i x there ∙ sym sound.set.card;
       many = sound.set.many ∙ sym (ap (λ s. s.layout.reserves) sound.set.card);
     })
     sound.set.numbers
-    (λ a app here. record {
+    (λ a x here. record {
       notes = map taken_of (notes_of board.arrays a);
       entries = refills_of board.arrays a;
-      relayed = sound.relayed.relayed a app here;
+      relayed = sound.relayed.relayed a x here;
     })
     sound.counted.returned
-    (record { entry = ap (λ i. i.entry) sound.set.card_rest; owes = λ i app there. (sound.set.roles_rest i app there).owes })
+    (record { entry = ap (λ i. i.entry) sound.set.card_rest; owes = λ i x there. (sound.set.roles_rest i x there).owes })
     sound.shown.places sound.by_one sound.filled
 
--- where the sides are as an event makes them, and its law says that the log goes on
-record-on : (old new now : AllSides) (e : AllSides → Event) → Logs (e now) old now → (AreShort old.apps → AreShort now.apps) → new ≡ now
-    → (said : Event) → said ≡ e new → HasSmallNumbers said → (kept : Kept) → IsRecorded old kept → IsRecorded new (logged kept said)
-record-on old new now e logs short same said is small kept was =
-    let event_is : said ≡ e now = is ∙ ap e same in
-    rw same (record { logged = rw event_is (logs kept (rw event_is at small) was.logged); short = short was.short })
-
-record-kept : (old new now : AllSides) → KeepsLog old now → (AreShort old.apps → AreShort now.apps) → new ≡ now
-    → (kept : Kept) → IsRecorded old kept → IsRecorded new kept
-record-kept old new now keeps short same kept was = rw same (record { logged = keeps kept was.logged; short = short was.short })
+-- where a step was made, the log that has its events tells of the board
+module _ (step : Step) (old new : Stand) (sound : IsSound old) (can : Can step (sides_of old)) (may : MayTell step (sides_of old))
+    (made : sides_of new ≡ apply step (sides_of old)) where
+  step-told : (events : List Event) → events ≡ events_of step (sides_of old) (sides_of new) → AllByRecursion HasSmallNumbers events
+      → (log : Kept) → IsRecorded (sides_of old) log → IsRecorded (sides_of new) (all_logged log events)
+  step-told events are small log was =
+      let s = sides_of old in
+      let now = apply step s in
+      let same : events ≡ events_of step s now = are ∙ ap (events_of step s) made in
+      let next : IsRecorded now (all_logged log (events_of step s now)) =
+      step-law step s (sides-sound old sound) can may log (subst (AllByRecursion HasSmallNumbers) same small) was in
+      subst (λ x. IsRecorded x (all_logged log events)) (sym made) (subst (λ es. IsRecorded now (all_logged log es)) (sym same) next)
 
 -- ---- the card's calls
 
@@ -58,17 +61,14 @@ sides-are : (nic other : NicSide) (apps others : List AppSide) → nic ≡ other
     → ◌≡◌ {A = AllSides} (record { nic = nic; apps = apps }) (record { nic = other; apps = others })
 sides-are nic other apps others e d = rw (e, d) refl
 
-module _ (old new : Stand) (v : NicView) (nic : new.nic ≡ nic_at old.nic v) (apps : new.apps ≡ old.apps) where
-  card-sides : sides_of new ≡ by_card (sides_of old) v
-  card-sides = sides-are new.nic (nic_at old.nic v) new.apps old.apps nic apps
+module _ (step : CardStep) (old new : Stand) (sound : IsSound old) (can : CardCan step (sides_of old)) (may : MayTell (card step) (sides_of old))
+    (nic : new.nic ≡ nic_at old.nic (card_view step old.nic.view)) (apps : new.apps ≡ old.apps) where
+  pub card-made : sides_of new ≡ apply (card step) (sides_of old)
+  card-made = sides-are new.nic (nic_at old.nic (card_view step old.nic.view)) new.apps old.apps nic apps
 
-  pub card-logs : (e : AllSides → Event) → Logs (e (by_card (sides_of old) v)) (sides_of old) (by_card (sides_of old) v)
-      → (said : Event) → said ≡ e (sides_of new) → HasSmallNumbers said → (kept : Kept) → IsRecorded (sides_of old) kept
-      → IsRecorded (sides_of new) (logged kept said)
-  card-logs e logs = record-on (sides_of old) (sides_of new) (by_card (sides_of old) v) e logs (λ short. short) card-sides
-
-  pub card-keeps : KeepsLog (sides_of old) (by_card (sides_of old) v) → (kept : Kept) → IsRecorded (sides_of old) kept → IsRecorded (sides_of new) kept
-  card-keeps keeps = record-kept (sides_of old) (sides_of new) (by_card (sides_of old) v) keeps (λ short. short) card-sides
+  pub card-told : (events : List Event) → events ≡ card_events step (sides_of new) → AllByRecursion HasSmallNumbers events
+      → (log : Kept) → IsRecorded (sides_of old) log → IsRecorded (sides_of new) (all_logged log events)
+  card-told = step-told (card step) old new sound can may card-made
 
 pub by-answer : (b : Bool) {A B C : Type 0} → MatchBool b A B → (A → C) → (B → C) → C
 by-answer true it then_do else_do = then_do it
@@ -88,44 +88,31 @@ only-looked old new a Empty it none other = it.event
 
 -- ---- an application's calls
 
-pub record IsByApp (old new : Stand) (a : ℕ) (now : AppSide) : Type 0 where
-  pub before : IsSound old
-  pub within : a < old.arrays.layout.reserves
-  pub others : others_of new a ≡ others_of old a
-  pub side : side_of new a ≡ now
-
-pub side-is : (x now : AppSide) (v : AppView) → now.view ≡ v → now.inside ≡ x.inside → now ≡ app_at x v
+side-is : (x now : AppSide) (v : AppView) → now.view ≡ v → now.inside ≡ x.inside → now ≡ app_at x v
 side-is x now v view inside = rw (← view, ← inside) refl
 
--- it has another view, and is as before inside
-pub by-view : (old new : Stand) (a : ℕ) (v : AppView) → IsSound old → a < old.arrays.layout.reserves → others_of new a ≡ others_of old a
-    → (side_of new a).inside ≡ (side_of old a).inside → (side_of new a).view ≡ v → IsByApp old new a (app_at (side_of old a) v)
-by-view old new a v before within others inside view =
-    record { before = before; within = within; others = others; side = side-is (side_of old a) (side_of new a) v view inside }
+-- only its own side changes
+app-sides : (old new : Stand) (a : ℕ) (now : AppSide) → IsSound old → a < old.arrays.layout.reserves → others_of new a ≡ others_of old a → side_of new a ≡ now
+    → sides_of new ≡ record { nic = old.nic; apps = set old.apps a now }
+app-sides old new a now before within others side =
+    let here = here-of old a before within in
+    let there : a < length new.apps =
+    omega (arith, ap (λ o. length o.apps) others, length-set new.apps a blank_app, length-set old.apps a blank_app, here.there) in
+    one_side-law (sides_of old) (sides_of new) a now (ap (λ o. o.card) others) (ap (λ o. o.apps) others) there side
 
-module _ (old new : Stand) (a : ℕ) (now : AppSide) (by : IsByApp old new a now) where
-  here : IsApp old.apps a (side_of old a)
-  here = here-of old a by.before by.within
+module _ (step : AppStep) (old new : Stand) (a : ℕ) (sound : IsSound old) (within : a < old.arrays.layout.reserves)
+    (can : AppCan step old.nic (side_of old a)) (may : MayTell (app a step) (sides_of old)) (others : others_of new a ≡ others_of old a)
+    (inside : (side_of new a).inside ≡ (side_of old a).inside) (view : (side_of new a).view ≡ app_view step (side_of old a).view) where
+  pub app-told : (events : List Event) → events ≡ app_events a step (side_of old a).view (sides_of new) → AllByRecursion HasSmallNumbers events
+      → (log : Kept) → IsRecorded (sides_of old) log → IsRecorded (sides_of new) (all_logged log events)
+  app-told =
+      let x = side_of old a in
+      let v = app_view step x.view in
+      step-told (app a step) old new sound (here-of old a sound within, can) may
+      (app-sides old new a (app_at x v) sound within others (side-is x (side_of new a) v view inside))
 
-  there : a < length new.apps
-  there = omega (arith, ap (λ o. length o.apps) by.others, length-set new.apps a blank_app, length-set old.apps a blank_app, here.there)
-
-  app-sides : sides_of new ≡ record { nic = old.nic; apps = set old.apps a now }
-  app-sides = one_side-law (sides_of old) (sides_of new) a now (ap (λ o. o.card) by.others) (ap (λ o. o.apps) by.others) there by.side
-
-  pub app-logs : (e : AllSides → Event) → (let after : AllSides = record { nic = old.nic; apps = set old.apps a now } in Logs (e after) (sides_of old) after)
-      → (AreShort old.apps → AreShort (set old.apps a now))
-      → (said : Event) → said ≡ e (sides_of new) → HasSmallNumbers said → (kept : Kept) → IsRecorded (sides_of old) kept
-      → IsRecorded (sides_of new) (logged kept said)
-  app-logs e logs short = record-on (sides_of old) (sides_of new) (record { nic = old.nic; apps = set old.apps a now }) e logs short app-sides
-
-  pub app-keeps : KeepsLog (sides_of old) (record { nic = old.nic; apps = set old.apps a now }) → (AreShort old.apps → AreShort (set old.apps a now))
-      → (kept : Kept) → IsRecorded (sides_of old) kept → IsRecorded (sides_of new) kept
-  app-keeps keeps short = record-kept (sides_of old) (sides_of new) (record { nic = old.nic; apps = set old.apps a now }) keeps short app-sides
-
-  -- its spares are as before
-  pub same-spares : now.view.owns ≡ (side_of old a).view.owns → AreShort old.apps → AreShort (set old.apps a now)
-  same-spares owns = fills-law.same old.apps a (side_of old a) now here owns
+pub ended-returned : (old : Stand) (a : ℕ) → IsSound old → a < old.arrays.layout.reserves → (b : ℕ) → EndedWereReturned b old.nic (side_of old a)
+ended-returned old a sound within b = (sides-sound old sound).fit.ended a b (side_of old a) (here-of old a sound within)
 
 -- a scrub, which is logged before it takes what the application owes
 module _ (old new : Stand) (a : ℕ) (before : IsSound old) (within : a < old.arrays.layout.reserves) (others : others_of new a ≡ others_of old a)
@@ -142,10 +129,18 @@ module _ (old new : Stand) (a : ℕ) (before : IsSound old) (within : a < old.ar
   small-scrub : (b : ℕ) → b < total_buffers (run_of (sides_of old)) → HasSmallNumbers (scrub_of after a b)
   small-scrub b lies =
       let good = before.sizes.layout in
-      let app : a < 2 ^ 32 = omega (arith, within, good.reserves.1) in
+      let number : a < 2 ^ 32 = omega (arith, within, good.reserves.1) in
       let buffer : b < 2 ^ 32 = omega (arith, lies, all-there, good.buffers, good.reserves.1) in
       let pool : pool_of after b < 2 ^ 32 = omega (arith, is-scrub.pool b, holders-few old before b) in
-      (app, (buffer, (pool, (omega (arith, is-scrub.own b), tt))))
+      (number, (buffer, (pool, (omega (arith, is-scrub.own b), tt))))
+
+  scrubbed-made : sides_of new ≡ after
+  scrubbed-made = app-sides old new a (scrubbed_by (side_of old a) took.total) before within others took.side
+
+  pub scrub-told : (kept said : Kept)
+      → ((later : AllSides) → Scrubs a (sides_of old) later → said ≡ scrub_logged (sides_of old) later a kept (all_buffers old.arrays.layout))
+      → said ≡ scrub_logged (sides_of old) (sides_of new) a kept (all_buffers old.arrays.layout)
+  scrub-told kept said tells = tells (sides_of new) (subst (Scrubs a (sides_of old)) (sym scrubbed-made) is-scrub)
 
   pub scrub-logs : (kept said : Kept)
       → ((then : AllSides) → Scrubs a (sides_of old) then → said ≡ scrub_logged (sides_of old) then a kept (all_buffers old.arrays.layout))
@@ -154,7 +149,6 @@ module _ (old new : Stand) (a : ℕ) (before : IsSound old) (within : a < old.ar
       let x = side_of old a in
       let here = here-of old a before within in
       let now = scrubbed_by x took.total in
-      let by : IsByApp old new a now = record { before = before; within = within; others = others; side = took.side } in
       let logged = scrubbed-law (sides_of old) (sides-sound old before) a x here loans took.total took.all kept small-scrub was.logged in
-      rw (app-sides old new a now by, tells after is-scrub)
-      (record { logged = rw all-there at logged; short = same-spares old new a now by refl was.short })
+      rw (scrubbed-made, tells after is-scrub)
+      (record { logged = rw all-there at logged; short = fills-law.same old.apps a x now here refl was.short })

@@ -1,7 +1,7 @@
 -- The board for one thread as its callers see it: what it is made of, and the log of its events.
 use Rattle.std.specs.Prelude.{ℕ, List, slice_set}
 use Rattle.area_layout.specs.Layout.{Shape}
-use Rattle.board_face.specs.{Blank.{blank_app}, Laws.{AllSides}, Sides.{side_in}, declared.views.{nic.NicSide.{NicSide}, app.AppSide.{AppSide}}}
+use Rattle.board_face.specs.{Blank.{blank_app}, Laws.{AllSides}, Sides.{side_in}, declared.views.{nic.NicSide.{NicSide}, app.{AppSide.{AppSide}, AppView.{AppView}}}}
 use Rattle.event_log.specs.{Logs.{Kept}, RunLaws.{opened_log}}
 use Rattle.plain_board.specs.{declared.{logged.Logged.{Logged}, others.{Applications.{Applications}, Others.{Others}}}, Stand.{Arrays, Stand, new_stand}}
 
@@ -36,6 +36,10 @@ pub record Part : Type 0 where
 abbrev pub side_of : Board → ℕ → AppSide
 side_of board a = side_in board.apps a
 
+-- what the application that has the part has done and knows
+abbrev pub view_of : Part → AppView
+view_of part = (side_of part.board part.app).view
+
 -- what no call of the card changes: the sides of the applications, and for how many events the log has room
 abbrev pub applications_of : Board → Applications
 applications_of board = record { apps = board.apps; room = board.log.room }
@@ -43,6 +47,9 @@ applications_of board = record { apps = board.apps; room = board.log.room }
 -- what no call of an application changes: the card's side, those of the other applications, its own number, and the log's room
 abbrev pub others_of : Board → ℕ → Others
 others_of board a = record { card = board.nic; apps = slice_set board.apps a blank_app; number = a; room = board.log.room }
+
+abbrev pub beside_of : Part → Others
+beside_of part = others_of part.board part.app
 
 -- a board that was just opened, whose log has room for so many events
 abbrev pub new_board : Shape → ℕ → ℕ → Board

@@ -12,6 +12,13 @@ IsNoReturn Honoured = ⊥
 IsNoReturn Stray = ⊤
 IsNoReturn Empty = ⊤
 
+-- one was
+abbrev pub IsReturn : Entry → Type 0
+IsReturn Freed = ⊤
+IsReturn Honoured = ⊤
+IsReturn Stray = ⊥
+IsReturn Empty = ⊥
+
 -- The application owed a reference in the buffer, and an entry gave it back.
 pub record GaveBack (old new : Stand) (a buffer : ℕ) : Type 0 where
   pub entry : Rqe

@@ -8,3 +8,4 @@ pub mod Users
 pub mod Events
 pub mod Recorded
 pub mod Board
+pub mod Told

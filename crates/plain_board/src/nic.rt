@@ -1,7 +1,7 @@
-ghost use Rattle.std.specs.Prelude.{◌≡◌, ◌≢◌, ℕ, ◌/◌, ◌<◌, ◌≤◌, false, length};
-ghost use Rattle.board_face.specs.{NicCalls.{apps_of, free_words_of, lost_of, sent_unsplit_bytes, SweptWord, DealtWith}, NicEvents.{word_bits}};
+ghost use Rattle.std.specs.Prelude.{◌≡◌, ◌≢◌, ℕ, ◌+◌, ◌/◌, ◌<◌, ◌≤◌, [], false, length, IfErr, MatchBool, MatchOption, MatchResult};
+ghost use Rattle.board_face.specs.{declared.views.nic.NicLook.TheVariants.{NoteInUse, NotLeft}, NotNow.{HasSentRingful}, Tokens.{filled_by, next_place}, Texts.{IsSplitNote, IsLinearNote}, BoardSteps.{takes, places, sends}, NicCalls.{apps_of, free_words_of, lost_of, sent_unsplit_bytes, IsOpen, HasOwn, HasPiece, HasNoToken, NicOnlySaw, TookBuffer, SweptWord, DealtWith, Closed}, NicEvents.{word_bits, placed, sent, sent_linear, saw_leave, nic_ended}};
 ghost use Rattle.board_parts.specs.Free.{listed_in};
-ghost use Rattle.plain_board.specs.{Board.{stand_of, sides_of, applications_of}, Recorded.{IsRecorded}, Stand.{SameBuffers}, Sound.{IsSound}, Seen.{IsSeenByCard, IsJudged, CardSawSo}};
+ghost use Rattle.plain_board.specs.{Board.{stand_of, sides_of, applications_of}, Recorded.{IsRecorded}, Stand.{SameBuffers}, Sound.{IsSound}, Seen.{IsSeenByCard, IsJudged, CardSawSo}, Told.{CardTells, ShutTells, EntryTells}};
 
 use crate::logged::Logged;
 use crate::{Applications, PlainBoard};
@@ -43,6 +43,7 @@ impl PlainNic {
     }
 }
 
+// Beyond the face each call says by its clause `log` which events the log gained.
 impl NicFace for PlainNic {
     ghost use Rattle.plain_board.specs.{Board.{applications_of}, Seen.{IsSeenByCard}};
 
@@ -75,7 +76,14 @@ impl NicFace for PlainNic {
         self.board.contents.cache.len() as u32
     }
 
-    fn take(&mut self) -> Option<Own> {
+    fn take(&mut self) -> Option<Own>
+        requires open { IsOpen self.old.nic.view }
+        ensures view { MatchOption result
+            ((self.old.nic.view.cache ≡ []) × (self.new.nic.view ≡ self.old.nic.view))
+            (λ own. TookBuffer self.old.nic.view self.new.nic.view own) }
+        ensures beside { applications_of self.new ≡ applications_of self.old }
+        ensures log { MatchOption result (self.new.log ≡ self.old.log) (λ own. CardTells (takes own.buffer) self.old self.new) }
+    {
         self.board.contents.sound();
         let own = self.board.contents.take()?;
         self.board.contents.sound();
@@ -94,6 +102,7 @@ impl NicFace for PlainNic {
         ensures told { CardSawSo (stand_of self.old) (stand_of self.new) }
         ensures beside { applications_of self.new ≡ applications_of self.old }
         ensures emptied { (b : ℕ) → b / word_bits ≡ word → listed_in self.new.arrays.listed b ≡ false }
+        ensures log { self.new.log ≡ self.old.log }
     {
         self.board.contents.sound();
         let count = self.board.contents.sweep(word);
@@ -110,6 +119,7 @@ impl NicFace for PlainNic {
         ensures beside { applications_of self.new ≡ applications_of self.old }
         ensures stray { result ≡ Entry.Stray → SameBuffers self.old.arrays self.new.arrays }
         ensures judged { result ≢ Entry.Empty → IsJudged (stand_of self.old) (stand_of self.new) app }
+        ensures log { EntryTells app result self.old self.new }
     {
         self.board.contents.sound();
         let (entry, returned) = self.board.contents.entry(app);
@@ -129,7 +139,17 @@ impl NicFace for PlainNic {
         entry
     }
 
-    fn place(&mut self, own: &mut Own, bytes: &[u8]) -> Piece {
+    fn place(&mut self, own: &mut Own, bytes: &[u8]) -> Piece
+        requires open { IsOpen self.old.nic.view }
+        requires out { HasOwn self.old.nic.view own.old }
+        requires some { 0 < length bytes.now }
+        requires fits { own.old.start + length bytes.now ≤ own.old.size }
+        ensures piece { result ≡ next_place own.old (length bytes.now) }
+        ensures own { own.new ≡ filled_by own.old (length bytes.now) }
+        ensures view { self.new.nic.view ≡ placed self.old.nic.view own.old bytes.now }
+        ensures beside { applications_of self.new ≡ applications_of self.old }
+        ensures log { CardTells (places own.old bytes.now) self.old self.new }
+    {
         self.board.contents.sound();
         let piece = self.board.contents.place(own, bytes);
         self.board.contents.sound();
@@ -144,7 +164,20 @@ impl NicFace for PlainNic {
         piece
     }
 
-    fn send(&mut self, app: u32, note: Note, piece: Piece) -> Result<(), Piece> {
+    fn send(&mut self, app: u32, note: Note, piece: Piece) -> Result<(), Piece>
+        requires open { IsOpen self.old.nic.view }
+        requires app { app < apps_of self.old.nic.view.setting }
+        requires out { HasPiece self.old.nic.view piece }
+        requires fields { IsSplitNote note }
+        requires place { note.place ≡ piece }
+        ensures view { MatchResult result
+            (λ _. self.new.nic.view ≡ sent self.old.nic.view app note)
+            (λ back. (back ≡ piece) × NicOnlySaw (NoteInUse app) self.old.nic.view self.new.nic.view) }
+        ensures full { IfErr result (λ _. HasSentRingful self.old.nic.view app) }
+        ensures told { CardSawSo (stand_of self.old) (stand_of self.new) }
+        ensures beside { applications_of self.new ≡ applications_of self.old }
+        ensures log { MatchResult result (λ _. CardTells (sends app note) self.old self.new) (λ _. self.new.log ≡ self.old.log) }
+    {
         self.board.contents.sound();
         self.board.contents.send(app, note, piece)?;
         self.board.log.push(Event::Sent {
@@ -156,12 +189,31 @@ impl NicFace for PlainNic {
         Ok(())
     }
 
-    fn send_linear(&mut self, app: u32, note: Note, bytes: &[u8]) -> bool {
+    fn send_linear(&mut self, app: u32, note: Note, bytes: &[u8]) -> bool
+        requires open { IsOpen self.old.nic.view }
+        requires app { app < apps_of self.old.nic.view.setting }
+        requires fields { IsLinearNote note }
+        requires bytes { note.total ≡ length bytes.now }
+        ensures view { MatchBool result
+            (self.new.nic.view ≡ sent_linear self.old.nic.view app note bytes.now)
+            (NicOnlySaw (NoteInUse app) self.old.nic.view self.new.nic.view) }
+        ensures full { result ≡ false → HasSentRingful self.old.nic.view app }
+        ensures told { CardSawSo (stand_of self.old) (stand_of self.new) }
+        ensures beside { applications_of self.new ≡ applications_of self.old }
+        ensures log { self.new.log ≡ self.old.log }
+    {
         self.board.contents.sound();
         self.board.contents.send_linear(app, note, bytes)
     }
 
-    fn shut(&mut self, own: Own) {
+    fn shut(&mut self, own: Own)
+        requires open { IsOpen self.old.nic.view }
+        requires out { HasOwn self.old.nic.view own }
+        ensures view { Closed self.old.nic.view self.new.nic.view own }
+        ensures told { CardSawSo (stand_of self.old) (stand_of self.new) }
+        ensures beside { applications_of self.new ≡ applications_of self.old }
+        ensures log { ShutTells own self.old self.new }
+    {
         let buffer = own.buffer();
         self.board.contents.sound();
         self.board.contents.shut(own);
@@ -169,11 +221,26 @@ impl NicFace for PlainNic {
         self.board.log.push(Event::Shut { buffer, pool });
     }
 
-    fn end(&mut self) {
+    fn end(&mut self)
+        requires { HasNoToken self.old.nic.view }
+        ensures view { self.new.nic.view ≡ nic_ended self.old.nic.view }
+        ensures beside { applications_of self.new ≡ applications_of self.old }
+        ensures log { self.new.log ≡ self.old.log }
+    {
+        self.board.contents.sound();
         self.board.contents.end();
     }
 
-    fn left(&mut self, app: u32) -> bool {
+    fn left(&mut self, app: u32) -> bool
+        requires app { app < apps_of self.old.nic.view.setting }
+        ensures view { MatchBool result
+            (self.new.nic.view ≡ saw_leave self.old.nic.view app)
+            (NicOnlySaw (NotLeft app) self.old.nic.view self.new.nic.view) }
+        ensures told { CardSawSo (stand_of self.old) (stand_of self.new) }
+        ensures beside { applications_of self.new ≡ applications_of self.old }
+        ensures log { self.new.log ≡ self.old.log }
+    {
+        self.board.contents.sound();
         self.board.contents.left(app)
     }
 }

@@ -1,6 +1,6 @@
 -- A split note that was taken is logged as held, and all else isn't.
 use Rattle.std.proofs.Common.{refl}
-use Rattle.plain_board.proofs.Polls.{polled-note, polled-other}
+use Rattle.plain_board.proofs.Polls.{other-tells, polled-note, polled-other}
 use Rattle.plain_board.proofs.app.PlainAppAppFace.poll.Goals as goal
 
 pub invariant_of-self : goal.invariant_of-self
@@ -13,7 +13,7 @@ invariant_of-self c =
     let said = rw c.deref_mut.ensures.value at c.poll-polled.ensures in
     rw (c.push.ensures.log, c.deref_mut-in-Note.ensures.value, c.deref_mut.ensures.value) (
       rw said.layout c.self.invariant.0,
-      polled-note old c.poll-polled.new.self a before after c.self.invariant.0 said.layout said.others said.inside c.in-Note.note c.in-Note.field-1 took _ refl
+      polled-note old c.poll-polled.new.self a before after c.self.invariant.0 said.layout said.others said.inside c.in-Note.note c.in-Note.field-1 took
           c.push.ensures.small _ c.self.invariant.1,
     )
 
@@ -29,3 +29,11 @@ invariant_of-self-in_default c =
       polled-other old c.poll-polled.new.self a before after c.self.invariant.0 said.layout said.others said.inside _ c.poll-polled.result said.view c.in_default.not-Note _
           c.self.invariant.1,
     )
+
+pub returns-in-Note-clause-log : goal.returns-in-Note-clause-log
+returns-in-Note-clause-log c =
+    rw (← c.self.view_is, c.in-Note.is, c.push.ensures.log, c.deref_mut-in-Note.ensures.value, c.deref_mut.ensures.value) refl
+
+pub returns-in_default-clause-log : goal.returns-in_default-clause-log
+returns-in_default-clause-log c =
+    rw (← c.self.view_is, c.deref_mut.ensures.value) (other-tells _ _ c.poll-polled.result c.in_default.not-Note refl)

@@ -1,8 +1,7 @@
 -- No event tells of it.
-use Rattle.std.proofs.Common.{refl}
-use Rattle.board_face.specs.{AppEvents.{app_saw, fell_quiet}, declared.views.app.{AppLook.TheVariants.{NotQuiet}, AppView.{AppView}}}
-use Rattle.event_log.proofs.AppLaws.{app-unlogged}
-use Rattle.plain_board.{specs.Stand.{side_of, sides_of}, proofs.{AppFrames.{here-of}, Logging.{by-view, same-spares, app-keeps, by-answer}}}
+use Rattle.std.proofs.Common.{refl, []}
+use Rattle.board_face.specs.{BoardSteps.{falls_quiet, sees}, declared.views.app.AppLook.TheVariants.{NotQuiet}}
+use Rattle.plain_board.proofs.Logging.{app-told, by-answer}
 use Rattle.plain_board.proofs.app.PlainAppAppFace.quiet.Goals as goal
 
 pub invariant_of-self : goal.invariant_of-self
@@ -10,14 +9,11 @@ invariant_of-self c =
     let old = c.self.inside.board.value.contents in
     let new = c.quiet.new.self in
     let a = c.self.inside.app in
-    let x = side_of old a in
     let before = rw c.deref.ensures at c.sound.ensures in
-    let here = here-of old a before c.self.invariant.0 in
     let said = rw c.deref_mut.ensures.value at c.quiet.ensures in
-    let by = λ (v : AppView). by-view old new a v before c.self.invariant.0 said.others said.inside in
     rw c.deref_mut.ensures.value (
       rw said.layout c.self.invariant.0,
       by-answer c.quiet.result said.view
-          (λ done. app-keeps old new a _ (by (fell_quiet x.view) done) (app-unlogged.quiet (sides_of old) a x here) (same-spares old new a _ (by _ done) refl) _ c.self.invariant.1)
-          (λ done. app-keeps old new a _ (by (app_saw x.view NotQuiet) done.event) (app-unlogged.look (sides_of old) a x here NotQuiet) (same-spares old new a _ (by _ done.event) refl) _ c.self.invariant.1),
+          (λ done. app-told falls_quiet old new a before c.self.invariant.0 tt tt said.others said.inside done [] refl tt _ c.self.invariant.1)
+          (λ done. app-told (sees NotQuiet) old new a before c.self.invariant.0 tt tt said.others said.inside done.event [] refl tt _ c.self.invariant.1),
     )

@@ -3,7 +3,7 @@ use Rattle.std.{proofs.Common.{◌≡◌, ℕ, ◌<◌, refl, ap, sym, ◌∙◌
 use Rattle.std.proofs.lemmas.Bool.{ltb-true, lt-ltb, cases_lt}
 use Rattle.board_face.{proofs.LookLemmas.{NicRose-nic_saw}, specs.declared.views.nic.NicLook.TheVariants.{RingEmpty}}
 use Rattle.area_layout.specs.Layout.{judged, pool_buffers}
-use Rattle.plain_board.proofs.{AppFrames.{here-of}, Card.{within-setting}, Freeing.{and-right}, Still.{IsSound-saw}, Popping.{rings-same}}
+use Rattle.plain_board.{proofs.{AppFrames.{here-of}, Card.{within-setting}, Freeing.{and-right}, Still.{IsSound-saw}, Popping.{rings-same}}, specs.Events.{IsReturn}}
 use Rattle.plain_board.proofs.Straying.{IsSound-passed_over, PassedOver-passed_over}
 use Rattle.plain_board.proofs.Honouring.{is_held, owes_one, IsSound-honoured, came-zero, came-pool, came-code, FreedEntry-honoured, HonouredEntry-honoured}
 use Rattle.plain_board.proofs.Seeing.{IsJudged-passed_over, IsJudged-honoured, NicTold-empty, NicTold-passed_over, NicTold-honoured}
@@ -149,5 +149,6 @@ returns-clause-returned c =
     let found = front-some _ c.in-Some.entry (sym c.take_front.ensures.front ∙ c.in-Some.is) in
     let owed = rw c.as_slice.ensures.value at c.in-Some-owed_buffer.ensures in
     let one = owes_one _ c.args.app c.in-Some-owed_buffer.buffer _ c.in-Some.entry _ sound here found owed.0 owed.1 owed.2 in
+    let answered = elim c.if-free.branch as (λ w. IsReturn c.if-free.answer) [ then-free w ↦ rw w.answer-is tt | else-free w ↦ rw w.answer-is tt ] in
     rw (← c.self.view_is, c.note-2.ensures)
-    (record { entry = c.in-Some.entry; last = c.lower-left.result == 0; owed = one; event = refl })
+    (answered, record { entry = c.in-Some.entry; last = c.lower-left.result == 0; owed = one; event = refl })

@@ -1,8 +1,7 @@
 -- No event tells of it.
-use Rattle.std.proofs.Common.{refl}
-use Rattle.board_face.specs.NicEvents.{swept}
-use Rattle.event_log.proofs.CardLaws.{card-unlogged}
-use Rattle.plain_board.{specs.Stand.{sides_of}, proofs.Logging.{nic-by, card-keeps}}
+use Rattle.std.proofs.Common.{refl, []}
+use Rattle.board_face.specs.{BoardSteps.{sweeps}, NicEvents.{swept}}
+use Rattle.plain_board.proofs.Logging.{nic-by, card-told}
 use Rattle.plain_board.proofs.nic.PlainNicNicFace.sweep.Goals as goal
 
 pub invariant_of-self : goal.invariant_of-self
@@ -14,4 +13,4 @@ invariant_of-self c =
     let said = rw c.deref_mut.ensures.value at c.sweep-count.ensures in
     let v = swept old.nic.view c.args.word said.view.found in
     rw c.deref_mut.ensures.value
-    (card-keeps old new v (nic-by old new v before after said.view.event refl) said.apps (card-unlogged.sweep (sides_of old) c.args.word said.view.found) _ c.self.invariant)
+    (card-told (sweeps c.args.word said.view.found) old new before tt tt (nic-by old new v before after said.view.event refl) said.apps [] refl tt _ c.self.invariant)
