@@ -9,7 +9,7 @@ use Rattle.board_face.specs.{Tokens.{next_place, filled_by, same_filling}, decla
 use Rattle.board_face.{specs.declared.views.{nic.NicSide.{NicSide}, app.{SpareOwn.{SpareOwn}, AppSide.{AppSide}}}, proofs.AreShownLemmas.{AreShown-text_done}}
 use Rattle.board_face.proofs.{ListLemmas.{All-without}, TextsByEvent.{AppIsShown-filled}}
 use Rattle.word_rings.{specs.Texts.{text_count, text_words}, proofs.TextWords.{length-words_of}}
-use Rattle.ref_words.specs.{Words.{Words}, Area.{area_word, byte_in}, AreaLaws.{IsMadeAt, IsMadeThere, next_word, IsLastWord}}
+use Rattle.ref_words.specs.{Words.{Words}, Area.{area_word, byte_in}, AreaSteps.{IsMadeAt, IsMadeThere, next_word, IsLastWord}}
 use Rattle.ref_words.specs.{AreaSteps.{made_words, side_piece_stored, side_piece_placed, side_spare_stored, side_spare_filled}, Rule.{RefRule}, Sides.{SidesRule}}
 use Rattle.ref_words.{specs.TextRule.{IsInMaking, IsOfSpare, HasTexts, AreTexts}, proofs.{AreaWords.{shown-words}, TextsByApp.{AreTexts-app, AppIsShown-inside}}}
 use Rattle.ref_words.proofs.TextsByCard.{AreTexts-moved}

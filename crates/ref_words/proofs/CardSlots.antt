@@ -9,7 +9,7 @@ use Rattle.board_face.{specs.declared.views.{parts.{Setting.{Setting}, Slot.{Slo
 use Rattle.word_rings.specs.Slots.{note_width, refill_width, entry_of, entry_body, pair, low_of, high_of}
 use Rattle.ref_words.specs.{Words.{Words, slot_word, with_note}, Sides.{IsInHand, IsFirst}}
 use Rattle.ref_words.specs.Rings.{IsRing, AreLeft, EntryFits, words_of_entry, words_of_note, takes_entry_at, writes_note_at}
-use Rattle.ref_words.{specs.{SlotLaws.{refill_words_at, note_words_at}, Rule.{RefRule}}, proofs.{InHand.{some-is, if-none}, RingSteps.{AllRings, rings-card}}}
+use Rattle.ref_words.{specs.{Rings.{refill_words_at, note_words_at}, Rule.{RefRule}}, proofs.{InHand.{some-is, if-none}, RingSteps.{AllRings, rings-card}}}
 use Rattle.ref_words.proofs.{RingMoves.{slot-here, slot-other, rings-parts}, SlotWords.{ring-here, ring-other, differ-note}, SlotSteps.{no-word, DifferInSlots}}
 use Rattle.ref_words.proofs.CardLooks.{RefRule-card}
 use Rattle.ref_words.proofs.Ringing as ringing

@@ -61,6 +61,8 @@ pub mod Found
 mod Sweeping
 mod Resting
 pub mod AppNumbers
+mod CardLaw
+mod AppLaw
 pub mod Running
 pub mod AreaWords
 pub mod LayingArea

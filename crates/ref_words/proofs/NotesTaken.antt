@@ -13,7 +13,7 @@ use Rattle.zr_kinds.specs.declared.place.{Note.{Note}, Place.{Place}}
 use Rattle.word_rings.specs.{Slots.{note_width, note_fields, note_of, linear_of, words_of, bytes_of, pair, flags_of}, Texts.{text_count}}
 use Rattle.word_rings.proofs.{NoteSlots.{note_back, note-front, bytes-front}, Words.{padded_words, text_back}}
 use Rattle.ref_words.specs.{Words.{Words, listed_in, with_note}, Rings.{AreRings, NoteFits, area_of_note, words_of_note, linear_bytes, takes_note_at}}
-use Rattle.ref_words.{specs.{SlotLaws.{loaded_note, loaded_bytes, note_loads}, Rule.{RefRule}}, proofs.RingSteps.{AllRings, rings-others}}
+use Rattle.ref_words.{specs.{Rings.{loaded_note, loaded_bytes, note_loads}, Rule.{RefRule}}, proofs.RingSteps.{AllRings, rings-others}}
 use Rattle.ref_words.proofs.{SlotWords.{ring-here, ring-other, differ-note}, SlotSteps.{DifferInSlots, RefRule-slot}, SideSteps.{own-was, SidesRule-app, mine, is-app}}
 use Rattle.ref_words.{proofs.{Frees.{AreKept-app, free_places-hands}, Dealing.{take-next}}, specs.Sides.{IsTakenInOrder}}
 use Rattle.ref_words.proofs.Ringing as ringing

@@ -10,7 +10,7 @@ use Rattle.board_face.specs.{Shown.{IsShown, origin_bytes, bytes_sent, AppIsShow
 use Rattle.board_face.specs.declared.views.{nic.{NicSide.{NicSide}, SentNote.{SentNote}}, app.Origin.{Origin, TheVariants.{Note as of_note, Copied as of_copy}}}
 use Rattle.board_face.{specs.declared.views.app.{Reading.{Reading}, AppSide.{AppSide}}, proofs.{LiesLemmas.{loan-lies}, TextsByEvent.{AppIsShown-same, IsShown-loan}}}
 use Rattle.word_rings.{specs.Texts.{word_bytes}, proofs.TextWords.{length-word_bytes}}
-use Rattle.ref_words.specs.{Words.{Words}, Area.{area_word, byte_in}, AreaLaws.{part_of}, AreaSteps.{longer, side_loaded}, Rule.{RefRule}, Sides.{SidesRule}}
+use Rattle.ref_words.specs.{Words.{Words}, Area.{area_word, byte_in}, AreaSteps.{part_of, longer, side_loaded}, Rule.{RefRule}, Sides.{SidesRule}}
 use Rattle.ref_words.{specs.TextRule.{HasTexts, AreTexts}, proofs.TextsByApp.{AreTexts-app}}
 
 -- ---- readings

@@ -1,8 +1,11 @@
 -- Steps at the words of the area: the next word of a text is stored, or a word is loaded for a read.
-use Rattle.std.specs.Prelude.{ℕ, zero, suc, Option, Some, None, List, [], ◌∷◌, ◌++◌}
+use Rattle.std.specs.Prelude.{◌≡◌, ℕ, zero, suc, ◌+◌, ◌*◌, Option, Some, None, IfSome, List, [], ◌∷◌, ◌++◌, length, take, drop}
 use Rattle.zr_kinds.specs.declared.place.Place.{Place}
-use Rattle.board_face.specs.{NicEvents.{text_done}, AppEvents.{filled, has_read}, Sides.{app_at}, declared.views.parts.{Filling.{Filling}, Making.{Making}}}
-use Rattle.board_face.specs.declared.views.{nic.NicSide.{NicSide}, app.{Reading.{Reading}, AppSide.{AppSide}}}
+use Rattle.area_layout.specs.Layout.{Shape}
+use Rattle.board_face.specs.{NicEvents.{placed, text_done}, AppEvents.{filled, has_read}, Sides.{app_at}, Steps.{side_begun}}
+use Rattle.board_face.specs.declared.views.{parts.{Filling.{Filling}, Making.{Making}}, nic.NicSide.{NicSide}, app.{Reading.{Reading}, AppSide.{AppSide}}}
+use Rattle.word_rings.specs.Texts.{text_words, word_bytes}
+use Rattle.ref_words.specs.Area.{area_word}
 
 -- ---- a text is stored
 
@@ -31,7 +34,27 @@ side_spare_stored app place n = record app { inside = record app.inside { making
 abbrev pub side_spare_filled : AppSide → Filling → List ℕ → AppSide
 side_spare_filled app own bytes = record { view = filled app.view own bytes; inside = record app.inside { making = None } }
 
+-- the text at this place is in the making
+abbrev pub IsMadeAt : Option Making → Place → Type 0
+IsMadeAt making place = making ≡ Some (record { place = place; words = made_words making })
+
+-- or nothing is
+abbrev pub IsMadeThere : Option Making → Place → Type 0
+IsMadeThere making place = IfSome making (λ made. made.place ≡ place)
+
+-- the word of the area into which the next word of a text goes
+abbrev pub next_word : Shape → Option Making → Place → ℕ
+next_word layout making place = area_word layout place.buffer (place.offset + 8 * length (made_words making))
+
+-- with n the words of a text are complete
+abbrev pub IsLastWord : Option Making → ℕ → List ℕ → Type 0
+IsLastWord making n bytes = made_words making ++ n ∷ [] ≡ text_words bytes
+
 -- ---- a text is read
+
+-- so many bytes of a word, from one on
+abbrev pub part_of : ℕ → ℕ → ℕ → List ℕ
+part_of word from n = take n (drop from (word_bytes word))
 
 -- the readings, of which the last one is longer by these bytes
 abbrev pub longer : List Reading → List ℕ → List Reading
@@ -44,3 +67,13 @@ longer (r ∷ s ∷ reads) more = r ∷ longer (s ∷ reads) more
 abbrev pub side_loaded : AppSide → Place → ℕ → ℕ → List ℕ → AppSide
 side_loaded app place from zero bytes = app_at app (has_read app.view place from bytes)
 side_loaded app place from (suc n) bytes = app_at app (record app.view { reads = longer app.view.reads bytes })
+
+-- ---- the steps of a call together are its event
+
+pub record AreaStepsLaw : Type 0 where
+  pub place : (nic : NicSide) (own : Filling) (bytes : List ℕ)
+      → (side_piece_placed (side_begun nic own (length bytes)) own bytes).view ≡ placed nic.view own bytes
+  pub fill : (app : AppSide) (own : Filling) (bytes : List ℕ) → (side_spare_filled app own bytes).view ≡ filled app.view own bytes
+  pub read : (app : AppSide) (place : Place) (from : ℕ) (so_far more : List ℕ)
+      → (side_loaded (app_at app (has_read app.view place from so_far)) place from (length so_far) more).view
+      ≡ has_read app.view place from (so_far ++ more)

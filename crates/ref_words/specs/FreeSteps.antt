@@ -1,7 +1,7 @@
 -- Steps at the free list, on a board of words: the card sweeps a word, a role lists a buffer that it has in hand, and an application looks
 -- at a word and picks a buffer whose bit it saw there.
-use Rattle.std.specs.{Prelude.{ℕ, zero, suc, ◌+◌, ◌*◌, Bool, if◌then◌else◌, List, [], ◌∷◌, ◌==◌, nat_eq}, Int.{bit_at}}
-use Rattle.board_face.specs.{Lists.{without}, NicEvents.{word_bits, swept}, Sides.{nic_at}, Steps.{side_picked}, declared.views.nic.NicSide.{NicSide}}
+use Rattle.std.specs.{Prelude.{◌≤◌, length, ℕ, zero, suc, ◌+◌, ◌*◌, Bool, if◌then◌else◌, List, [], ◌∷◌, ◌==◌, nat_eq}, Int.{bit_at}}
+use Rattle.board_face.specs.{Lists.{without}, NicEvents.{word_bits, swept, cache_room}, NicCalls.{SweptWord, lost_of, sent_unsplit_bytes}, Sides.{nic_at}, Steps.{side_picked}, declared.views.nic.NicSide.{NicSide}}
 use Rattle.board_face.specs.declared.views.app.AppSide.{AppSide}
 
 -- the buffers of a word of the free list whose bits are set among the k lowest of n, the highest first
@@ -18,6 +18,14 @@ found_in word n = found_below word n word_bits
 -- it swept a word, where it found n
 abbrev pub side_swept : NicSide → ℕ → ℕ → NicSide
 side_swept nic word n = nic_at nic (swept nic.view word (found_in word n))
+
+-- What the card knows once it swept a word, where it found n: the buffers found are of the pool and of this word, the highest first, and
+-- the cache has room for them. Buffers of swept words that are neither cached nor were taken were picked as spares, and each spare is for
+-- a byte of an unsplit note.
+pub record IsSwept (nic : NicSide) (j n : ℕ) : Type 0 where
+  pub event : SweptWord nic.view (side_swept nic j n).view j (length (found_in j n))
+  pub room : length (side_swept nic j n).view.cache ≤ cache_room
+  pub bound : lost_of (side_swept nic j n).view ≤ sent_unsplit_bytes nic.view
 
 -- it listed a buffer that it had in hand
 abbrev pub side_nic_listed : NicSide → ℕ → NicSide

@@ -8,13 +8,10 @@ pub mod TextRule
 pub mod PhaseRule
 pub mod Rule
 pub mod Laws
-pub mod SlotLaws
 pub mod PhaseSteps
-pub mod PhaseLaws
 pub mod FreeSteps
-pub mod FreeLaws
 pub mod RestSteps
 pub mod Runs
+pub mod RoleLaws
 pub mod Middle
-pub mod AreaLaws
 pub mod Over

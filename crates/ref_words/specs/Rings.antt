@@ -1,12 +1,12 @@
 -- Rings of slots. A slot is a list of words of which the first is the flag, 1 where the slot is full. The writer and the reader use
 -- the slots in turn; what either has seen of its next slot is so until it goes on.
 use Rattle.std.specs.Prelude.{◌≡◌, ℕ, ◌+◌, ◌%◌, ◌^◌, ◌<◌, ◌≤◌, true, false, if◌then◌else◌, List, [], ◌∷◌, ◌++◌, length, map, replicate}
-use Rattle.std.specs.Prelude.{take, drop, slice_index, slice_index_or, All, Option, Some, None}
+use Rattle.std.specs.Prelude.{min, take, drop, slice_index, slice_index_or, All, Option, Some, None}
 use Rattle.zr_kinds.specs.declared.place.Note.{Note}
 use Rattle.area_layout.specs.Layout.{area_of_buffer}
 use Rattle.board_face.specs.{SlotSteps.{next_slot}, Holders.{sent_to}, Relay.{dealt_entries}, Returns.{IsOfLoan}, declared.views.parts.{Setting.{Setting}, Slot.{Slot}}}
 use Rattle.board_face.specs.declared.views.{nic.{NicSide.{NicSide}, SentNote.{SentNote}}, app.{WrittenEntry.{WrittenEntry}, AppSide.{AppSide}}}
-use Rattle.word_rings.specs.Slots.{note_width, note_body, refill_width, entry_body}
+use Rattle.word_rings.specs.{Slots.{note_width, note_fields, note_body, note_of, linear_of, refill_width, entry_body}, Texts.{text_count}}
 use Rattle.ref_words.specs.Words.{Words}
 
 -- the slot of what was written as the k-th, counted from 0
@@ -155,3 +155,25 @@ pub record NoteFits (s : SentNote) : Type 0 where
   pub offset : s.note.place.offset < 2 ^ 32
   pub len : s.note.place.len < 2 ^ 32
   pub bytes : s.note.split ≡ false → All (λ byte. byte < 256) s.bytes
+
+-- ---- the next slot of an end
+
+-- how many words of its next slot a card has loaded or stored, the flag among them
+abbrev pub refill_words_at : NicSide → ℕ → ℕ
+refill_words_at nic a = 1 + length (next_slot nic.inside.refill_slots a).words
+
+abbrev pub note_words_at : NicSide → ℕ → ℕ
+note_words_at nic a = 1 + length (next_slot nic.inside.note_slots a).words
+
+-- the note that the words tell of which an application has loaded from its next slot
+abbrev pub loaded_note : AppSide → Note
+loaded_note app = note_of (1 ∷ app.inside.note_slot.words)
+
+-- the bytes that they tell of
+abbrev pub loaded_bytes : AppSide → List ℕ
+loaded_bytes app = take (loaded_note app).total (linear_of (1 ∷ app.inside.note_slot.words))
+
+-- how many words it loads of a note's slot at least, the flag among them: those of the fields, and of an unsplit note those of its
+-- bytes
+abbrev pub note_loads : Note → ℕ
+note_loads note = if note.split then note_fields else min note_width (note_fields + text_count note.total)

@@ -22,9 +22,9 @@ use Rattle.ref_words.specs.{declared.view.View.{View}, Words.{Words, opened_word
 use Rattle.ref_words.specs.Words.{free_of, with_free, with_listed, with_unlisted, slot_word, with_refill, with_note}
 use Rattle.ref_words.specs.Seated.{Seated, times_in, due_view, card_view, app_view, dealt_out, both_sides, no_role, side_at}
 use Rattle.ref_words.specs.Rings.{EntryFits, NoteFits, note_so_far, writes_entry_at, takes_entry_at, writes_note_at, takes_note_at}
-use Rattle.ref_words.specs.{SlotLaws.{refill_words_at, note_words_at, loaded_note, loaded_bytes, note_loads}, Area.{area_word, byte_in, with_area}}
+use Rattle.ref_words.specs.{Rings.{refill_words_at, note_words_at, loaded_note, loaded_bytes, note_loads}, Area.{area_word, byte_in, with_area}}
 use Rattle.ref_words.specs.AreaSteps.{made_words, side_piece_stored, side_piece_placed, side_spare_stored, side_spare_filled, side_loaded}
-use Rattle.ref_words.specs.AreaLaws.{IsMadeAt, IsMadeThere, IsLastWord, next_word, part_of}
+use Rattle.ref_words.specs.AreaSteps.{IsMadeAt, IsMadeThere, IsLastWord, next_word, part_of}
 use Rattle.ref_words.specs.FreeSteps.{side_swept, side_nic_listed, side_app_listed, side_word_looked, side_bit_cleared}
 use Rattle.ref_words.specs.{RestSteps.{side_raw_looked, side_any_looked, side_last_looked}, PhaseRule.{with_phase}}
 use Rattle.ref_words.specs.PhaseSteps.{side_ended, side_leave_looked, side_left, side_end_looked, side_note_sought, side_reserve_looked, side_abandoned}

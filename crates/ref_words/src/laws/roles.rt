@@ -1,4 +1,4 @@
-ghost use Rattle.ref_words.specs.Laws.{OpenLaw, SplitLaw, JoinLaw, MoveLaw, TakeRoleLaw};
+ghost use Rattle.ref_words.specs.Laws.{OpenLaw, SplitLaw, JoinLaw, TakeRoleLaw};
 
 /// The words of a board that was just opened, and its one seat, meet the rule.
 pub fn opened()
@@ -6,21 +6,16 @@ pub fn opened()
 {}
 
 /// The desk deals a role out to a new seat.
-pub fn k1()
+pub fn role_is_dealt()
     ensures { SplitLaw }
 {}
 
 /// A seat goes back.
-pub fn k2()
+pub fn seats_join()
     ensures { JoinLaw }
 {}
 
-/// A seat whose side changes has its role's side, and still does.
-pub fn side_moves()
-    ensures { MoveLaw }
-{}
-
 /// The word of a role is swapped with 1 by the seat to which the role is due.
-pub fn k3()
+pub fn role_is_taken()
     ensures { TakeRoleLaw }
 {}

@@ -1,5 +1,0 @@
-use Rattle.ref_words.proofs.Roles.{splits}
-use Rattle.ref_words.proofs.laws.roles.k1.Goals as goal
-
-pub returns : goal.returns
-returns c = λ setting roles views nic apps r v seated at fresh. splits setting roles views nic apps seated r v at fresh
