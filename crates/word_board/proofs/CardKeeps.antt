@@ -9,7 +9,7 @@ use Rattle.board_face.specs.{NicEvents.{cached, cache_room, fresh, placed, shut,
 use Rattle.board_face.specs.declared.{answers.Entry.{Entry, TheVariants.{Freed, Honoured, Stray, Empty}}, views.nic.{Dealt.{Dealt}, NicSide.{NicSide}}}
 use Rattle.board_face.specs.declared.views.{nic.{NicView.{NicView}, SentNote.{SentNote}}, parts.{Filling.{Filling}, Setting.{Setting}, Slot.{Slot}}}
 use Rattle.board_face.proofs.{DealtLemmas.{dealt-more, dealt-same, length-mapped}, ListLemmas.{All-without}, NicLemmas.{sent_to-same, sent_to-other}}
-use Rattle.ref_words.specs.{FreeLaws.{IsSwept}, FreeSteps.{found_in, side_swept}}
+use Rattle.ref_words.specs.{FreeSteps.{IsSwept, found_in, side_swept}}
 use Rattle.word_board.specs.{Board.{IsSetting, TheNic}, Hands.{NicKeeps}}
 
 -- ---- the next slots

@@ -5,7 +5,7 @@ use Rattle.std.proofs.lemmas.List.{take_all, take_more_set, length-set, length-a
 use Rattle.zr_kinds.specs.declared.place.Note.{Note}
 use Rattle.board_face.specs.{SlotSteps.{seen_with, at_slot, side_took_note, side_took_linear}, declared.views.app.AppSide.{AppSide}}
 use Rattle.word_rings.{specs.{Slots.{note_of, linear_of, bytes_of}, Texts.{text_count}}, proofs.NoteSlots.{note-front, bytes-front}}
-use Rattle.ref_words.specs.SlotLaws.{loaded_note, loaded_bytes}
+use Rattle.ref_words.specs.Rings.{loaded_note, loaded_bytes}
 use Rattle.word_board.specs.Board.{side_full_taken}
 
 module _ (body : List ℕ) (k n : ℕ) (full : body ≡ 1 ∷ drop 1 body) where

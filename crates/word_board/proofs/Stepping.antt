@@ -9,7 +9,7 @@ use Rattle.ref_words.specs.{Words.{note_at, with_note, refill_at, slot_word, wit
 use Rattle.ref_words.{specs.Rule.{BoardRule}, proofs.Roles.{card-is, card-moves, app-is, app-moves}}
 use Rattle.ref_words.proofs.{Laying.{pool-word, pool-set, user-word, user-set, note-word, note-set, refill-word, refill-set}, LayingArea.{area-is, area-set}}
 use Rattle.word_rings.specs.Slots.{note_width, refill_width}
-use Rattle.word_board.specs.{Board.{IsBoard, TheNic, TheApp, card_of, app_of}, Steps.{MakesWords, MayCard, MayApp}}
+use Rattle.word_board.specs.{Board.{IsBoard, TheSeat, TheNic, TheApp}, Steps.{MakesWords, MayCard, MayApp, MayStep}}
 
 module _ (setting : Setting) (slots id i : ℕ) (f : ℕ → ℕ) (told : ℕ → Type 0) where
   -- A step of the card's seat is allowed where its law holds for all words and applications.
@@ -74,35 +74,55 @@ module _ (setting : Setting) (slots id i : ℕ) (f : ℕ → ℕ) (told : ℕ �
         (refl, subst told found both.1),
       ))
 
--- What the card may do is what the table asks, where the seat is of that table and has its side.
-pub card-asked : (card : TheNic) (key map : Setting) (table mine : TableId) (id i : ℕ) (f : ℕ → ℕ) (next : ℕ → NicSide) (told : ℕ → Type 0)
-    → mine ≡ table → map ≡ key → table_words key ≤ table.words → (me : Me (Unit {0}) View) → me ≡ (card_view (card_of me.0), [])
-    → record { board = record { table = table; setting = map }; side = card_of me.0 } ≡ card → i < table_words card.board.setting
-    → MayCard card i f next told
-    → (mine ≡ table) × (i < table.words) × Allows (IsBoard key) table.slots id me i f (λ n w. (w ≡ (card_view (next n), me.1)) × told n)
-card-asked card key map table mine id i f next told same keyed wide me sits is word may =
-    let set = sym keyed ∙ ap (λ (v : TheNic). v.board.setting) is in (
-      same,
-      (let within : table_words card.board.setting ≤ table.words = subst (λ (s : Setting). table_words s ≤ table.words) set wide in omega (arith, word, within)),
-      subst (λ s. Allows (IsBoard s) table.slots id me i f (λ n w. (w ≡ (card_view (next n), me.1)) × told n)) (sym set)
-          (card-step card.board.setting table.slots id i f told card.side next may me
-          (sits ∙ ap (λ (v : TheNic). (card_view v.side, [])) is)),
-    )
+-- So the card may step where its law holds, and an application.
+pub card-may : {card : TheNic} {i : ℕ} {f : ℕ → ℕ} {next : ℕ → NicSide} {told : ℕ → Type 0} → MayCard card i f next told
+    → MayStep card_view (λ _ _. Unit {0}) card i f next told
+card-may {card} {i} {f} {next} {told} may = record {
+  stays = λ n. tt;
+  allowed = λ slots id. card-step card.board.setting slots id i f told card.side next may;
+}
 
--- So is what an application may do.
-pub app-asked : (app : TheApp) (key map : Setting) (table mine : TableId) (id i : ℕ) (f : ℕ → ℕ) (next : ℕ → AppSide) (told : ℕ → Type 0)
-    → mine ≡ table → map ≡ key → table_words key ≤ table.words → (me : Me (Unit {0}) View) → me ≡ (app_view (app_of me.0), [])
-    → record { board = record { table = table; setting = map }; side = app_of me.0 } ≡ app → i < table_words app.board.setting
-    → MayApp app i f next told
-    → (mine ≡ table) × (i < table.words) × Allows (IsBoard key) table.slots id me i f (λ n w. (w ≡ (app_view (next n), me.1)) × told n)
-app-asked app key map table mine id i f next told same keyed wide me sits is word may =
-    let set = sym keyed ∙ ap (λ (v : TheApp). v.board.setting) is in (
-      same,
-      (let within : table_words app.board.setting ≤ table.words = subst (λ (s : Setting). table_words s ≤ table.words) set wide in omega (arith, word, within)),
-      subst (λ s. Allows (IsBoard s) table.slots id me i f (λ n w. (w ≡ (app_view (next n), me.1)) × told n)) (sym set)
-          (app-step app.board.setting table.slots id i f told app.side next may.number may.step me
-          (sits ∙ ap (λ (v : TheApp). (app_view v.side, [])) is)),
-    )
+pub app-may : {app : TheApp} {i : ℕ} {f : ℕ → ℕ} {next : ℕ → AppSide} {told : ℕ → Type 0} → MayApp app i f next told
+    → MayStep app_view (λ old new. new.view.app ≡ old.view.app) app i f next told
+app-may {app} {i} {f} {next} {told} may = record {
+  stays = may.number;
+  allowed = λ slots id. app-step app.board.setting slots id i f told app.side next may.number may.step;
+}
+
+-- What a seat may do is what the table asks, where the seat is of that table and has its side.
+module _ {Side : Type 0} {view_of : Side → View} {Stays : Side → Side → Type 0} {seat : TheSeat Side} {i : ℕ} {f : ℕ → ℕ} {next : ℕ → Side}
+    {told : ℕ → Type 0} (may : MayStep view_of Stays seat i f next told) where
+  pub asked : (key map : Setting) (table mine : TableId) (id : ℕ) (side : Side) → mine ≡ table → map ≡ key → table_words key ≤ table.words
+      → (me : Me (Unit {0}) View) → me ≡ (view_of side, []) → record { board = record { table = table; setting = map }; side = side } ≡ seat
+      → i < table_words seat.board.setting
+      → (mine ≡ table) × (i < table.words) × Allows (IsBoard key) table.slots id me i f (λ n w. (w ≡ (view_of (next n), me.1)) × told n)
+  asked key map table mine id side same keyed wide me sits is word =
+      let set = sym keyed ∙ ap (λ (v : TheSeat Side). v.board.setting) is in (
+        same,
+        (let within : table_words seat.board.setting ≤ table.words = subst (λ (s : Setting). table_words s ≤ table.words) set wide in
+            omega (arith, word, within)),
+        subst (λ s. Allows (IsBoard s) table.slots id me i f (λ n w. (w ≡ (view_of (next n), me.1)) × told n)) (sym set)
+            (may.allowed table.slots id me (sits ∙ ap (λ (v : TheSeat Side). (view_of v.side, [])) is)),
+      )
+
+  -- and behind it the seat has the side after it, and knows of that what it knew
+  pub stepped : (side_of : View → Side) → ((x : Side) → side_of (view_of x) ≡ x) → (Knows : Side → Type 0)
+      → ((old new : Side) → Stays old new → Knows old → Knows new) → (n : ℕ) (map : Setting) (table mine mine' : TableId) (me me' : Me (Unit {0}) View)
+      → mine ≡ table → me ≡ (view_of (side_of me.0), []) → Knows (side_of me.0)
+      → record { board = record { table = table; setting = map }; side = side_of me.0 } ≡ seat → mine' ≡ mine → me' ≡ (view_of (next n), me.1)
+      → ((mine' ≡ table) × (me' ≡ (view_of (side_of me'.0), [])) × Knows (side_of me'.0))
+      × (record { board = record { table = table; setting = map }; side = side_of me'.0 } ≡ record seat { side = next n })
+  stepped side_of back Knows still n map table mine mine' me me' same sits knows is there now =
+      let shown : side_of me'.0 ≡ next n = ap (λ (m : Me (Unit {0}) View). side_of m.0) now ∙ back (next n) in
+      let bare : me.1 ≡ [] = ap (λ (m : Me (Unit {0}) View). m.1) sits in (
+        (
+          there ∙ same,
+          now ∙ (ap (λ xs. (view_of (next n), xs)) bare ∙ ap (λ x. (view_of x, [])) (sym shown)),
+          subst Knows (sym shown) (still (side_of me.0) (next n) (subst (λ (v : TheSeat Side). Stays v.side (next n)) (sym is) (may.stays n)) knows),
+        ),
+        ap (λ x. record { board = record { table = table; setting = map }; side = x }) shown
+            ∙ ap (λ (v : TheSeat Side). (record v { side = next n })) is,
+      )
 
 -- ---- a pool count
 

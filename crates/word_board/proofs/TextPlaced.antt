@@ -3,7 +3,7 @@ use Rattle.std.proofs.Common.{◌≡◌, ℕ, zero, suc, refl, ◌+◌, ◌<◌,
 use Rattle.std.specs.Prelude.{Option, Some, None}
 use Rattle.board_face.specs.{AppEvents.{begin_place}, declared.views.{parts.Making.{Making}, app.AppSide.{AppSide}}, Steps.{side_begun}, Tokens.{next_place}}
 use Rattle.board_face.specs.declared.views.{parts.Filling.{Filling}, nic.NicSide.{NicSide}}
-use Rattle.ref_words.specs.{AreaLaws.{IsMadeThere}, AreaSteps.{made_words, one_word_more}}
+use Rattle.ref_words.specs.{AreaSteps.{IsMadeThere, made_words, one_word_more}}
 use Rattle.word_rings.specs.Texts.{text_words}
 
 -- the card has stored k words of a piece that it began

@@ -92,14 +92,16 @@ pub record TheDesk : Type 0 where
   pub given : List Bool
   pub view : View
 
--- the card's seat, and an application's: at which board, and what it has done
-pub record TheNic : Type 0 where
+-- a role's seat: at which board, and what the role has done
+pub record TheSeat (Side : Type 0) : Type 0 where
   pub board : TheBoard
-  pub side : NicSide
+  pub side : Side
 
-pub record TheApp : Type 0 where
-  pub board : TheBoard
-  pub side : AppSide
+abbrev pub TheNic : Type 0
+TheNic = TheSeat NicSide
+
+abbrev pub TheApp : Type 0
+TheApp = TheSeat AppSide
 
 -- a desk that gave nothing
 abbrev pub new_desk : TheBoard → TheDesk

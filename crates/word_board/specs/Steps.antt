@@ -1,8 +1,18 @@
 -- When a seat may make a step: whatever the words are and whatever the others did, the rule holds again behind it.
-use Rattle.std.specs.Prelude.{◌≡◌, ℕ, ◌<◌, ◌^◌, List, slice_index, slice_set}
+use Rattle.std.specs.Prelude.{◌≡◌, [], ℕ, ◌+◌, ◌-◌, ◌%◌, bit_and, bit_or, ◌<◌, ◌^◌, List, slice_index, slice_set}
 use Rattle.board_face.specs.{Sides.{IsApp}, declared.views.{parts.Setting.{Setting}, nic.NicSide.{NicSide}, app.AppSide.{AppSide}}}
-use Rattle.ref_words.specs.{Words.{Words, table_of}, Rule.{BoardRule}}
-use Rattle.word_board.specs.Board.{TheNic, TheApp}
+use Rattle.ref_words.specs.{declared.view.View.{View}, Words.{Words, table_of}, Rule.{BoardRule}}
+use Rattle.atomic_table.specs.Table.{Me, Allows}
+use Rattle.word_board.specs.{declared.steps.Op.{Op, TheVariants.{Load, Swap, Add, Sub, Or, And}}, Board.{IsBoard, TheSeat, TheNic, TheApp}}
+
+-- what a step makes of the number that it finds
+abbrev pub made_by : Op → ℕ → ℕ
+made_by Load n = n
+made_by (Swap k) n = k
+made_by (Add k) n = (n + k) % 2 ^ 64
+made_by (Sub k) n = (n + (2 ^ 64 - k)) % 2 ^ 64
+made_by (Or k) n = bit_or n k
+made_by (And k) n = bit_and n k
 
 -- What a step on the word i makes of the board, where it leaves m there: words that stand by the rule to the sides.
 pub record MakesWords (setting : Setting) (words : Words) (i m : ℕ) (nic : NicSide) (apps : List AppSide) : Type 0 where
@@ -26,3 +36,10 @@ pub record MayApp (app : TheApp) (i : ℕ) (f : ℕ → ℕ) (next : ℕ → App
   pub step : (words : Words) (nic : NicSide) (apps : List AppSide) → BoardRule app.board.setting words nic apps → IsApp apps app.side.view.app app.side
       → word_in words i < 2 ^ 64
       → MakesWords app.board.setting words i (f (word_in words i)) nic (slice_set apps app.side.view.app (next (word_in words i))) × told (word_in words i)
+
+-- And so the table allows the step to a seat of the role that has this side, and what the seat knows of its side stays so.
+pub record MayStep {Side : Type 0} (view_of : Side → View) (Stays : Side → Side → Type 0) (seat : TheSeat Side) (i : ℕ) (f : ℕ → ℕ) (next : ℕ → Side)
+    (told : ℕ → Type 0) : Type 0 where
+  pub stays : (n : ℕ) → Stays seat.side (next n)
+  pub allowed : (slots id : ℕ) (me : Me (Unit {0}) View) → me ≡ (view_of seat.side, [])
+      → Allows (IsBoard seat.board.setting) slots id me i f (λ n w. (w ≡ (view_of (next n), me.1)) × told n)

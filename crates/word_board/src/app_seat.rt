@@ -2,13 +2,13 @@
 ghost use Rattle.std.specs.Prelude.{◌≡◌};
 ghost use Rattle.word_board.specs.Hands.{AppKeeps};
 
-use crate::app_steps::AppStepper;
 use crate::board::WordBoard;
 use crate::hands::{AppHand, slot_after};
 use crate::kinds::{
     WORD_BITS, abandon_loan, cut_piece, fall_quiet, fill_text, give_entry, leave_app, lend_held,
     lend_spare, poll, push_raw, read_text, release_piece, scrub_counts, settle, take_spare,
 };
+use crate::stepper::AppStepper;
 use board_face::{AppFace, Held, Loan, Own, Polled};
 use board_parts::{filled_up, filling_of, lower, put, raise};
 use std::marker::Model;

@@ -3,14 +3,13 @@ ghost use Rattle.board_face.specs.{NicCalls.{apps_of}, Opened.{new_nic, new_app}
 ghost use Rattle.word_board.specs.Board.{new_desk, was_given, gave_role};
 
 use crate::app_seat::AppSeat;
-use crate::app_steps::AppStepper;
-use crate::card_steps::CardStepper;
 use crate::desk::Desk;
 use crate::hands::NicHand;
 use crate::kinds::{deal_role, take_app_role, take_card_role};
 use crate::nic_seat::NicSeat;
 use crate::opening::opened;
 use crate::rule::SharedWords;
+use crate::stepper::{AppRole, CardRole, Stepper};
 use area_layout::Layout;
 use atomic_table::Table;
 use board_face::Setting;
@@ -73,7 +72,7 @@ impl WordBoard {
         let mut seat = deal_role(&self.words, &mut desk.seat, 0);
         desk.nic_given = true;
         take_card_role(&self.words, &mut seat);
-        Some(NicSeat::new(CardStepper::new(&self.words, seat), NicHand::new()))
+        Some(NicSeat::new(Stepper::new(&self.words, seat, CardRole), NicHand::new()))
     }
 
     /// The seat of an application. `None` says that it was given before.
@@ -89,6 +88,9 @@ impl WordBoard {
         let hand = kept.take()?;
         let mut seat = deal_role(&self.words, &mut desk.seat, 1 + app as usize);
         take_app_role(&self.words, &mut seat, app);
-        Some(AppSeat::new(AppStepper::new(&self.words, seat, app), hand))
+        Some(AppSeat::new(
+            Stepper::new(&self.words, seat, AppRole { number: app }),
+            hand,
+        ))
     }
 }

@@ -4,12 +4,11 @@ ghost use Rattle.ref_words.specs.Seated.{no_role, card_view, app_view};
 ghost use Rattle.word_board.specs.{Board.{new_desk}, Desk.{AreOfBoard, AreServed, took_back}};
 
 use crate::app_seat::AppSeat;
-use crate::app_steps::AppStepper;
-use crate::card_steps::CardStepper;
 use crate::hands::{AppHand, MOST_APPS};
 use crate::kinds::{join_seats, look_served};
 use crate::nic_seat::NicSeat;
 use crate::rule::WordSeat;
+use crate::stepper::Stepper;
 use board_face::Setting;
 use board_parts::Cache;
 use std::alloc::{AllocError, Global};
@@ -93,7 +92,7 @@ impl<'a> NicSeat<'a> {
         ensures known { AreOfBoard desk.new.board.setting desk.new.view }
     {
         let NicSeat { card, hand } = self;
-        let CardStepper { words, seat } = card;
+        let Stepper { words, seat, .. } = card;
         join_seats(words, &mut desk.seat, seat);
         desk.cache = hand.cache;
         look_served(words, &mut desk.seat);
@@ -110,7 +109,7 @@ impl<'a> AppSeat<'a> {
         ensures known { AreOfBoard desk.new.board.setting desk.new.view }
     {
         let AppSeat { app, .. } = self;
-        let AppStepper { words, seat, .. } = app;
+        let Stepper { words, seat, .. } = app;
         join_seats(words, &mut desk.seat, seat);
         look_served(words, &mut desk.seat);
     }

@@ -3,9 +3,7 @@
 #![tactic(auto)]
 
 mod app_seat;
-mod app_steps;
 mod board;
-mod card_steps;
 mod desk;
 mod finish;
 mod found;
@@ -14,6 +12,7 @@ mod kinds;
 mod nic_seat;
 mod opening;
 mod rule;
+mod stepper;
 mod steps;
 
 pub use app_seat::AppSeat;

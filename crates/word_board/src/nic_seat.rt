@@ -3,13 +3,13 @@ ghost use Rattle.std.specs.Prelude.{◌≡◌};
 ghost use Rattle.word_board.specs.{Board.{IsSetting}, Hands.{NicKeeps, KnowsLeft}};
 
 use crate::board::WordBoard;
-use crate::card_steps::CardStepper;
 use crate::found::{cache_found, cache_if};
 use crate::hands::{NicHand, slot_after};
 use crate::kinds::{
     WORD_BITS, end_card, look_left, next_entry, payload_words, place_text, send_linear, send_note,
     shut_buffer, sweep_word, take_buffer,
 };
+use crate::stepper::CardStepper;
 use board_face::{Entry, NicFace, Own, Piece};
 use board_parts::{CACHE_ROOM, filled_up, filling_of};
 use std::marker::Model;

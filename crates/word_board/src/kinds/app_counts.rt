@@ -2,7 +2,8 @@ ghost use Rattle.std.specs.Prelude.{◌≡◌, ◌+◌, ◌^◌, ◌<◌, true, 
 ghost use Rattle.area_layout.specs.Layout.{total};
 ghost use Rattle.board_face.specs.{AppCalls.{IsHere, HasHeld, HasNoneIn}, AppEvents.{cut, reserve_of}, Sides.{app_at}, Texts.{unsplit_bytes}, Steps.{HasSearched, side_released, side_spare_begun, side_owes_lowered}};
 
-use crate::app_steps::AppStepper;
+use crate::stepper::AppStepper;
+use crate::steps::Op;
 use ref_words::laws;
 use std::marker::Brand;
 use zr_kinds::Place;
@@ -17,9 +18,9 @@ pub(crate) fn take_picked(app: &mut AppStepper, buffer: u32)
     ensures event { app.new ≡ record app.old { side = side_spare_begun app.old.side buffer } }
     ensures apart { HasNoneIn app.old.side.view buffer }
 {
-    laws::k4();
+    laws::app_keeps_the_rule();
     let word = app.map().pool(buffer);
-    app.add::<Brand, u32>(word, 1, buffer);
+    app.step::<Brand, u32>(word, Op::Add(1), buffer);
 }
 
 /// An application that has looked at each free word holds its reserve, which it saw free, as a spare: its pool count is raised
@@ -34,9 +35,9 @@ pub(crate) fn take_reserve(app: &mut AppStepper, reserve: u32)
     ensures event { app.new ≡ record app.old { side = side_spare_begun app.old.side reserve } }
     ensures apart { HasNoneIn app.old.side.view reserve }
 {
-    laws::k4();
+    laws::app_keeps_the_rule();
     let word = app.map().pool(reserve);
-    app.add::<Brand, u32>(word, 1, reserve);
+    app.step::<Brand, u32>(word, Op::Add(1), reserve);
 }
 
 /// An application cuts a held piece in two behind its first `at` bytes: the pool count is raised. No
@@ -49,9 +50,9 @@ pub(crate) fn cut_piece(app: &mut AppStepper, place: Place, at: u32)
     ensures event { app.new ≡ record app.old { side = app_at app.old.side (cut app.old.side.view place at) } }
     ensures ends { place.offset + place.len < 2 ^ 32 }
 {
-    laws::k5();
+    laws::app_keeps_the_rule();
     let word = app.map().pool(place.buffer);
-    app.add::<Brand, (Place, u32)>(word, 1, (place, at));
+    app.step::<Brand, (Place, u32)>(word, Op::Add(1), (place, at));
 }
 
 /// An application gives a held piece up. It answers whether no holder of the buffer is left.
@@ -60,9 +61,9 @@ pub(crate) fn release_held(app: &mut AppStepper, place: Place) -> bool
     requires out { HasHeld app.old.side.view place }
     ensures { app.new ≡ record app.old { side = side_released app.old.side place result } }
 {
-    laws::k6();
+    laws::app_keeps_the_rule();
     let word = app.map().pool(place.buffer);
-    app.sub::<Brand, Place>(word, 1, place) == 1
+    app.step::<Brand, Place>(word, Op::Sub(1), place) == 1
 }
 
 /// What a scrub took of a buffer's user count, `n` references, is taken from its pool count. It answers whether no holder is
@@ -73,7 +74,7 @@ pub(crate) fn lower_scrubbed(app: &mut AppStepper, buffer: u32, n: u64) -> bool
     requires some { 0 < n }
     ensures { app.new ≡ record app.old { side = side_owes_lowered app.old.side buffer result } }
 {
-    laws::k6();
+    laws::app_keeps_the_rule();
     let word = app.map().pool(buffer);
-    app.sub::<Brand, (u32, u64)>(word, n, (buffer, n)) == n
+    app.step::<Brand, (u32, u64)>(word, Op::Sub(n), (buffer, n)) == n
 }

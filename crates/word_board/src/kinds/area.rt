@@ -1,10 +1,10 @@
 ghost use Rattle.std.specs.Prelude.{◌≡◌, ◌+◌, ◌*◌, ◌<◌, ◌≤◌, length};
 ghost use Rattle.area_layout.specs.Layout.{LiesIn, first_word};
 ghost use Rattle.board_face.specs.{AppCalls.{HasSpare}, AppEvents.{begin_place}, NicCalls.{HasOwn}, Tokens.{filled_by, next_place}};
-ghost use Rattle.ref_words.specs.{AreaLaws.{IsMadeAt, IsMadeThere, IsLastWord}, AreaSteps.{made_words, side_piece_stored, side_piece_placed, side_spare_stored, side_spare_filled}};
+ghost use Rattle.ref_words.specs.{AreaSteps.{IsMadeAt, IsMadeThere, IsLastWord, made_words, side_piece_stored, side_piece_placed, side_spare_stored, side_spare_filled}};
 
-use crate::app_steps::AppStepper;
-use crate::card_steps::CardStepper;
+use crate::stepper::{AppStepper, CardStepper};
+use crate::steps::Op;
 use board_face::Filling;
 use ref_words::laws;
 use std::marker::Brand;
@@ -19,9 +19,9 @@ pub(crate) fn store_piece(card: &mut CardStepper, place: Place, first: u64, k: u
     requires more { 8 * (k + 1) < place.len }
     ensures { card.new ≡ record card.old { side = side_piece_stored card.old.side place n } }
 {
-    laws::k11();
+    laws::card_keeps_the_rule();
     let word = card.map().text(place.buffer, first, place.offset, 8 * k);
-    card.swap::<Brand, (Place, u64)>(word, n, (place, n));
+    card.step::<Brand, (Place, u64)>(word, Op::Swap(n), (place, n));
 }
 
 /// It stores the last word, and the piece is placed.
@@ -43,9 +43,9 @@ pub(crate) fn place_piece(
     requires last { IsLastWord card.old.side.inside.making n bytes.now }
     ensures { card.new ≡ record card.old { side = side_piece_placed card.old.side own bytes.now } }
 {
-    laws::k11();
+    laws::card_keeps_the_rule();
     let word = card.map().text(own.buffer, first, own.start, 8 * k);
-    card.swap::<Brand, (Filling, &[u8])>(word, n, (own, bytes));
+    card.step::<Brand, (Filling, &[u8])>(word, Op::Swap(n), (own, bytes));
 }
 
 /// An application stores the word `k` of a spare's text, the next one; the first begins the text. It isn't the last.
@@ -60,9 +60,9 @@ pub(crate) fn store_spare(app: &mut AppStepper, own: Filling, first: u64, len: u
     requires more { 8 * (k + 1) < len }
     ensures { app.new ≡ record app.old { side = side_spare_stored app.old.side (begin_place own.buffer len) n } }
 {
-    laws::k11();
+    laws::app_keeps_the_rule();
     let word = app.map().text(own.buffer, first, 0, 8 * k);
-    app.swap::<Brand, (Filling, u32, u64)>(word, n, (own, len, n));
+    app.step::<Brand, (Filling, u32, u64)>(word, Op::Swap(n), (own, len, n));
 }
 
 /// It stores the last word, and the spare is filled.
@@ -86,7 +86,7 @@ pub(crate) fn fill_spare(
     requires last { IsLastWord app.old.side.inside.making n bytes.now }
     ensures { app.new ≡ record app.old { side = side_spare_filled app.old.side own bytes.now } }
 {
-    laws::k11();
+    laws::app_keeps_the_rule();
     let word = app.map().text(own.buffer, first, 0, 8 * k);
-    app.swap::<Brand, (Filling, &[u8])>(word, n, (own, bytes));
+    app.step::<Brand, (Filling, &[u8])>(word, Op::Swap(n), (own, bytes));
 }

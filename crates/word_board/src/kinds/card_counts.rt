@@ -2,7 +2,8 @@ ghost use Rattle.std.specs.Prelude.{◌≡◌, ◌+◌, ◌<◌, ◌≤◌, [], 
 ghost use Rattle.area_layout.specs.Layout.{total};
 ghost use Rattle.board_face.specs.{NicCalls.{IsOpen, HasOwn, HasNothingIn}, NicEvents.{took}, Sides.{nic_at}, Steps.{side_begun, side_shut, side_both_lowered}, declared.views.nic.Judged.TheVariants.{UserLowered}};
 
-use crate::card_steps::CardStepper;
+use crate::stepper::CardStepper;
+use crate::steps::Op;
 use board_face::Filling;
 use ref_words::laws;
 use std::marker::Brand;
@@ -16,9 +17,9 @@ pub(crate) fn take_buffer(card: &mut CardStepper, buffer: u32)
     ensures event { card.new ≡ record card.old { side = nic_at card.old.side (took card.old.side.view buffer) } }
     ensures apart { HasNothingIn card.old.side.view buffer }
 {
-    laws::k4();
+    laws::card_keeps_the_rule();
     let word = card.map().pool(buffer);
-    card.add::<Brand, u32>(word, 1, buffer);
+    card.step::<Brand, u32>(word, Op::Add(1), buffer);
 }
 
 /// The card begins a piece of `n` bytes: the pool count of its buffer is raised.
@@ -30,9 +31,9 @@ pub(crate) fn begin_piece(card: &mut CardStepper, own: Filling, n: u32)
     requires idle { card.old.side.inside.making ≡ None }
     ensures { card.new ≡ record card.old { side = side_begun card.old.side own n } }
 {
-    laws::k5();
+    laws::card_keeps_the_rule();
     let word = card.map().pool(own.buffer);
-    card.add::<Brand, (Filling, u32)>(word, 1, (own, n));
+    card.step::<Brand, (Filling, u32)>(word, Op::Add(1), (own, n));
 }
 
 /// The card gives its own reference up. It answers whether no holder is left.
@@ -41,9 +42,9 @@ pub(crate) fn shut_own(card: &mut CardStepper, own: Filling) -> bool
     requires out { HasOwn card.old.side.view own }
     ensures { card.new ≡ record card.old { side = side_shut card.old.side own result } }
 {
-    laws::k6();
+    laws::card_keeps_the_rule();
     let word = card.map().pool(own.buffer);
-    card.sub::<Brand, Filling>(word, 1, own) == 1
+    card.step::<Brand, Filling>(word, Op::Sub(1), own) == 1
 }
 
 /// The pool count is lowered for the entry in hand, whose user count was lowered before. It answers whether no holder is
@@ -53,7 +54,7 @@ pub(crate) fn lower_returned(card: &mut CardStepper, app: u32, entry: Rqe, buffe
     requires in_hand { card.old.side.inside.entry ≡ Some (record { app = app; entry = entry; judged = UserLowered buffer }) }
     ensures { card.new ≡ record card.old { side = side_both_lowered card.old.side app entry buffer result } }
 {
-    laws::k6();
+    laws::card_keeps_the_rule();
     let word = card.map().pool(buffer);
-    card.sub::<Brand, (u32, Rqe, u32)>(word, 1, (app, entry, buffer)) == 1
+    card.step::<Brand, (u32, Rqe, u32)>(word, Op::Sub(1), (app, entry, buffer)) == 1
 }

@@ -2,10 +2,11 @@ ghost use Rattle.std.specs.Prelude.{◌≡◌, ◌+◌, ◌<◌, [], ◌∷◌, 
 ghost use Rattle.area_layout.specs.Layout.{judged};
 ghost use Rattle.board_face.specs.{NicCalls.{apps_of}, SlotSteps.{next_slot, side_entry_looked, side_entry_loaded, side_in_hand, side_dealt}, declared.views.nic.{Fate.TheVariants.{Honoured, Stray}, Judged.TheVariants.{Not, Stray as judged_stray, BothLowered}}, NicEvents.{nic_gist}};
 ghost use Rattle.word_rings.specs.Slots.{refill_width, entry_of};
-ghost use Rattle.ref_words.specs.{Rings.{takes_entry_at}, SlotLaws.{refill_words_at}};
+ghost use Rattle.ref_words.specs.{Rings.{takes_entry_at, refill_words_at}};
 ghost use Rattle.word_board.specs.{Board.{side_entry_taken}, Told.{SawRingEmpty}};
 
-use crate::card_steps::CardStepper;
+use crate::stepper::CardStepper;
+use crate::steps::Op;
 use ref_words::laws;
 use std::marker::Brand;
 use word_rings::refill_read;
@@ -21,9 +22,9 @@ pub(crate) fn look_entry(card: &mut CardStepper, app: u32, slot: u32) -> bool
     ensures slots { length card.old.side.inside.refill_slots ≡ apps_of card.old.board.setting }
     ensures told { result ≡ false → SawRingEmpty card.old.board.setting (nic_gist card.old.side.view) app }
 {
-    laws::k16_flag();
+    laws::card_keeps_the_rule();
     let word = card.map().refill(app, slot, 0);
-    card.load::<Brand, u32>(word, app) == 1
+    card.step::<Brand, u32>(word, Op::Load, app) == 1
 }
 
 /// It loads the next word of the slot, which it saw full.
@@ -36,9 +37,9 @@ pub(crate) fn load_entry(card: &mut CardStepper, app: u32, slot: u32, at: u32) -
     requires more { at < refill_width }
     ensures { card.new ≡ record card.old { side = side_entry_loaded card.old.side app result } }
 {
-    laws::k16();
+    laws::card_keeps_the_rule();
     let word = card.map().refill(app, slot, at);
-    card.load::<Brand, u32>(word, app)
+    card.step::<Brand, u32>(word, Op::Load, app)
 }
 
 /// It loads the last word of the slot, and has the entry in hand of which the words tell.
@@ -55,9 +56,9 @@ pub(crate) fn load_last(card: &mut CardStepper, app: u32, slot: u32, at: u32) ->
           (entry_of (1 ∷ (next_slot card.old.side.inside.refill_slots app).words ++ result ∷ []));
     } }
 {
-    laws::k16();
+    laws::card_keeps_the_rule();
     let word = card.map().refill(app, slot, at);
-    card.load::<Brand, u32>(word, app)
+    card.step::<Brand, u32>(word, Op::Load, app)
 }
 
 /// It frees the slot: the entry in hand was a return of the buffer, for which both counts were lowered.
@@ -70,9 +71,9 @@ pub(crate) fn free_honoured(card: &mut CardStepper, app: u32, slot: u32, entry: 
     requires bare { card.old.side.inside.hands ≡ [] }
     ensures { card.new ≡ record card.old { side = side_dealt card.old.side app entry (Honoured buffer) } }
 {
-    laws::k17();
+    laws::card_keeps_the_rule();
     let word = card.map().refill(app, slot, 0);
-    card.swap::<Brand, (u32, Rqe, u32)>(word, 0, (app, entry, buffer));
+    card.step::<Brand, (u32, Rqe, u32)>(word, Op::Swap(0), (app, entry, buffer));
 }
 
 /// It frees the slot: the entry in hand was judged a stray.
@@ -84,9 +85,9 @@ pub(crate) fn free_stray(card: &mut CardStepper, app: u32, slot: u32, entry: Rqe
     requires in_hand { card.old.side.inside.entry ≡ Some (record { app = app; entry = entry; judged = judged_stray }) }
     ensures { card.new ≡ record card.old { side = side_dealt card.old.side app entry Stray } }
 {
-    laws::k17();
+    laws::card_keeps_the_rule();
     let word = card.map().refill(app, slot, 0);
-    card.swap::<Brand, (u32, Rqe)>(word, 0, (app, entry));
+    card.step::<Brand, (u32, Rqe)>(word, Op::Swap(0), (app, entry));
 }
 
 /// It frees the slot: the entry in hand names no buffer.
@@ -99,9 +100,9 @@ pub(crate) fn free_void(card: &mut CardStepper, app: u32, slot: u32, entry: Rqe)
     requires void { judged card.old.board.setting.layout entry ≡ None }
     ensures { card.new ≡ record card.old { side = side_dealt card.old.side app entry Stray } }
 {
-    laws::k17();
+    laws::card_keeps_the_rule();
     let word = card.map().refill(app, slot, 0);
-    card.swap::<Brand, (u32, Rqe)>(word, 0, (app, entry));
+    card.step::<Brand, (u32, Rqe)>(word, Op::Swap(0), (app, entry));
 }
 
 /// The card takes the next entry of an application in hand: it looks at the flag of the slot, and where the slot is full it

@@ -3,9 +3,8 @@ ghost use Rattle.area_layout.specs.Layout.{total, pool_buffers};
 ghost use Rattle.board_face.specs.{AppCalls.{HasHeld}, AppEvents.{released}, NicCalls.{HasOwn, apps_of}, NicEvents.{cache_room, shut, gave_up}, Sides.{nic_at, app_at}, SlotSteps.{next_slot, side_dealt}, declared.views.nic.{Fate.TheVariants.{Honoured}, Judged.TheVariants.{Owed}}};
 ghost use Rattle.ref_words.specs.Rings.{takes_entry_at};
 
-use crate::app_steps::AppStepper;
-use crate::card_steps::CardStepper;
 use crate::kinds::{free_honoured, give_back, list_by_app, list_by_card, release_held, shut_own};
+use crate::stepper::{AppStepper, CardStepper};
 use board_face::Filling;
 use zr_kinds::{Place, Rqe};
 

@@ -4,9 +4,9 @@ ghost use Rattle.board_face.specs.{NicCalls.{DealtWith, apps_of}, SlotSteps.{nex
 ghost use Rattle.ref_words.specs.Rings.{takes_entry_at};
 ghost use Rattle.word_board.specs.Told.{SawRingEmpty};
 
-use crate::card_steps::CardStepper;
 use crate::found::cache_if;
 use crate::kinds::{Loaded, free_stray, free_void, honour_entry, look_user, take_entry};
+use crate::stepper::CardStepper;
 use area_layout::Layout;
 use board_face::Entry;
 use board_parts::{CACHE_ROOM, Cache};

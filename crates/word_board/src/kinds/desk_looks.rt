@@ -5,7 +5,7 @@ ghost use Rattle.word_board.specs.{Board.{card_of}, Desk.{AreOfBoard, AreOver, A
 
 use crate::kinds::WORD_BITS;
 use crate::rule::{SharedWords, WordSeat};
-use crate::steps::load_as;
+use crate::steps::{Op, step_as};
 use ref_words::laws;
 use std::marker::Brand;
 
@@ -23,7 +23,7 @@ pub(crate) fn look_served(words: &SharedWords, desk: &mut WordSeat)
     laws::what_is_over();
     let word = words.map.role(0);
     let table = &words.table;
-    load_as::<Brand, ()>(table, desk, word, ());
+    step_as::<Brand, ()>(table, desk, word, Op::Load, ());
 }
 
 /// Once all are back, no buffer has a holder, and no reserve is cached.
@@ -42,7 +42,7 @@ pub(crate) fn look_unheld(words: &SharedWords, desk: &mut WordSeat)
     laws::what_is_over();
     let word = words.map.role(0);
     let table = &words.table;
-    load_as::<Brand, ()>(table, desk, word, ());
+    step_as::<Brand, ()>(table, desk, word, Op::Load, ());
 }
 
 /// Whether a pool buffer is on the free list. Once all are back it is listed or cached, one of both.
@@ -59,6 +59,6 @@ pub(crate) fn look_listed(words: &SharedWords, desk: &mut WordSeat, buffer: u32)
     laws::what_is_over();
     let word = words.map.free(buffer / WORD_BITS);
     let table = &words.table;
-    let found = load_as::<Brand, u32>(table, desk, word, buffer);
+    let found = step_as::<Brand, u32>(table, desk, word, Op::Load, buffer);
     found >> (buffer % WORD_BITS) & 1 == 1
 }

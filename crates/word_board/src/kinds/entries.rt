@@ -4,7 +4,8 @@ ghost use Rattle.word_rings.specs.Slots.{refill_width, entry_body};
 ghost use Rattle.ref_words.specs.Rings.{EntryFits, writes_entry_at};
 ghost use Rattle.word_board.specs.Told.{SawRefillInUse};
 
-use crate::app_steps::AppStepper;
+use crate::stepper::AppStepper;
+use crate::steps::Op;
 use ref_words::laws;
 use std::marker::Brand;
 use word_rings::refill_words;
@@ -17,9 +18,9 @@ pub(crate) fn look_refill(app: &mut AppStepper, slot: u32) -> bool
     ensures event { app.new ≡ record app.old { side = side_refill_looked app.old.side result } }
     ensures told { result ≡ false → SawRefillInUse app.old.board.setting (app_gist app.old.side.view) }
 {
-    laws::k13();
+    laws::app_keeps_the_rule();
     let word = app.map().refill(app.number(), slot, 0);
-    app.load::<Brand, u32>(word, slot) == 0
+    app.step::<Brand, u32>(word, Op::Load, slot) == 0
 }
 
 /// It stores the next word of an entry into the slot, which it saw free.
@@ -31,9 +32,9 @@ pub(crate) fn store_refill(app: &mut AppStepper, slot: u32, at: u32, n: u64)
     requires more { at < refill_width }
     ensures { app.new ≡ record app.old { side = side_refill_stored app.old.side n } }
 {
-    laws::k14();
+    laws::app_keeps_the_rule();
     let word = app.map().refill(app.number(), slot, at);
-    app.swap::<Brand, u64>(word, n, n);
+    app.step::<Brand, u64>(word, Op::Swap(n), n);
 }
 
 /// It looks at the flag of its next slot, and where the slot is free it stores the words of an entry there. `false` says that
@@ -66,9 +67,9 @@ pub(crate) fn publish_loan(app: &mut AppStepper, slot: u32, place: Place)
     requires words { app.old.side.inside.refill_slot.words ≡ entry_body (entry_of app.old.side.view.setting.layout place) }
     ensures { app.new ≡ record app.old { side = side_gave app.old.side place } }
 {
-    laws::k15();
+    laws::app_keeps_the_rule();
     let word = app.map().refill(app.number(), slot, 0);
-    app.swap::<Brand, Place>(word, 1, place);
+    app.step::<Brand, Place>(word, Op::Swap(1), place);
 }
 
 /// It hands the slot over: an entry is on its way that comes from no loan, as its words tell.
@@ -83,9 +84,9 @@ pub(crate) fn publish_raw(app: &mut AppStepper, slot: u32, entry: Rqe)
     requires words { app.old.side.inside.refill_slot.words ≡ entry_body entry }
     ensures { app.new ≡ record app.old { side = side_pushed app.old.side entry } }
 {
-    laws::k15();
+    laws::app_keeps_the_rule();
     let word = app.map().refill(app.number(), slot, 0);
-    app.swap::<Brand, Rqe>(word, 1, entry);
+    app.step::<Brand, Rqe>(word, Op::Swap(1), entry);
 }
 
 /// An application gives the loan at the place back, by an entry whose words it stores into its next refill slot before it

@@ -2,10 +2,11 @@ ghost use Rattle.std.specs.Prelude.{◌≡◌, ◌+◌, ◌<◌, ◌≤◌, [], 
 ghost use Rattle.area_layout.specs.Layout.{area_of_buffer, pool_buffers};
 ghost use Rattle.board_face.specs.{NicCalls.{apps_of, IsOpen, HasPiece}, NicEvents.{text_at, nic_gist}, Texts.{IsSplitNote, IsLinearNote}, SlotSteps.{next_slot, seen_with, at_note, side_note_looked, side_note_stored, side_sent, side_sent_linear}};
 ghost use Rattle.word_rings.specs.{Slots.{note_width, note_body, IsBlankFrom}, Texts.{text_count}};
-ghost use Rattle.ref_words.specs.{Rings.{NoteFits, writes_note_at, left_in_note, note_so_far}, SlotLaws.{note_words_at}};
+ghost use Rattle.ref_words.specs.{Rings.{NoteFits, writes_note_at, left_in_note, note_so_far, note_words_at}};
 ghost use Rattle.word_board.specs.Told.{SawNoteInUse};
 
-use crate::card_steps::CardStepper;
+use crate::stepper::CardStepper;
+use crate::steps::Op;
 use ref_words::laws;
 use std::marker::Brand;
 use word_rings::{NOTE_FIELDS, note_words};
@@ -25,9 +26,9 @@ pub(crate) fn look_note(card: &mut CardStepper, app: u32, slot: u32) -> bool
     ensures pieces { All (λ p. p.place.buffer < pool_buffers card.old.board.setting.layout) card.old.side.view.pieces }
     ensures told { result ≡ false → SawNoteInUse card.old.board.setting (nic_gist card.old.side.view) app }
 {
-    laws::k13();
+    laws::card_keeps_the_rule();
     let word = card.map().note(app, slot, 0);
-    card.load::<Brand, u32>(word, app) == 0
+    card.step::<Brand, u32>(word, Op::Load, app) == 0
 }
 
 /// It stores the next word of a note into the slot, which it saw free.
@@ -40,9 +41,9 @@ pub(crate) fn store_note(card: &mut CardStepper, app: u32, slot: u32, at: u32, n
     requires more { at < note_width }
     ensures { card.new ≡ record card.old { side = side_note_stored card.old.side app n } }
 {
-    laws::k14();
+    laws::card_keeps_the_rule();
     let word = card.map().note(app, slot, at);
-    card.swap::<Brand, (u32, u64)>(word, n, (app, n));
+    card.step::<Brand, (u32, u64)>(word, Op::Swap(n), (app, n));
 }
 
 /// It stores so many of a note's words into the slot, which it saw free.
@@ -72,9 +73,9 @@ pub(crate) fn publish_note(card: &mut CardStepper, app: u32, slot: u32, note: No
     requires words { note_so_far card.old.board.setting card.old.side app ≡ note_body note [] (area_of_buffer card.old.board.setting.layout note.place.buffer) }
     ensures { card.new ≡ record card.old { side = side_sent card.old.side app note } }
 {
-    laws::k15_note();
+    laws::card_keeps_the_rule();
     let word = card.map().note(app, slot, 0);
-    card.swap::<Brand, (u32, Note)>(word, 1, (app, note));
+    card.step::<Brand, (u32, Note)>(word, Op::Swap(1), (app, note));
 }
 
 /// It hands the slot over: a note is on its way in which its bytes travel.
@@ -90,9 +91,9 @@ pub(crate) fn publish_linear(card: &mut CardStepper, app: u32, slot: u32, note: 
     requires words { note_so_far card.old.board.setting card.old.side app ≡ note_body note bytes.now 0 }
     ensures { card.new ≡ record card.old { side = side_sent_linear card.old.side app note bytes.now } }
 {
-    laws::k15_note();
+    laws::card_keeps_the_rule();
     let word = card.map().note(app, slot, 0);
-    card.swap::<Brand, (u32, Note, &[u8])>(word, 1, (app, note, bytes));
+    card.step::<Brand, (u32, Note, &[u8])>(word, Op::Swap(1), (app, note, bytes));
 }
 
 /// How many words of a slot so many bytes take.

@@ -4,8 +4,8 @@ ghost use Rattle.board_face.specs.{NicCalls.{HasNoToken, NicOnlySaw, apps_of}, N
 ghost use Rattle.ref_words.specs.{PhaseSteps.{side_ended, side_leave_looked, side_left, side_end_looked, side_note_sought, side_reserve_looked, side_abandoned}, Rings.{takes_note_at}};
 ghost use Rattle.word_board.specs.Told.{SawNotLeft, SawNotEnded, SawNoNote, SawReserveHeld};
 
-use crate::app_steps::AppStepper;
-use crate::card_steps::CardStepper;
+use crate::stepper::{AppStepper, CardStepper};
+use crate::steps::Op;
 use ref_words::laws;
 use std::marker::Brand;
 use zr_kinds::Place;
@@ -16,9 +16,9 @@ pub(crate) fn end_card(card: &mut CardStepper)
     requires idle { card.old.side.inside.making ≡ None }
     ensures { card.new ≡ record card.old { side = side_ended card.old.side } }
 {
-    laws::k22();
+    laws::card_keeps_the_rule();
     let word = card.map().phase(0);
-    card.swap::<Brand, ()>(word, 1, ());
+    card.step::<Brand, ()>(word, Op::Swap(1), ());
 }
 
 /// An application leaves: it stores 1 into its phase word.
@@ -26,9 +26,9 @@ pub(crate) fn leave_app(app: &mut AppStepper)
     requires can { CanLeave app.old.side.view }
     ensures { app.new ≡ record app.old { side = side_left app.old.side } }
 {
-    laws::k22();
+    laws::app_keeps_the_rule();
     let word = app.map().phase(1 + app.number() as usize);
-    app.swap::<Brand, ()>(word, 1, ());
+    app.step::<Brand, ()>(word, Op::Swap(1), ());
 }
 
 /// The card looks whether an application has left.
@@ -40,9 +40,9 @@ pub(crate) fn look_left(card: &mut CardStepper, app: u32) -> bool
         (NicOnlySaw (NotLeft app) card.old.side.view card.new.side.view) }
     ensures told { result ≡ false → SawNotLeft card.old.board.setting (nic_gist card.old.side.view) app }
 {
-    laws::k23();
+    laws::card_keeps_the_rule();
     let word = card.map().phase(1 + app as usize);
-    card.load::<Brand, u32>(word, app) == 1
+    card.step::<Brand, u32>(word, Op::Load, app) == 1
 }
 
 /// An application looks whether the card has ended. Once it saw that, it sees it again.
@@ -52,9 +52,9 @@ pub(crate) fn look_end(app: &mut AppStepper) -> bool
     ensures ended { app.old.side.view.ended ≡ true → result ≡ true }
     ensures told { result ≡ false → SawNotEnded app.old.board.setting (app_gist app.old.side.view) }
 {
-    laws::k23();
+    laws::app_keeps_the_rule();
     let word = app.map().phase(0);
-    app.load::<Brand, ()>(word, ()) == 1
+    app.step::<Brand, ()>(word, Op::Load, ()) == 1
 }
 
 /// An application that looked for the end looks at the flag of its next note slot. `true` says that the slot is full.
@@ -64,9 +64,9 @@ pub(crate) fn seek_note(app: &mut AppStepper, slot: u32) -> bool
     ensures event { app.new ≡ record app.old { side = side_note_sought app.old.side result } }
     ensures told { result ≡ false → SawNoNote app.old.board.setting (app_gist app.old.side.view) }
 {
-    laws::k16_end();
+    laws::app_keeps_the_rule();
     let word = app.map().note(app.number(), slot, 0);
-    app.load::<Brand, ()>(word, ()) == 1
+    app.step::<Brand, ()>(word, Op::Load, ()) == 1
 }
 
 /// An application that looked at each free word looks whether somebody has its reserve. `true` says that nobody does.
@@ -77,9 +77,9 @@ pub(crate) fn look_reserve(app: &mut AppStepper, reserve: u32) -> bool
     ensures event { app.new ≡ record app.old { side = side_reserve_looked app.old.side result } }
     ensures told { result ≡ false → SawReserveHeld app.old.board.setting (app_gist app.old.side.view) }
 {
-    laws::k24();
+    laws::app_keeps_the_rule();
     let word = app.map().pool(reserve);
-    app.load::<Brand, ()>(word, ()) == 0
+    app.step::<Brand, ()>(word, Op::Load, ()) == 0
 }
 
 /// An application abandons a loan, as of the moment in which it loads the pool count of its reserve.
@@ -89,7 +89,7 @@ pub(crate) fn abandon_loan(app: &mut AppStepper, reserve: u32, place: Place)
     requires out { HasLoan app.old.side.view place }
     ensures { app.new ≡ record app.old { side = side_abandoned app.old.side place } }
 {
-    laws::k24();
+    laws::app_keeps_the_rule();
     let word = app.map().pool(reserve);
-    app.load::<Brand, Place>(word, place);
+    app.step::<Brand, Place>(word, Op::Load, place);
 }

@@ -1,10 +1,11 @@
 ghost use Rattle.std.specs.Prelude.{◌≡◌, ◌+◌, ◌%◌, ◌<◌, ◌≤◌, ◌++◌, length};
 ghost use Rattle.area_layout.specs.Layout.{LiesIn, first_word};
 ghost use Rattle.board_face.specs.{AppCalls.{HasLoan, ShowsCopy}, AppEvents.{loan_origin, has_read}, Sides.{app_at}};
-ghost use Rattle.ref_words.specs.{AreaLaws.{part_of}, AreaSteps.{side_loaded}};
+ghost use Rattle.ref_words.specs.{AreaSteps.{part_of, side_loaded}};
 ghost use Rattle.word_board.specs.Reads.{HasReadSoFar};
 
-use crate::app_steps::AppStepper;
+use crate::stepper::AppStepper;
+use crate::steps::Op;
 use ref_words::laws;
 use std::marker::Brand;
 use word_rings::bytes_of_word;
@@ -34,10 +35,10 @@ pub(crate) fn load_word(
     ensures copied { ShowsCopy (loan_origin app.old.side.view loan) from
         (so_far.now ++ part_of result ((loan.offset + (from + length so_far.now)) % 8) more) }
 {
-    laws::k12();
+    laws::app_keeps_the_rule();
     let further = from + so_far.len() as u32;
     let word = app.map().text(loan.buffer, first, loan.offset, further);
-    app.load::<Brand, (Place, u32, &[u8], u32)>(word, (loan, from, so_far, more))
+    app.step::<Brand, (Place, u32, &[u8], u32)>(word, Op::Load, (loan, from, so_far, more))
 }
 
 /// An application reads bytes of a loan, from its byte `from` on: a load for each word that has some of them.

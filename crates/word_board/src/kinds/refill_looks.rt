@@ -3,7 +3,8 @@ ghost use Rattle.board_face.specs.{AppEvents.{app_saw, fell_quiet, app_gist}, de
 ghost use Rattle.ref_words.specs.RestSteps.{side_raw_looked, side_any_looked, side_last_looked};
 ghost use Rattle.word_board.specs.Told.{IsToldToApp, IsRawInUse, IsOneInUse};
 
-use crate::app_steps::AppStepper;
+use crate::stepper::AppStepper;
+use crate::steps::Op;
 use ref_words::laws;
 use std::marker::Brand;
 
@@ -14,9 +15,9 @@ pub(crate) fn look_raw(app: &mut AppStepper, slot: u32) -> bool
     ensures event { app.new ≡ record app.old { side = side_raw_looked app.old.side result } }
     ensures told { result ≡ false → IsToldToApp app.old.board.setting (app_gist app.old.side.view) (IsRawInUse app.old.board.setting) }
 {
-    laws::k13_raw();
+    laws::app_keeps_the_rule();
     let word = app.map().refill(app.number(), slot, 0);
-    app.load::<Brand, u32>(word, slot) == 0
+    app.step::<Brand, u32>(word, Op::Load, slot) == 0
 }
 
 /// An application settles: `raw` is the slot of its last raw entry, where it pushed one since it last settled. `false` says
@@ -41,9 +42,9 @@ pub(crate) fn look_any(app: &mut AppStepper, slot: u32) -> bool
     ensures event { app.new ≡ record app.old { side = side_any_looked app.old.side slot result } }
     ensures told { result ≡ false → IsToldToApp app.old.board.setting (app_gist app.old.side.view) (IsOneInUse app.old.board.setting) }
 {
-    laws::k13_free();
+    laws::app_keeps_the_rule();
     let word = app.map().refill(app.number(), slot, 0);
-    app.load::<Brand, u32>(word, slot) == 0
+    app.step::<Brand, u32>(word, Op::Load, slot) == 0
 }
 
 /// It looks at the last one, after it saw all others free. `true` says that its ring is quiet: no entry is on its way.
@@ -53,9 +54,9 @@ pub(crate) fn look_at_last(app: &mut AppStepper, slot: u32) -> bool
     ensures event { app.new ≡ record app.old { side = side_last_looked app.old.side slot result } }
     ensures told { result ≡ false → IsToldToApp app.old.board.setting (app_gist app.old.side.view) (IsOneInUse app.old.board.setting) }
 {
-    laws::k13_free();
+    laws::app_keeps_the_rule();
     let word = app.map().refill(app.number(), slot, 0);
-    app.load::<Brand, u32>(word, slot) == 0
+    app.step::<Brand, u32>(word, Op::Load, slot) == 0
 }
 
 /// An application looks at its refill slots one by one. `true` says that each was seen free; it stops at one in use.

@@ -2,8 +2,8 @@ ghost use Rattle.std.specs.Prelude.{◌≡◌, ◌<◌, Some};
 ghost use Rattle.area_layout.specs.Layout.{total};
 ghost use Rattle.board_face.specs.{NicCalls.{apps_of}, Steps.{side_both_lowered}, declared.views.nic.Judged.TheVariants.{Owed}};
 
-use crate::card_steps::CardStepper;
 use crate::kinds::{lower_returned, lower_user};
+use crate::stepper::CardStepper;
 use zr_kinds::Rqe;
 
 /// Both counts are lowered for an entry in hand that is a return, the user count first. It answers whether no holder of the

@@ -3,7 +3,7 @@ ghost use Rattle.board_face.specs.{NicCalls.{apps_of}, Opened.{new_nic, new_app}
 ghost use Rattle.ref_words.specs.{Seated.{times_in, card_view, app_view, due_view, dealt_out, both_sides}, declared.view.View.{View}};
 
 use crate::rule::{SharedWords, Together, WordSeat};
-use crate::steps::{deal_as, swap_as};
+use crate::steps::{Op, deal_as, step_as};
 use ref_words::laws;
 use std::marker::Brand;
 
@@ -17,7 +17,7 @@ pub(crate) fn deal_role(words: &SharedWords, desk: &mut WordSeat, role: usize) -
     ensures desk { desk.new.me ≡ (dealt_out role desk.old.me.0, desk.old.me.1) }
     ensures seat { (result.table_id ≡ desk.old.table_id) × (result.me ≡ (due_view role, [])) }
 {
-    laws::k1();
+    laws::role_is_dealt();
     let table = &words.table;
     deal_as::<Brand, usize>(table, desk, role)
 }
@@ -33,7 +33,7 @@ pub(crate) fn join_seats(words: &SharedWords, desk: &mut WordSeat, other: WordSe
     ensures number { desk.new.id ≡ desk.old.id }
     ensures desk { desk.new.me ≡ (both_sides desk.old.me.0 other.me.0, desk.old.me.1) }
 {
-    laws::k2();
+    laws::seats_join();
     let table = &words.table;
     table.shared.join_seat::<Together>(desk, other);
 }
@@ -45,10 +45,10 @@ pub(crate) fn take_card_role(words: &SharedWords, seat: &mut WordSeat)
     ensures table { seat.new.table_id ≡ seat.old.table_id }
     ensures me { seat.new.me ≡ (card_view (new_nic words.now.map), []) }
 {
-    laws::k3();
+    laws::role_is_taken();
     let word = words.map.role(0);
     let table = &words.table;
-    swap_as::<Brand, ()>(table, seat, word, 1, ());
+    step_as::<Brand, ()>(table, seat, word, Op::Swap(1), ());
 }
 
 /// A new seat takes an application's role, of which nothing was done yet.
@@ -59,8 +59,8 @@ pub(crate) fn take_app_role(words: &SharedWords, seat: &mut WordSeat, app: u32)
     ensures table { seat.new.table_id ≡ seat.old.table_id }
     ensures me { seat.new.me ≡ (app_view (new_app words.now.map app), []) }
 {
-    laws::k3();
+    laws::role_is_taken();
     let word = words.map.role(1 + app as usize);
     let table = &words.table;
-    swap_as::<Brand, u32>(table, seat, word, 1, app);
+    step_as::<Brand, u32>(table, seat, word, Op::Swap(1), app);
 }

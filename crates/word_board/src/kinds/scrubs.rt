@@ -4,8 +4,8 @@ ghost use Rattle.board_face.specs.NicCalls.{apps_of};
 ghost use Rattle.ref_words.specs.Sides.{HasScrubLists};
 ghost use Rattle.word_board.specs.Board.{ScrubbedOne, ScrubbedAll};
 
-use crate::app_steps::AppStepper;
 use crate::kinds::{list_last_by_app, lower_scrubbed, scrub_user};
+use crate::stepper::AppStepper;
 
 /// An application's scrub takes what is owed of the buffer to which it came: all of the user count, and as many references
 /// from the pool count. A pool buffer that comes to be free by that is listed.

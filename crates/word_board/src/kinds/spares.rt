@@ -4,10 +4,10 @@ ghost use Rattle.board_face.specs.{AppCalls.{IsHere, MaySpare}, AppEvents.{reser
 ghost use Rattle.ref_words.specs.FreeSteps.{side_word_without};
 ghost use Rattle.word_board.specs.{Spares.{Searched, FoundNone, TookListed, TookSpare, TookNoSpare}, Told.{SawWithout, SawNoneListed, SawReserveHeld, IsLowestSeen, IsFirstSeen}};
 
-use crate::app_steps::AppStepper;
 use crate::kinds::{
     WORD_BITS, look_free_word, look_reserve, pick_buffer, take_picked, take_reserve,
 };
+use crate::stepper::AppStepper;
 
 /// An application looks at a word of the free list, and tries to pick the lowest buffer that is listed there. `None` says that
 /// no buffer was listed, or that another was faster.

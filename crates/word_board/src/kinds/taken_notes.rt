@@ -1,11 +1,12 @@
 ghost use Rattle.std.specs.Prelude.{◌≡◌, ◌+◌, ◌<◌, ◌≤◌, [], ◌∷◌, ◌++◌, true, false, length, take, drop, MatchBool};
 ghost use Rattle.board_face.specs.{AppCalls.{TookNote}, AppEvents.{took_note, app_gist}, Texts.{IsLinearNote}, SlotSteps.{seen_with, at_slot, side_slot_loaded, side_took_note, side_took_linear}, declared.answers.Polled.TheVariants.{Empty as got_none}};
 ghost use Rattle.word_rings.specs.Slots.{note_width, note_fields};
-ghost use Rattle.ref_words.specs.{Rings.{takes_note_at}, SlotLaws.{loaded_note, loaded_bytes, note_loads}};
+ghost use Rattle.ref_words.specs.{Rings.{takes_note_at, loaded_note, loaded_bytes, note_loads}};
 ghost use Rattle.word_board.specs.{Board.{side_full_taken}, Polls.{Polls}, Told.{SawNotEnded, SawNoNote}};
 
-use crate::app_steps::AppStepper;
 use crate::kinds::{look_end, payload_words, seek_note};
+use crate::stepper::AppStepper;
+use crate::steps::Op;
 use board_face::{Held, Polled};
 use ref_words::laws;
 use std::marker::Brand;
@@ -24,9 +25,9 @@ pub(crate) fn load_slot(app: &mut AppStepper, slot: u32, at: u32) -> u64
     requires more { at < note_width }
     ensures { app.new ≡ record app.old { side = side_slot_loaded app.old.side result } }
 {
-    laws::k16();
+    laws::app_keeps_the_rule();
     let word = app.map().note(app.number(), slot, at);
-    app.load::<Brand, ()>(word, ())
+    app.step::<Brand, ()>(word, Op::Load, ())
 }
 
 /// It loads the words of the fields from the slot, which it saw full, and answers them behind the flag.
@@ -71,9 +72,9 @@ pub(crate) fn free_note(app: &mut AppStepper, slot: u32)
     ensures took { TookNote app.old.side.view (took_note app.old.side.view (loaded_note app.old.side))
         (loaded_note app.old.side) (loaded_note app.old.side).place }
 {
-    laws::k17_note();
+    laws::app_keeps_the_rule();
     let word = app.map().note(app.number(), slot, 0);
-    app.swap::<Brand, ()>(word, 0, ());
+    app.step::<Brand, ()>(word, Op::Swap(0), ());
 }
 
 /// It frees the slot: the note that the words tell of is taken, with the bytes that travelled in it.
@@ -86,9 +87,9 @@ pub(crate) fn free_linear(app: &mut AppStepper, slot: u32)
     ensures event { app.new ≡ record app.old { side = side_took_linear app.old.side (loaded_note app.old.side) (loaded_bytes app.old.side) } }
     ensures fields { IsLinearNote (loaded_note app.old.side) }
 {
-    laws::k17_note();
+    laws::app_keeps_the_rule();
     let word = app.map().note(app.number(), slot, 0);
-    app.swap::<Brand, ()>(word, 0, ());
+    app.step::<Brand, ()>(word, Op::Swap(0), ());
 }
 
 /// An application takes the note of its next slot, which it saw full: it loads the words of the fields, of an unsplit note

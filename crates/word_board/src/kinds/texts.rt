@@ -2,10 +2,9 @@ ghost use Rattle.std.specs.Prelude.{◌≡◌, ◌+◌, ◌<◌, ◌≤◌, leng
 ghost use Rattle.area_layout.specs.Layout.{LiesIn};
 ghost use Rattle.board_face.specs.{AppCalls.{HasSpare}, AppEvents.{begin_place, filled}, NicCalls.{HasOwn}, NicEvents.{placed}, Sides.{nic_at, app_at}, Tokens.{next_place}};
 
-use crate::app_steps::AppStepper;
-use crate::card_steps::CardStepper;
 use crate::kinds::area::{fill_spare, place_piece, store_piece, store_spare};
 use crate::kinds::card_counts::begin_piece;
+use crate::stepper::{AppStepper, CardStepper};
 use board_face::Filling;
 use word_rings::text_word;
 use zr_kinds::Place;

@@ -2,8 +2,8 @@ ghost use Rattle.std.specs.Prelude.{◌≡◌, ◌+◌, ◌^◌, ◌<◌, [], tr
 ghost use Rattle.area_layout.specs.Layout.{total, judged};
 ghost use Rattle.board_face.specs.{NicCalls.{apps_of}, AppCalls.{HasHeld, HasSpare, IsFilled, CanLend}, AppEvents.{lent, lent_own}, Returns.{loans_out}, Sides.{app_at}, Steps.{side_judged, side_user_lowered, side_user_taken}, declared.views.nic.Judged.TheVariants.{Not, Owed}};
 
-use crate::app_steps::AppStepper;
-use crate::card_steps::CardStepper;
+use crate::stepper::{AppStepper, CardStepper};
+use crate::steps::Op;
 use board_face::Filling;
 use ref_words::laws;
 use std::marker::Brand;
@@ -19,9 +19,9 @@ pub(crate) fn lend_held(app: &mut AppStepper, place: Place)
     ensures event { app.new ≡ record app.old { side = app_at app.old.side (lent app.old.side.view place) } }
     ensures few_out { loans_out place.buffer app.old.side + 1 < 2 ^ 64 }
 {
-    laws::k7();
+    laws::app_keeps_the_rule();
     let word = app.map().user(app.number(), place.buffer);
-    app.add::<Brand, Place>(word, 1, place);
+    app.step::<Brand, Place>(word, Op::Add(1), place);
 }
 
 /// An application lends a spare that it filled: its user count for the buffer is raised. No count of loans is large.
@@ -34,9 +34,9 @@ pub(crate) fn lend_spare(app: &mut AppStepper, own: Filling)
     ensures event { app.new ≡ record app.old { side = app_at app.old.side (lent_own app.old.side.view own) } }
     ensures few_out { loans_out own.buffer app.old.side + 1 < 2 ^ 64 }
 {
-    laws::k7();
+    laws::app_keeps_the_rule();
     let word = app.map().user(app.number(), own.buffer);
-    app.add::<Brand, Filling>(word, 1, own);
+    app.step::<Brand, Filling>(word, Op::Add(1), own);
 }
 
 /// The card looks at the user count for the entry in hand, which names the buffer. `true` says that it was 0, so that the
@@ -48,9 +48,9 @@ pub(crate) fn look_user(card: &mut CardStepper, app: u32, entry: Rqe, buffer: u3
     requires in_hand { card.old.side.inside.entry ≡ Some (record { app = app; entry = entry; judged = Not }) }
     ensures { card.new ≡ record card.old { side = side_judged card.old.side app entry buffer result } }
 {
-    laws::k8();
+    laws::card_keeps_the_rule();
     let word = card.map().user(app, buffer);
-    card.load::<Brand, (u32, Rqe, u32)>(word, (app, entry, buffer)) == 0
+    card.step::<Brand, (u32, Rqe, u32)>(word, Op::Load, (app, entry, buffer)) == 0
 }
 
 /// The user count is lowered for the entry in hand, for which it was seen above 0.
@@ -60,9 +60,9 @@ pub(crate) fn lower_user(card: &mut CardStepper, app: u32, entry: Rqe, buffer: u
     requires in_hand { card.old.side.inside.entry ≡ Some (record { app = app; entry = entry; judged = Owed buffer }) }
     ensures { card.new ≡ record card.old { side = side_user_lowered card.old.side app entry buffer } }
 {
-    laws::k9();
+    laws::card_keeps_the_rule();
     let word = card.map().user(app, buffer);
-    card.sub::<Brand, (u32, Rqe, u32)>(word, 1, (app, entry, buffer));
+    card.step::<Brand, (u32, Rqe, u32)>(word, Op::Sub(1), (app, entry, buffer));
 }
 
 /// An application's scrub swaps its user count for the buffer to which it came with 0. It answers how many references it took.
@@ -75,7 +75,7 @@ pub(crate) fn scrub_user(app: &mut AppStepper, buffer: u32) -> u64
     requires counted { app.old.side.view.scrubbed ≡ false }
     ensures { app.new ≡ record app.old { side = side_user_taken app.old.side buffer result } }
 {
-    laws::k10();
+    laws::app_keeps_the_rule();
     let word = app.map().user(app.number(), buffer);
-    app.swap::<Brand, u32>(word, 0, buffer)
+    app.step::<Brand, u32>(word, Op::Swap(0), buffer)
 }

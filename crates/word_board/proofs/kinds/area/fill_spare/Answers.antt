@@ -1,11 +1,11 @@
 use Rattle.std.proofs.Common.{◌*◌, ◌<◌, length, refl, subst, arith, rules}
 use Rattle.board_face.specs.AppEvents.{begin_place}
-use Rattle.ref_words.{specs.AreaLaws.{next_word}, proofs.AreaWords.{within-area}}
-use Rattle.word_board.proofs.Stepping.{stores-area, bytes-small}
+use Rattle.ref_words.{specs.{AreaSteps.{next_word}, Runs.{fills_spare}}, proofs.AreaWords.{within-area}}
+use Rattle.word_board.proofs.Stepping.{app-may, stores-area, bytes-small}
 use Rattle.word_board.proofs.kinds.area.fill_spare.Goals as goal
 
-pub swap-requires-clause-may : goal.swap-requires-clause-may
-swap-requires-clause-may c =
+pub step-requires-clause-may : goal.step-requires-clause-may
+step-requires-clause-may c = app-may (
     let setting = c.args.app.now.board.setting in
     let mine = c.args.app.now.side in
     let bytes = c.args.bytes.now in
@@ -16,8 +16,9 @@ swap-requires-clause-may c =
     record {
       number = λ n. refl;
       step = λ ws nic apps rule here small.
-          let law = c.k11.ensures.filled setting ws nic apps mine.view.app mine own bytes c.args.n rule here c.requires.out c.requires.empty c.requires.some
-          c.requires.few c.requires.making c.requires.last (bytes-small bytes (search rules)) in
+          let law = c.app_keeps_the_rule.ensures setting ws nic apps mine (fills_spare own bytes c.args.n) rule here
+          (c.requires.out, c.requires.empty, c.requires.some, c.requires.few, c.requires.making, c.requires.last, (bytes-small bytes (search rules)))
+          in
           let less = let end = c.requires.lies.bytes in within-area setting.layout rule.refs.layout place.buffer _ c.requires.lies.buffer (omega (arith, end, inside)) in
-          (stores-area setting ws i c.text-word.result (cc) less rule c.args.n law, tt);
-    }
+          (stores-area setting ws i c.text-word.result (cc) less rule c.args.n law.rule, tt);
+    })

@@ -1,15 +1,15 @@
 use Rattle.std.proofs.Common.{◌+◌, ◌*◌, ◌<◌, subst, arith}
-use Rattle.ref_words.{specs.AreaLaws.{next_word}, proofs.AreaWords.{within-area}}
-use Rattle.word_board.proofs.Stepping.{stores-area}
+use Rattle.ref_words.{specs.{AreaSteps.{next_word}, Runs.{stores_piece}}, proofs.AreaWords.{within-area}}
+use Rattle.word_board.proofs.Stepping.{card-may, stores-area}
 use Rattle.word_board.proofs.kinds.area.store_piece.Goals as goal
 
-pub swap-requires-clause-may : goal.swap-requires-clause-may
-swap-requires-clause-may c ws apps rule small =
+pub step-requires-clause-may : goal.step-requires-clause-may
+step-requires-clause-may c = card-may (λ ws apps rule small.
     let setting = c.args.card.now.board.setting in
     let mine = c.args.card.now.side in
     let place = c.args.place in
     let i = next_word setting.layout mine.inside.making place in
     let more = subst (λ k. 8 * (k + 1) < place.len) c.requires.so_far c.requires.more in
-    let law = c.k11.ensures.piece setting ws mine apps place c.args.n rule c.requires.making more in
+    let law = c.card_keeps_the_rule.ensures setting ws mine apps (stores_piece place c.args.n) rule (c.requires.making, more) in
     let less = let end = c.requires.lies.bytes in within-area setting.layout rule.refs.layout place.buffer _ c.requires.lies.buffer (omega (arith, end, more)) in
-    (stores-area setting ws i c.text-word.result (cc) less rule c.args.n law, tt)
+    (stores-area setting ws i c.text-word.result (cc) less rule c.args.n law.rule, tt))

@@ -1,10 +1,11 @@
 use Rattle.std.proofs.Common.{arith}
-use Rattle.word_board.proofs.Stepping.{raises}
+use Rattle.ref_words.specs.Runs.{takes}
+use Rattle.word_board.proofs.Stepping.{card-may, raises}
 use Rattle.word_board.proofs.kinds.card_counts.take_buffer.Goals as goal
 
-pub add-requires-clause-may : goal.add-requires-clause-may
-add-requires-clause-may c ws apps rule small =
+pub step-requires-clause-may : goal.step-requires-clause-may
+step-requires-clause-may c = card-may (λ ws apps rule small.
     let setting = c.args.card.now.board.setting in
     let mine = c.args.card.now.side in
-    let law = c.k4.ensures.card setting ws mine apps c.args.buffer rule c.requires.last c.requires.running in
-    (raises setting ws c.args.buffer c.pool-word.result (cc) c.requires.within rule (omega (arith, law.1.unheld)) law.1.rule, law.0)
+    let law = c.card_keeps_the_rule.ensures setting ws mine apps (takes c.args.buffer) rule (c.requires.last, c.requires.running) in
+    (raises setting ws c.args.buffer c.pool-word.result (cc) c.requires.within rule (omega (arith, law.finds.1)) law.rule, law.finds.0))

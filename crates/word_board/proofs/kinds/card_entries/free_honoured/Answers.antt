@@ -1,11 +1,11 @@
 use Rattle.std.proofs.Common.{ℕ, ◌<◌, subst, arith}
 use Rattle.board_face.specs.{SlotSteps.{side_dealt}, declared.views.nic.{Fate.TheVariants.{Honoured}, NicSide.{NicSide}}}
-use Rattle.ref_words.specs.Rings.{takes_entry_at}
-use Rattle.word_board.proofs.Stepping.{stores-refill}
+use Rattle.ref_words.specs.{Rings.{takes_entry_at}, Runs.{frees_honoured}}
+use Rattle.word_board.proofs.Stepping.{card-may, stores-refill}
 use Rattle.word_board.proofs.kinds.card_entries.free_honoured.Goals as goal
 
-pub swap-requires-clause-may : goal.swap-requires-clause-may
-swap-requires-clause-may c ws apps rule small =
+pub step-requires-clause-may : goal.step-requires-clause-may
+step-requires-clause-may c = card-may (λ ws apps rule small.
     let setting = c.args.card.now.board.setting in
     let mine = c.args.card.now.side in
     let a = c.args.app in
@@ -13,5 +13,6 @@ swap-requires-clause-may c ws apps rule small =
     let i : ℕ = 0 in
     let within : s < setting.places = subst (λ k. k < setting.places) c.requires.next c.requires.within in
     let next : ℕ → NicSide = λ n. side_dealt mine a c.args.entry (Honoured c.args.buffer) in
-    let law = c.k17.ensures.honoured setting ws mine apps a c.args.entry c.args.buffer rule c.requires.app c.requires.seen c.requires.in_hand c.requires.bare in
-    (stores-refill setting ws a s i c.refill-word.result (cc) c.requires.app within (omega arith) rule 0 law, tt)
+    let law = c.card_keeps_the_rule.ensures setting ws mine apps (frees_honoured a c.args.entry c.args.buffer) rule
+    (c.requires.app, c.requires.seen, c.requires.in_hand, c.requires.bare) in
+    (stores-refill setting ws a s i c.refill-word.result (cc) c.requires.app within (omega arith) rule 0 law.rule, tt))

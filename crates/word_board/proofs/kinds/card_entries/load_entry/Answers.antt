@@ -1,12 +1,12 @@
 use Rattle.std.proofs.Common.{ℕ, ◌<◌, sym, subst}
 use Rattle.board_face.specs.{SlotSteps.{side_entry_loaded}, declared.views.nic.NicSide.{NicSide}}
 use Rattle.word_rings.specs.Slots.{refill_width}
-use Rattle.ref_words.specs.{Rings.{takes_entry_at}, SlotLaws.{refill_words_at}, Rule.{BoardRule}}
-use Rattle.word_board.proofs.Stepping.{loads, found-refill}
+use Rattle.ref_words.specs.{Rings.{takes_entry_at, refill_words_at}, Rule.{BoardRule}, Runs.{loads_entry}}
+use Rattle.word_board.proofs.Stepping.{card-may, loads, found-refill}
 use Rattle.word_board.proofs.kinds.card_entries.load_entry.Goals as goal
 
-pub load-requires-clause-may : goal.load-requires-clause-may
-load-requires-clause-may c ws apps rule small =
+pub step-requires-clause-may : goal.step-requires-clause-may
+step-requires-clause-may c = card-may (λ ws apps rule small.
     let setting = c.args.card.now.board.setting in
     let mine = c.args.card.now.side in
     let a = c.args.app in
@@ -15,8 +15,8 @@ load-requires-clause-may c ws apps rule small =
     let within : s < setting.places = subst (λ k. k < setting.places) c.requires.next c.requires.within in
     let more = subst (λ k. k < refill_width) c.requires.so_far c.requires.more in
     let next : ℕ → NicSide = λ n. side_entry_loaded mine a n in
-    let law = c.k16.ensures.entry setting ws mine apps a rule c.requires.app c.requires.seen more in (
+    let law = c.card_keeps_the_rule.ensures setting ws mine apps (loads_entry a) rule (c.requires.app, c.requires.seen, more) in (
       loads setting ws c.refill-word.result
-          (subst (λ n. BoardRule setting ws (next n) apps) (sym (found-refill setting ws a s i c.refill-word.result (cc) c.requires.app within more rule)) law),
+          (subst (λ n. BoardRule setting ws (next n) apps) (sym (found-refill setting ws a s i c.refill-word.result (cc) c.requires.app within more rule)) law.rule),
       tt,
-    )
+    ))

@@ -1,12 +1,12 @@
 use Rattle.std.proofs.Common.{◌≡◌, ℕ, ◌+◌, ◌<◌, ◌++◌, ◌∷◌, [], subst, arith}
 use Rattle.board_face.specs.{SlotSteps.{next_slot, side_in_hand}, declared.views.nic.NicSide.{NicSide}}
 use Rattle.word_rings.specs.Slots.{refill_width, entry_of}
-use Rattle.ref_words.specs.{Rings.{takes_entry_at}, SlotLaws.{refill_words_at}}
-use Rattle.word_board.proofs.Stepping.{loads, found-refill}
+use Rattle.ref_words.specs.{Rings.{takes_entry_at, refill_words_at}, Runs.{loads_last}}
+use Rattle.word_board.proofs.Stepping.{card-may, loads, found-refill}
 use Rattle.word_board.proofs.kinds.card_entries.load_last.Goals as goal
 
-pub load-requires-clause-may : goal.load-requires-clause-may
-load-requires-clause-may c ws apps rule small =
+pub step-requires-clause-may : goal.step-requires-clause-may
+step-requires-clause-may c = card-may (λ ws apps rule small.
     let setting = c.args.card.now.board.setting in
     let mine = c.args.card.now.side in
     let a = c.args.app in
@@ -16,8 +16,14 @@ load-requires-clause-may c ws apps rule small =
     let last : i + 1 ≡ refill_width = subst (λ k. k + 1 ≡ refill_width) c.requires.so_far c.requires.last in
     let more : i < refill_width = omega (arith, last) in
     let next : ℕ → NicSide = λ n. side_in_hand mine a n (entry_of (1 ∷ (next_slot mine.inside.refill_slots a).words ++ n ∷ [])) in
-    let law = c.k16.ensures.in_hand setting ws mine apps a _ rule c.requires.app c.requires.seen last c.requires.idle
-    (found-refill setting ws a s i c.refill-word.result (cc) c.requires.app within more rule) in (
-      loads setting ws c.refill-word.result law,
+    let law = c.card_keeps_the_rule.ensures setting ws mine apps (loads_last a _) rule (
+      c.requires.app,
+      c.requires.seen,
+      last,
+      c.requires.idle,
+      (found-refill setting ws a s i c.refill-word.result (cc) c.requires.app within more
+          rule),
+    ) in (
+      loads setting ws c.refill-word.result law.rule,
       tt,
-    )
+    ))

@@ -2,11 +2,12 @@
 use Rattle.std.specs.Prelude.{◌∷◌, ◌++◌, []}
 use Rattle.board_face.specs.SlotSteps.{next_slot, side_in_hand}
 use Rattle.word_rings.specs.Slots.{entry_of}
+use Rattle.ref_words.specs.Seated.{card_view}
 use Rattle.word_board.proofs.kinds.card_entries.load_last.Given as goal
 
-abbrev pub ghosts-load : goal.ghosts-load
-ghosts-load a = record {
-  after = λ n. side_in_hand a.self.now.side a.about n
-      (entry_of (1 ∷ (next_slot a.self.now.side.inside.refill_slots a.about).words ++ n ∷ []));
+abbrev pub ghosts-step : goal.ghosts-step
+ghosts-step a = record {
+  after = λ n. card_view (side_in_hand a.self.now.side a.about n
+      (entry_of (1 ∷ (next_slot a.self.now.side.inside.refill_slots a.about).words ++ n ∷ [])));
   told = λ _. Unit {0};
 }

@@ -6,8 +6,8 @@ use Rattle.ref_words.specs.Words.{free_at}
 use Rattle.word_board.{specs.{Board.{card_of}, Desk.{AllAreBack}}, proofs.{FreeWords.{of-word}, RolesBack.{lesson, free-there}}}
 use Rattle.word_board.proofs.kinds.desk_looks.look_listed.Goals as goal
 
-pub load_as-found-requires-clause-allows : goal.load_as-found-requires-clause-allows
-load_as-found-requires-clause-allows c =
+pub step_as-found-requires-clause-allows : goal.step_as-found-requires-clause-allows
+step_as-found-requires-clause-allows c =
     let words = c.args.words.now in
     let setting = words.table.shared.key in
     let desk = c.args.desk.now in
@@ -25,7 +25,7 @@ load_as-found-requires-clause-allows c =
     (free-there law setting s board desk.id desk.me.0 at c.requires.over all b of_pool)))
 
 pub returns-clause-me : goal.returns-clause-me
-returns-clause-me c = c.load_as-found.ensures.me
+returns-clause-me c = c.step_as-found.ensures.me
 
 one-of-both : (listed : Bool) (n : ℕ) → n + (if listed then 1 else 0) ≡ 1 → n ≡ (if listed then 0 else 1)
 one-of-both true n one = omega (arith, one)
@@ -34,6 +34,6 @@ one-of-both false n one = omega (arith, one)
 pub returns-clause-listed : goal.returns-clause-listed
 returns-clause-listed c =
     let b = c.args.buffer in
-    one-of-both (bit_and (c.load_as-found.result / 2 ^ (b % word_bits)) 1 == 1) _
+    one-of-both (bit_and (c.step_as-found.result / 2 ^ (b % word_bits)) 1 == 1) _
     (ap (λ x. count_by (nat_eq b) (card_of c.args.desk.now.me.0).view.cache + (if x == 1 then 1 else 0))
-    (shr_and_one c.load_as-found.result (b % word_bits)) ∙ c.load_as-found.ensures.told)
+    (shr_and_one c.step_as-found.result (b % word_bits)) ∙ c.step_as-found.ensures.told)

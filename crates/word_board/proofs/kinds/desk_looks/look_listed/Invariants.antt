@@ -4,8 +4,8 @@ use Rattle.board_face.specs.NicEvents.{word_bits}
 use Rattle.word_board.specs.Board.{card_of}
 use Rattle.word_board.proofs.kinds.desk_looks.look_listed.Given as goal
 
-abbrev pub ghosts-load_as : goal.ghosts-load_as
-ghosts-load_as a = record {
+abbrev pub ghosts-step_as : goal.ghosts-step_as
+ghosts-step_as a = record {
   after = λ _. a.seat.now.me.0;
   told = λ n. count_by (nat_eq a.about) (card_of a.seat.now.me.0).view.cache + (if bit_at n (a.about % word_bits) == 1 then 1 else 0) ≡ 1;
 }

@@ -2,8 +2,8 @@ use Rattle.std.proofs.Common.{◌≤◌, length, subst, sym}
 use Rattle.word_board.{specs.Desk.{AreOfBoard, AreServed}, proofs.RolesBack.{lesson, one-card, served-there, known-there}}
 use Rattle.word_board.proofs.kinds.desk_looks.look_served.Goals as goal
 
-pub load_as-requires-clause-allows : goal.load_as-requires-clause-allows
-load_as-requires-clause-allows c =
+pub step_as-requires-clause-allows : goal.step_as-requires-clause-allows
+step_as-requires-clause-allows c =
     let words = c.args.words.now in
     let setting = words.table.shared.key in
     let desk = c.args.desk.now in
@@ -17,13 +17,13 @@ load_as-requires-clause-allows c =
     ))
 
 pub returns-clause-me : goal.returns-clause-me
-returns-clause-me c = c.load_as.ensures.me
+returns-clause-me c = c.step_as.ensures.me
 
 pub returns-clause-one : goal.returns-clause-one
-returns-clause-one c = c.load_as.ensures.told.0
+returns-clause-one c = c.step_as.ensures.told.0
 
 pub returns-clause-served : goal.returns-clause-served
-returns-clause-served c = c.load_as.ensures.told.1
+returns-clause-served c = c.step_as.ensures.told.1
 
 pub returns-clause-known : goal.returns-clause-known
-returns-clause-known c = subst (λ s. AreOfBoard s c.args.desk.now.me.0) (sym c.args.words.now.keyed) c.load_as.ensures.told.2
+returns-clause-known c = subst (λ s. AreOfBoard s c.args.desk.now.me.0) (sym c.args.words.now.keyed) c.step_as.ensures.told.2

@@ -3,8 +3,8 @@ use Rattle.area_layout.specs.Layout.{pool_buffers}
 use Rattle.word_board.{specs.{Board.{card_of}, Desk.{AllAreBack, AreServed, HasNoHolders}}, proofs.RolesBack.{lesson, unheld-there, reserves-there, served-there}}
 use Rattle.word_board.proofs.kinds.desk_looks.look_unheld.Goals as goal
 
-pub load_as-requires-clause-allows : goal.load_as-requires-clause-allows
-load_as-requires-clause-allows c =
+pub step_as-requires-clause-allows : goal.step_as-requires-clause-allows
+step_as-requires-clause-allows c =
     let words = c.args.words.now in
     let setting = words.table.shared.key in
     let desk = c.args.desk.now in
@@ -21,13 +21,13 @@ load_as-requires-clause-allows c =
     ))
 
 pub returns-clause-me : goal.returns-clause-me
-returns-clause-me c = c.load_as.ensures.me
+returns-clause-me c = c.step_as.ensures.me
 
 pub returns-clause-holders : goal.returns-clause-holders
-returns-clause-holders c = c.load_as.ensures.told.0
+returns-clause-holders c = c.step_as.ensures.told.0
 
 pub returns-clause-reserves : goal.returns-clause-reserves
-returns-clause-reserves c = λ b past. c.load_as.ensures.told.1 b (subst (λ s. pool_buffers s.layout ≤ b) c.args.words.now.keyed past)
+returns-clause-reserves c = λ b past. c.step_as.ensures.told.1 b (subst (λ s. pool_buffers s.layout ≤ b) c.args.words.now.keyed past)
 
 pub returns-clause-served : goal.returns-clause-served
-returns-clause-served c = c.load_as.ensures.told.2
+returns-clause-served c = c.step_as.ensures.told.2

@@ -4,8 +4,8 @@ use Rattle.area_layout.specs.Layout.{pool_buffers}
 use Rattle.word_board.specs.{Board.{card_of}, Desk.{AreServed, HasNoHolders}}
 use Rattle.word_board.proofs.kinds.desk_looks.look_unheld.Given as goal
 
-abbrev pub ghosts-load_as : goal.ghosts-load_as
-ghosts-load_as a = record {
+abbrev pub ghosts-step_as : goal.ghosts-step_as
+ghosts-step_as a = record {
   after = λ _. a.seat.now.me.0;
   told = λ _. HasNoHolders a.seat.now.me.0
       × ((b : ℕ) → pool_buffers a.words.now.shared.key.layout ≤ b → count_by (nat_eq b) (card_of a.seat.now.me.0).view.cache ≡ 0)

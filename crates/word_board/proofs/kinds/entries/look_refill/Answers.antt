@@ -1,11 +1,11 @@
 use Rattle.std.{proofs.Common.{◌≡◌, ℕ, ◌<◌, set, sym, subst, arith}, specs.Prelude.{◌==◌, false}}
 use Rattle.board_face.specs.{SlotSteps.{side_refill_looked}, declared.views.app.AppSide.{AppSide}}
-use Rattle.ref_words.{specs.{Words.{refill_at}, Rings.{writes_entry_at}, Rule.{BoardRule}}, proofs.AppNumbers.{refill_looked-number}}
-use Rattle.word_board.proofs.{Telling.{tells-app}, Stepping.{loads, found-refill}}
+use Rattle.ref_words.{specs.{Words.{refill_at}, Rings.{writes_entry_at}, Rule.{BoardRule}, Runs.{looks_refill}}, proofs.AppNumbers.{refill_looked-number}}
+use Rattle.word_board.proofs.{Telling.{tells-app}, Stepping.{app-may, loads, found-refill}}
 use Rattle.word_board.proofs.kinds.entries.look_refill.Goals as goal
 
-pub load-requires-clause-may : goal.load-requires-clause-may
-load-requires-clause-may c =
+pub step-requires-clause-may : goal.step-requires-clause-may
+step-requires-clause-may c = app-may (
     let setting = c.args.app.now.board.setting in
     let mine = c.args.app.now.side in
     let a = mine.view.app in
@@ -16,10 +16,10 @@ load-requires-clause-may c =
     record {
       number = λ n. refill_looked-number mine (n == 0);
       step = λ ws nic apps rule here small.
-          let law = c.k13.ensures.entry setting ws nic apps mine rule here in (
+          let law = c.app_keeps_the_rule.ensures setting ws nic apps mine looks_refill rule here tt in (
             loads setting ws c.refill-word.result
                 (subst (λ n. BoardRule setting ws nic (set apps a (next n)))
-                (sym (found-refill setting ws a s 0 c.refill-word.result at c.number.ensures.here within (omega arith) rule)) law),
+                (sym (found-refill setting ws a s 0 c.refill-word.result at c.number.ensures.here within (omega arith) rule)) law.rule),
             (λ no. tells-app setting ws nic apps mine rule here _ (subst (λ n. (n == 0) ≡ false) (found-refill setting ws a s 0 c.refill-word.result at c.number.ensures.here within (omega arith) rule) no)),
           );
-    }
+    })

@@ -1,10 +1,10 @@
 use Rattle.std.proofs.Common.{◌<◌, refl, subst, arith}
-use Rattle.ref_words.specs.Rings.{writes_entry_at}
-use Rattle.word_board.proofs.Stepping.{stores-refill}
+use Rattle.ref_words.specs.{Rings.{writes_entry_at}, Runs.{gives}}
+use Rattle.word_board.proofs.Stepping.{app-may, stores-refill}
 use Rattle.word_board.proofs.kinds.entries.publish_loan.Goals as goal
 
-pub swap-requires-clause-may : goal.swap-requires-clause-may
-swap-requires-clause-may c =
+pub step-requires-clause-may : goal.step-requires-clause-may
+step-requires-clause-may c = app-may (
     let setting = c.args.app.now.board.setting in
     let mine = c.args.app.now.side in
     let a = mine.view.app in
@@ -13,8 +13,9 @@ swap-requires-clause-may c =
     record {
       number = λ n. refl;
       step = λ ws nic apps rule here small.
-          let law = c.k15.ensures.loan setting ws nic apps mine c.args.place rule here c.requires.out c.requires.seen c.requires.words c.requires.fits in (
-            stores-refill setting ws a s 0 c.refill-word.result (cc) c.number.ensures.here within (omega arith) rule 1 law,
+          let law = c.app_keeps_the_rule.ensures setting ws nic apps mine (gives c.args.place) rule here
+          (c.requires.out, c.requires.seen, c.requires.words, c.requires.fits) in (
+            stores-refill setting ws a s 0 c.refill-word.result (cc) c.number.ensures.here within (omega arith) rule 1 law.rule,
             tt,
           );
-    }
+    })

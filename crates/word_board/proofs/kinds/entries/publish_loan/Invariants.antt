@@ -1,6 +1,7 @@
 -- The side after the step, by the number that it found.
 use Rattle.board_face.specs.SlotSteps.{side_gave}
+use Rattle.ref_words.specs.Seated.{app_view}
 use Rattle.word_board.proofs.kinds.entries.publish_loan.Given as goal
 
-abbrev pub ghosts-swap : goal.ghosts-swap
-ghosts-swap a = record { after = λ n. side_gave a.self.now.side a.about; told = λ _. Unit {0} }
+abbrev pub ghosts-step : goal.ghosts-step
+ghosts-step a = record { after = λ n. app_view (side_gave a.self.now.side a.about); told = λ _. Unit {0} }

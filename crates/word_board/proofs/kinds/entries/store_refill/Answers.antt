@@ -1,11 +1,11 @@
 use Rattle.std.proofs.Common.{◌+◌, ◌<◌, length, refl, subst}
 use Rattle.word_rings.specs.Slots.{refill_width}
-use Rattle.ref_words.specs.Rings.{writes_entry_at}
-use Rattle.word_board.proofs.Stepping.{stores-refill}
+use Rattle.ref_words.specs.{Rings.{writes_entry_at}, Runs.{stores_entry}}
+use Rattle.word_board.proofs.Stepping.{app-may, stores-refill}
 use Rattle.word_board.proofs.kinds.entries.store_refill.Goals as goal
 
-pub swap-requires-clause-may : goal.swap-requires-clause-may
-swap-requires-clause-may c =
+pub step-requires-clause-may : goal.step-requires-clause-may
+step-requires-clause-may c = app-may (
     let setting = c.args.app.now.board.setting in
     let mine = c.args.app.now.side in
     let a = mine.view.app in
@@ -16,8 +16,8 @@ swap-requires-clause-may c =
     record {
       number = λ n. refl;
       step = λ ws nic apps rule here small.
-          let law = c.k14.ensures.entry setting ws nic apps mine c.args.n rule here c.requires.seen more in (
-            stores-refill setting ws a s i c.refill-word.result (cc) c.number.ensures.here within more rule c.args.n law,
+          let law = c.app_keeps_the_rule.ensures setting ws nic apps mine (stores_entry c.args.n) rule here (c.requires.seen, more) in (
+            stores-refill setting ws a s i c.refill-word.result (cc) c.number.ensures.here within more rule c.args.n law.rule,
             tt,
           );
-    }
+    })

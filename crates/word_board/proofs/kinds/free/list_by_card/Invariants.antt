@@ -1,6 +1,6 @@
 -- The side after the step, by the number that it found.
-use Rattle.ref_words.specs.FreeSteps.{side_nic_listed}
+use Rattle.ref_words.specs.{FreeSteps.{side_nic_listed}, Seated.{card_view}}
 use Rattle.word_board.proofs.kinds.free.list_by_card.Given as goal
 
-abbrev pub ghosts-or : goal.ghosts-or
-ghosts-or a = record { after = λ _. side_nic_listed a.self.now.side a.about; told = λ _. Unit {0} }
+abbrev pub ghosts-step : goal.ghosts-step
+ghosts-step a = record { after = λ _. card_view (side_nic_listed a.self.now.side a.about); told = λ _. Unit {0} }

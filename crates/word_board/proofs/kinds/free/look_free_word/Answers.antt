@@ -1,11 +1,11 @@
 use Rattle.std.{proofs.Common.{ℕ, set, ap, ◌∙◌, refl}, specs.Prelude.{◌==◌}}
 use Rattle.board_face.specs.{declared.views.app.AppSide.{AppSide}, AppEvents.{app_gist}}
-use Rattle.ref_words.{specs.{FreeSteps.{side_word_looked}, Words.{free_at}, Rule.{BoardRule}}, proofs.AppNumbers.{word_looked-number}}
-use Rattle.word_board.{specs.Told.{SawFree}, proofs.{Telling.{tells-app}, Stepping.{loads}, FreeWords.{of-word}}}
+use Rattle.ref_words.{specs.{FreeSteps.{side_word_looked}, Words.{free_at}, Rule.{BoardRule}, Runs.{looks_word}}, proofs.AppNumbers.{word_looked-number}}
+use Rattle.word_board.{specs.Told.{SawFree}, proofs.{Telling.{tells-app}, Stepping.{app-may, loads}, FreeWords.{of-word}}}
 use Rattle.word_board.proofs.kinds.free.look_free_word.Goals as goal
 
-pub load-requires-clause-may : goal.load-requires-clause-may
-load-requires-clause-may c =
+pub step-requires-clause-may : goal.step-requires-clause-may
+step-requires-clause-may c = app-may (
     let setting = c.args.app.now.board.setting in
     let mine = c.args.app.now.side in
     let j = c.args.word in
@@ -14,10 +14,10 @@ load-requires-clause-may c =
     record {
       number = λ n. word_looked-number mine j (n == 0);
       step = λ ws nic apps rule here small.
-          let law = c.k20.ensures setting ws nic apps mine.view.app mine j rule here c.requires.within in (
+          let law = c.app_keeps_the_rule.ensures setting ws nic apps mine (looks_word j) rule here c.requires.within in (
             loads setting ws c.free-index.result
-                (of-word setting ws j c.free-index.result at c.requires.within rule (λ n. BoardRule setting ws nic (set apps mine.view.app (next n))) law),
+                (of-word setting ws j c.free-index.result at c.requires.within rule (λ n. BoardRule setting ws nic (set apps mine.view.app (next n))) law.rule),
             of-word setting ws j c.free-index.result at c.requires.within rule (SawFree setting (app_gist mine.view) j)
                 (tells-app setting ws nic apps mine rule here _ refl),
           );
-    }
+    })

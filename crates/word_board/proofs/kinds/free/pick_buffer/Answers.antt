@@ -2,12 +2,12 @@ use Rattle.std.{proofs.{Common.{◌≡◌, ℕ, ◌/◌, ◌%◌, ◌<◌, set, 
 use Rattle.std.proofs.lemmas.Nat.Bits.{shr_and_one}
 use Rattle.area_layout.specs.Layout.{pool_buffers}
 use Rattle.board_face.specs.{NicEvents.{word_bits}, declared.views.app.AppSide.{AppSide}, AppEvents.{app_gist}}
-use Rattle.ref_words.{specs.{FreeSteps.{side_bit_cleared}, Words.{free_at, with_unlisted}, Rule.{BoardRule}}, proofs.AppNumbers.{bit_cleared-number}}
-use Rattle.word_board.{specs.Told.{SawUnlisted}, proofs.{Telling.{tells-app}, FreeWords.{clears-bit, of-word}}}
+use Rattle.ref_words.{specs.{FreeSteps.{side_bit_cleared}, Words.{free_at, with_unlisted}, Rule.{BoardRule}, Runs.{clears_bit}}, proofs.AppNumbers.{bit_cleared-number}}
+use Rattle.word_board.{specs.Told.{SawUnlisted}, proofs.{Telling.{tells-app}, FreeWords.{clears-bit, of-word}, Stepping.{app-may}}}
 use Rattle.word_board.proofs.kinds.free.pick_buffer.Goals as goal
 
-pub and-found-requires-clause-may : goal.and-found-requires-clause-may
-and-found-requires-clause-may c =
+pub step-found-requires-clause-may : goal.step-found-requires-clause-may
+step-found-requires-clause-may c = app-may (
     let setting = c.args.app.now.board.setting in
     let mine = c.args.app.now.side in
     let b = c.args.buffer in
@@ -18,26 +18,27 @@ and-found-requires-clause-may c =
     record {
       number = λ n. bit_cleared-number mine (b / word_bits) b (bit_at n (b % word_bits) == 1);
       step = λ ws nic apps rule here small.
-          let law = c.k21.ensures setting ws nic apps mine.view.app mine b rule here c.requires.within c.requires.due c.requires.given in (
+          let law = c.app_keeps_the_rule.ensures setting ws nic apps mine (clears_bit b) rule here
+          (c.requires.within, c.requires.due, c.requires.given) in (
             clears-bit setting ws b c.free-word.result at c.requires.within rule
                 (of-word setting ws (b / word_bits) c.free-word.result at c.requires.within rule
                 (λ n. BoardRule setting (with_unlisted ws b) nic (set apps mine.view.app (next n))) law.rule),
             of-word setting ws (b / word_bits) c.free-word.result at c.requires.within rule here_told
-                ((λ one. law.of_pool (ap (λ x. x == 1) one)), (λ no. tells-app setting ws nic apps mine rule here _ no)),
+                ((λ one. law.finds (ap (λ x. x == 1) one)), (λ no. tells-app setting ws nic apps mine rule here _ no)),
           );
-    }
+    })
 
 pub returns-clause-event : goal.returns-clause-event
 returns-clause-event c =
     let b = c.args.buffer in
-    c.and-found.ensures.event
+    c.step-found.ensures.event
     ∙ ap (λ x. record c.args.app.now { side = side_bit_cleared c.args.app.now.side (b / word_bits) b (x == 1) })
-    (sym (shr_and_one c.and-found.result (b % word_bits)))
+    (sym (shr_and_one c.step-found.result (b % word_bits)))
 
 pub returns-clause-of_pool : goal.returns-clause-of_pool
 returns-clause-of_pool c = λ one.
-    c.and-found.ensures.told.0 (sym (shr_and_one c.and-found.result (c.args.buffer % word_bits)) ∙ eqb-true _ 1 one)
+    c.step-found.ensures.told.0 (sym (shr_and_one c.step-found.result (c.args.buffer % word_bits)) ∙ eqb-true _ 1 one)
 
 pub returns-clause-told : goal.returns-clause-told
 returns-clause-told c unseen =
-    c.and-found.ensures.told.1 (ap (λ x. x == 1) (sym (shr_and_one c.and-found.result (c.args.buffer % word_bits))) ∙ unseen)
+    c.step-found.ensures.told.1 (ap (λ x. x == 1) (sym (shr_and_one c.step-found.result (c.args.buffer % word_bits))) ∙ unseen)

@@ -1,11 +1,11 @@
 use Rattle.std.proofs.Common.{ℕ, ◌<◌, subst, arith}
 use Rattle.board_face.specs.{SlotSteps.{side_sent_linear}, declared.views.nic.NicSide.{NicSide}}
-use Rattle.ref_words.specs.Rings.{writes_note_at}
-use Rattle.word_board.proofs.Stepping.{stores-note}
+use Rattle.ref_words.specs.{Rings.{writes_note_at}, Runs.{sends_linear}}
+use Rattle.word_board.proofs.Stepping.{card-may, stores-note}
 use Rattle.word_board.proofs.kinds.notes.publish_linear.Goals as goal
 
-pub swap-requires-clause-may : goal.swap-requires-clause-may
-swap-requires-clause-may c ws apps rule small =
+pub step-requires-clause-may : goal.step-requires-clause-may
+step-requires-clause-may c = card-may (λ ws apps rule small.
     let setting = c.args.card.now.board.setting in
     let mine = c.args.card.now.side in
     let a = c.args.app in
@@ -14,6 +14,6 @@ swap-requires-clause-may c ws apps rule small =
     let within : s < setting.places = subst (λ k. k < setting.places) c.requires.next c.requires.within in
     let words_are = c.requires.words in
     let next : ℕ → NicSide = λ n. side_sent_linear mine a c.args.note c.args.bytes.now in
-    let law = c.k15_note.ensures.linear setting ws mine apps a c.args.note c.args.bytes.now rule c.requires.app c.requires.fields c.requires.bytes c.requires.seen
-    words_are c.requires.fits c.requires.running in
-    (stores-note setting ws a s i c.note-word.result (cc) c.requires.app within (omega arith) rule 1 law, tt)
+    let law = c.card_keeps_the_rule.ensures setting ws mine apps (sends_linear a c.args.note c.args.bytes.now) rule
+    (c.requires.app, c.requires.fields, c.requires.bytes, c.requires.seen, words_are, c.requires.fits, c.requires.running) in
+    (stores-note setting ws a s i c.note-word.result (cc) c.requires.app within (omega arith) rule 1 law.rule, tt))

@@ -1,12 +1,12 @@
 use Rattle.std.proofs.Common.{ℕ, ◌<◌, subst}
 use Rattle.board_face.specs.{SlotSteps.{side_note_stored}, declared.views.nic.NicSide.{NicSide}}
 use Rattle.word_rings.specs.Slots.{note_width}
-use Rattle.ref_words.specs.{Rings.{writes_note_at}, SlotLaws.{note_words_at}}
-use Rattle.word_board.proofs.Stepping.{stores-note}
+use Rattle.ref_words.specs.{Rings.{writes_note_at, note_words_at}, Runs.{stores_note}}
+use Rattle.word_board.proofs.Stepping.{card-may, stores-note}
 use Rattle.word_board.proofs.kinds.notes.store_note.Goals as goal
 
-pub swap-requires-clause-may : goal.swap-requires-clause-may
-swap-requires-clause-may c ws apps rule small =
+pub step-requires-clause-may : goal.step-requires-clause-may
+step-requires-clause-may c = card-may (λ ws apps rule small.
     let setting = c.args.card.now.board.setting in
     let mine = c.args.card.now.side in
     let a = c.args.app in
@@ -15,5 +15,5 @@ swap-requires-clause-may c ws apps rule small =
     let within : s < setting.places = subst (λ k. k < setting.places) c.requires.next c.requires.within in
     let more = subst (λ k. k < note_width) c.requires.so_far c.requires.more in
     let next : ℕ → NicSide = λ n. side_note_stored mine a c.args.n in
-    let law = c.k14.ensures.note setting ws mine apps a c.args.n rule c.requires.app c.requires.seen more in
-    (stores-note setting ws a s i c.note-word.result (cc) c.requires.app within more rule c.args.n law, tt)
+    let law = c.card_keeps_the_rule.ensures setting ws mine apps (stores_note a c.args.n) rule (c.requires.app, c.requires.seen, more) in
+    (stores-note setting ws a s i c.note-word.result (cc) c.requires.app within more rule c.args.n law.rule, tt))

@@ -1,10 +1,11 @@
 use Rattle.std.proofs.Common.{arith}
-use Rattle.word_board.proofs.PhaseSteps.{stores-phase}
+use Rattle.ref_words.specs.Runs.{ends}
+use Rattle.word_board.proofs.{PhaseSteps.{stores-phase}, Stepping.{card-may}}
 use Rattle.word_board.proofs.kinds.phases.end_card.Goals as goal
 
-pub swap-requires-clause-may : goal.swap-requires-clause-may
-swap-requires-clause-may c ws apps rule small =
+pub step-requires-clause-may : goal.step-requires-clause-may
+step-requires-clause-may c = card-may (λ ws apps rule small.
     let setting = c.args.card.now.board.setting in
     let mine = c.args.card.now.side in
-    let law = c.k22.ensures.card setting ws mine apps rule c.requires.none c.requires.idle in
-    (stores-phase setting ws 0 c.phase-word.result (cc) (omega arith) rule law, tt)
+    let law = c.card_keeps_the_rule.ensures setting ws mine apps ends rule (c.requires.none, c.requires.idle) in
+    (stores-phase setting ws 0 c.phase-word.result (cc) (omega arith) rule law.rule, tt))

@@ -1,11 +1,12 @@
 use Rattle.std.{proofs.Common.{ℕ, set, ap, sym, ◌∙◌, subst, ◌≡◌}, specs.Prelude.{◌==◌, false}}
 use Rattle.board_face.specs.declared.views.app.AppSide.{AppSide}
 use Rattle.ref_words.{specs.{PhaseSteps.{side_reserve_looked}, Rule.{BoardRule}, Words.{pool_at, pool_of}}, proofs.AppNumbers.{reserve_looked-number}}
-use Rattle.word_board.proofs.{Telling.{tells-app}, Stepping.{loads, of-count, found}}
+use Rattle.ref_words.specs.Runs.{looks_reserve}
+use Rattle.word_board.proofs.{Telling.{tells-app}, Stepping.{app-may, loads, of-count, found}}
 use Rattle.word_board.proofs.kinds.phases.look_reserve.Goals as goal
 
-pub load-requires-clause-may : goal.load-requires-clause-may
-load-requires-clause-may c =
+pub step-requires-clause-may : goal.step-requires-clause-may
+step-requires-clause-may c = app-may (
     let setting = c.args.app.now.board.setting in
     let mine = c.args.app.now.side in
     let a = mine.view.app in
@@ -15,10 +16,10 @@ load-requires-clause-may c =
       number = λ n. reserve_looked-number mine (n == 0);
       step = λ ws nic apps rule here small.
           let law = subst (λ b. BoardRule setting ws nic (set apps a (side_reserve_looked mine (pool_of ws b == 0)))) (sym c.requires.own)
-          (c.k24.ensures.looked setting ws nic apps mine rule here c.requires.searched) in (
+          (c.app_keeps_the_rule.ensures setting ws nic apps mine looks_reserve rule here c.requires.searched).rule in (
             loads setting ws c.pool-word.result
                 (of-count setting ws c.args.reserve c.pool-word.result at c.requires.within rule (λ n. BoardRule setting ws nic (set apps a (next n))) law),
             (λ no. tells-app setting ws nic apps mine rule here _ (subst (λ b. (pool_of ws b == 0) ≡ false) c.requires.own
                 (subst (λ n. (n == 0) ≡ false) (found setting ws c.args.reserve c.pool-word.result at c.requires.within rule) no))),
           );
-    }
+    })

@@ -1,11 +1,12 @@
 use Rattle.std.{proofs.Common.{◌≡◌, ℕ, ◌<◌, set, sym, subst, arith}, specs.Prelude.{◌==◌, false}}
 use Rattle.board_face.specs.declared.views.app.AppSide.{AppSide}
 use Rattle.ref_words.{specs.{PhaseSteps.{side_note_sought}, Words.{note_at}, Rings.{takes_note_at}, Rule.{BoardRule}}, proofs.AppNumbers.{note_sought-number}}
-use Rattle.word_board.proofs.{Telling.{tells-app}, Stepping.{loads, found-note}}
+use Rattle.ref_words.specs.Runs.{seeks_note}
+use Rattle.word_board.proofs.{Telling.{tells-app}, Stepping.{app-may, loads, found-note}}
 use Rattle.word_board.proofs.kinds.phases.seek_note.Goals as goal
 
-pub load-requires-clause-may : goal.load-requires-clause-may
-load-requires-clause-may c =
+pub step-requires-clause-may : goal.step-requires-clause-may
+step-requires-clause-may c = app-may (
     let setting = c.args.app.now.board.setting in
     let mine = c.args.app.now.side in
     let a = mine.view.app in
@@ -17,10 +18,10 @@ load-requires-clause-may c =
     record {
       number = λ n. note_sought-number mine (n == 1);
       step = λ ws nic apps rule here small.
-          let law = c.k16_end.ensures setting ws nic apps mine rule here in (
+          let law = c.app_keeps_the_rule.ensures setting ws nic apps mine seeks_note rule here tt in (
             loads setting ws c.note-word.result
                 (subst (λ n. BoardRule setting ws nic (set apps a (next n)))
-                (sym (found-note setting ws a s i c.note-word.result at c.number.ensures.here within (omega arith) rule)) law),
+                (sym (found-note setting ws a s i c.note-word.result at c.number.ensures.here within (omega arith) rule)) law.rule),
             (λ no. tells-app setting ws nic apps mine rule here _ (subst (λ n. (n == 1) ≡ false) (found-note setting ws a s i c.note-word.result at c.number.ensures.here within (omega arith) rule) no)),
           );
-    }
+    })

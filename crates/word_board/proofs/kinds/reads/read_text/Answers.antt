@@ -2,7 +2,7 @@ use Rattle.std.proofs.{Common.{◌≡◌, ℕ, ◌+◌, ◌-◌, ◌%◌, ◌≤
 use Rattle.std.proofs.lemmas.List.{length-append, length-take-le, length-drop}
 use borrow.Rule.Slice.PartMut.{put_mid}
 use Rattle.board_face.specs.{AppCalls.{ShowsCopy}, AppEvents.{loan_origin, has_read}, Sides.{app_at}}
-use Rattle.ref_words.{specs.{AreaLaws.{part_of}, AreaSteps.{side_loaded}}, proofs.TextsRead.{loaded-is}}
+use Rattle.ref_words.{specs.{AreaSteps.{part_of, side_loaded}}, proofs.TextsRead.{loaded-is}}
 use Rattle.word_board.specs.{Board.{TheApp}, Reads.{HasReadSoFar}}
 use Rattle.word_board.proofs.kinds.reads.read_text.Goals as goal
 

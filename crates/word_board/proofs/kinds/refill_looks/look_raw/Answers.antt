@@ -1,11 +1,11 @@
 use Rattle.std.{proofs.Common.{ℕ, set, sym, subst, arith, ◌≡◌}, specs.Prelude.{◌==◌, false}}
 use Rattle.board_face.specs.declared.views.app.AppSide.{AppSide}
-use Rattle.ref_words.{specs.{RestSteps.{side_raw_looked}, Words.{refill_at}, Rule.{BoardRule}}, proofs.AppNumbers.{raw_looked-number}}
-use Rattle.word_board.proofs.{Telling.{tells-app}, Stepping.{loads, found-refill}}
+use Rattle.ref_words.{specs.{RestSteps.{side_raw_looked}, Words.{refill_at}, Rule.{BoardRule}, Runs.{looks_raw}}, proofs.AppNumbers.{raw_looked-number}}
+use Rattle.word_board.proofs.{Telling.{tells-app}, Stepping.{app-may, loads, found-refill}}
 use Rattle.word_board.proofs.kinds.refill_looks.look_raw.Goals as goal
 
-pub load-requires-clause-may : goal.load-requires-clause-may
-load-requires-clause-may c =
+pub step-requires-clause-may : goal.step-requires-clause-may
+step-requires-clause-may c = app-may (
     let setting = c.args.app.now.board.setting in
     let mine = c.args.app.now.side in
     let a = mine.view.app in
@@ -15,10 +15,10 @@ load-requires-clause-may c =
     record {
       number = λ n. raw_looked-number mine (n == 0);
       step = λ ws nic apps rule here small.
-          let law = c.k13_raw.ensures setting ws nic apps mine s rule here c.requires.known in (
+          let law = c.app_keeps_the_rule.ensures setting ws nic apps mine (looks_raw s) rule here c.requires.known in (
             loads setting ws c.refill-word.result
                 (subst (λ n. BoardRule setting ws nic (set apps a (next n)))
-                (sym (found-refill setting ws a s 0 c.refill-word.result at c.number.ensures.here c.requires.within (omega arith) rule)) law),
+                (sym (found-refill setting ws a s 0 c.refill-word.result at c.number.ensures.here c.requires.within (omega arith) rule)) law.rule),
             (λ no. tells-app setting ws nic apps mine rule here _ (record { slot = s; last = (rule.refs.rings a mine here).refills.raw_slot s c.requires.known; in_use = (subst (λ n. (n == 0) ≡ false) (found-refill setting ws a s 0 c.refill-word.result at c.number.ensures.here c.requires.within (omega arith) rule) no) })),
           );
-    }
+    })

@@ -9,4 +9,4 @@ deal_as-requires-clause-splits c =
     let desk = c.args.desk.now in
     let setting = c.args.words.now.table.shared.key in
     subst (λ id. Splits (IsBoard setting) id desk.me.0 (dealt_out c.args.role desk.me.0) (due_view c.args.role)) (sym c.requires.first)
-    (deals c.k1.ensures setting c.args.role desk.me.0 c.requires.fresh)
+    (deals c.role_is_dealt.ensures setting c.args.role desk.me.0 c.requires.fresh)

@@ -9,5 +9,5 @@ join_seat-requires c =
       c.requires.other,
       c.requires.bare,
       (let wide = words.wide in omega arith),
-      together c.k2.ensures words.table.shared.key c.args.desk.now.id c.args.other.id c.args.desk.now.me.0 c.args.other.me.0 c.requires.due c.requires.dealt,
+      together c.seats_join.ensures words.table.shared.key c.args.desk.now.id c.args.other.id c.args.desk.now.me.0 c.args.other.me.0 c.requires.due c.requires.dealt,
     )

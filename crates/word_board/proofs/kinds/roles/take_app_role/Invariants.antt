@@ -3,5 +3,5 @@ use Rattle.board_face.specs.Opened.{new_app}
 use Rattle.ref_words.specs.Seated.{app_view}
 use Rattle.word_board.proofs.kinds.roles.take_app_role.Given as goal
 
-abbrev pub ghosts-swap_as : goal.ghosts-swap_as
-ghosts-swap_as a = record { after = λ _. app_view (new_app a.words.now.shared.key a.about); told = λ n. n ≡ 0 }
+abbrev pub ghosts-step_as : goal.ghosts-step_as
+ghosts-step_as a = record { after = λ _. app_view (new_app a.words.now.shared.key a.about); told = λ n. n ≡ 0 }

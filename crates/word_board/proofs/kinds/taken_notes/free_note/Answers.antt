@@ -1,11 +1,11 @@
 use Rattle.std.proofs.Common.{ℕ, ◌<◌, refl, subst, arith}
 use Rattle.board_face.specs.{SlotSteps.{side_took_note}, declared.views.app.AppSide.{AppSide}}
-use Rattle.ref_words.specs.{Rings.{takes_note_at}, SlotLaws.{loaded_note}}
-use Rattle.word_board.proofs.Stepping.{stores-note}
+use Rattle.ref_words.specs.{Rings.{takes_note_at, loaded_note}, Runs.{takes_note}}
+use Rattle.word_board.proofs.Stepping.{app-may, stores-note}
 use Rattle.word_board.proofs.kinds.taken_notes.free_note.Goals as goal
 
-pub swap-requires-clause-may : goal.swap-requires-clause-may
-swap-requires-clause-may c =
+pub step-requires-clause-may : goal.step-requires-clause-may
+step-requires-clause-may c = app-may (
     let setting = c.args.app.now.board.setting in
     let mine = c.args.app.now.side in
     let a = mine.view.app in
@@ -16,6 +16,7 @@ swap-requires-clause-may c =
     record {
       number = λ n. refl;
       step = λ ws nic apps rule here small.
-          let law = c.k17_note.ensures.split setting ws nic apps mine rule here c.requires.seen c.requires.enough c.requires.split in
-          (stores-note setting ws a s i c.note-word.result (cc) c.number.ensures.here within (omega arith) rule 0 law.1, law.0);
-    }
+          let law = c.app_keeps_the_rule.ensures setting ws nic apps mine takes_note rule here
+          (c.requires.seen, c.requires.enough, c.requires.split) in
+          (stores-note setting ws a s i c.note-word.result (cc) c.number.ensures.here within (omega arith) rule 0 law.rule, law.finds);
+    })

@@ -1,6 +1,6 @@
 use Rattle.std.proofs.Common.{rules, ◌++◌, take, min, ap, ◌∙◌}
 use Rattle.board_face.specs.SlotSteps.{seen_with, at_slot, side_took_linear}
-use Rattle.ref_words.specs.SlotLaws.{loaded_note, loaded_bytes}
+use Rattle.ref_words.specs.Rings.{loaded_note, loaded_bytes}
 use Rattle.word_board.{specs.Board.{TheApp}, proofs.NoteLoaded.{linear-taken}}
 use Rattle.word_board.proofs.kinds.taken_notes.take_full.Goals as goal
 

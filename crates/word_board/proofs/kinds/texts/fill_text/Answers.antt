@@ -1,7 +1,7 @@
 use Rattle.std.proofs.{Common.{◌≡◌, ℕ, ◌+◌, ◌-◌, ◌/◌, List, [], ◌∷◌, ◌++◌, length, take, get_or, ap, sym, ◌∙◌, arith, subst}, lemmas.List.{length-take-le, take_all}}
 use Rattle.board_face.specs.{AppEvents.{begin_place, filled}, AppCalls.{HasSpare}}
 use Rattle.word_rings.{specs.Texts.{text_count, text_words}, proofs.TextWords.{length-words_of}}
-use Rattle.ref_words.specs.{AreaLaws.{IsMadeThere}, AreaSteps.{made_words, side_spare_stored, side_spare_filled}}
+use Rattle.ref_words.specs.{AreaSteps.{IsMadeThere, made_words, side_spare_stored, side_spare_filled}}
 use Rattle.word_board.{specs.Board.{TheApp}, proofs.TextPlaced.{word-more, filling_with, made-there, made-is, made-more}}
 use Rattle.word_board.proofs.kinds.texts.fill_text.Goals as goal
 

@@ -1,14 +1,16 @@
 use Rattle.std.proofs.Common.{refl}
-use Rattle.word_board.proofs.{LoansOut.{loans-few}, Stepping.{raises-user}}
+use Rattle.ref_words.specs.Runs.{lends}
+use Rattle.word_board.proofs.{LoansOut.{loans-few}, Stepping.{app-may, raises-user}}
 use Rattle.word_board.proofs.kinds.users.lend_held.Goals as goal
 
-pub add-requires-clause-may : goal.add-requires-clause-may
-add-requires-clause-may c =
+pub step-requires-clause-may : goal.step-requires-clause-may
+step-requires-clause-may c = app-may (
     let setting = c.args.app.now.board.setting in
     let mine = c.args.app.now.side in
     record {
       number = λ n. refl;
       step = λ ws nic apps rule here small.
-          let law = c.k7.ensures.held setting ws nic apps mine.view.app mine c.args.place rule here c.requires.out c.requires.can c.requires.unbegun in
-          (raises-user setting ws mine.view.app c.args.place.buffer c.user-word.result (cc) c.number.ensures.here c.requires.within rule law.few law.rule, loans-few setting ws nic apps mine.view.app c.args.place.buffer mine rule here c.number.ensures.here c.requires.within law.few);
-    }
+          let law = c.app_keeps_the_rule.ensures setting ws nic apps mine (lends c.args.place) rule here
+          (c.requires.out, c.requires.can, c.requires.unbegun) in
+          (raises-user setting ws mine.view.app c.args.place.buffer c.user-word.result (cc) c.number.ensures.here c.requires.within rule law.finds law.rule, loans-few setting ws nic apps mine.view.app c.args.place.buffer mine rule here c.number.ensures.here c.requires.within law.finds);
+    })
