@@ -12,3 +12,4 @@ pub mod Letting
 pub mod Stages
 pub mod Streams
 pub mod Turns
+pub mod TurnMakes

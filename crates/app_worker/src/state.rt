@@ -1,9 +1,8 @@
 //! What an application keeps between its turns, and its turn.
-ghost use Rattle.std.specs.Prelude.{◌≡◌, ◌≢◌, false, true, ℕ, ◌+◌, ◌<◌, ◌≤◌, List, length, map, Option, IfOk};
-ghost use Rattle.board_face.specs.{AppCalls.{IsHere}, AppEvents.{app_gist}, Texts.{unsplit_bytes}, declared.views.app.AppView.{AppView}};
-ghost use Rattle.app_worker.specs.{declared.turn.{Why.{Why}, Turn.TheVariants.{Idle, Failed, Finished}}, Streams.{HasCounted}, State.{AppStands, app_steps, furthest}, Kept.{new_state, IsFresh, flow_bytes}, Moves.{CountsOn, reads_of, reserve_loans}, ReadWhole.{GivesRead}, Turns.{ScrubsIfQuiet, Turns, look_of}};
-ghost use Rattle.zr_kinds.specs.declared.{fault.Fault.TheVariants.{Write}, behaviour.Stopped.TheVariants.{No}};
-ghost use Rattle.flow_queues.specs.{Marks.{FramesStandTogether}, Shelves.{AreShelved, AreFronts}, Streams.{HasFronts, HasAll}, Totals.{bytes_of, lent_bytes}};
+ghost use Rattle.std.specs.Prelude.{◌≡◌, ℕ, ◌≤◌, List, Option, IfOk};
+ghost use Rattle.board_face.specs.{AppCalls.{IsHere}, AppEvents.{app_gist}, declared.views.app.AppView.{AppView}};
+ghost use Rattle.app_worker.specs.{declared.turn.{Why.{Why}, Turn.TheVariants.{Idle}}, State.{AppStands}, Kept.{new_state, IsFresh, flow_bytes}, Turns.{look_of}, TurnMakes.{TurnMakes, at_work}};
+ghost use Rattle.flow_queues.specs.{Shelves.{AreShelved}, Totals.{bytes_of}};
 
 use crate::reading::CHUNK;
 use crate::stack::{Stack, Stray};
@@ -147,51 +146,9 @@ pub fn app_turn<F: AppFace, T: Shelf>(
 ) -> Turn
     requires here { IsHere (F.seen face.old) }
     requires stands { AppStands st.old (F.seen face.old) }
-    ensures turns { Turns st.old st.new (F.seen face.old) (F.seen face.new)
-        (T.kept shelf.old) (T.kept shelf.new) (T.counts shelf.old).faults (T.counts shelf.new).faults result }
-    // Where the pieces of each frame stand together among the notes, what the shelf has of each flow since the first turn
-    // are the bytes at the first of the flow's marks: read through a loan of their note, or come with it.
-    ensures fronts { (first : ℕ → Option (List ℕ)) → FramesStandTogether (F.seen face.new).taken
-        → AreShelved first (T.kept shelf.new) st.new.flows (F.seen face.new)
-        → HasFronts first (T.kept shelf.new) (F.seen face.new) }
-    // Once the shelf has failed it may have some bytes more than are counted.
-    ensures failed { (first : ℕ → Option (List ℕ)) → FramesStandTogether (F.seen face.new).taken
-        → AreFronts first (T.kept shelf.new) st.new.flows (F.seen face.new)
-        → HasFronts first (T.kept shelf.new) (F.seen face.new) }
-    // As long as it hasn't failed, it has as many of each flow as are counted.
-    ensures counted { (first : ℕ → Option (List ℕ)) → AreShelved first (T.kept shelf.new) st.new.flows (F.seen face.new)
-        → HasCounted first (T.kept shelf.new) st.new.flows }
-    // It leaves with all of them, unless it was stopped.
-    ensures whole { (first : ℕ → Option (List ℕ)) → result ≡ Finished → st.new.stopped ≡ No
-        → FramesStandTogether (F.seen face.new).taken
-        → AreShelved first (T.kept shelf.new) st.new.flows (F.seen face.new)
-        → HasAll first (T.kept shelf.new) (F.seen face.new) }
-    // It goes no further than the notes that were taken, their bytes, and the entries that may follow each, let it.
-    ensures within { app_steps st.new (F.seen face.new) ≤ furthest st.new.how.stray (F.seen face.new) }
-    // Where a loan was read, all that it may keep stays unread, unless no note comes any more, or a loan in the reserve comes
-    // between.
-    ensures keeps { st.old.flush ≡ false → st.new.bare ≡ false → st.new.ended ≡ false
-        → reserve_loans (F.seen face.new) ≡ reserve_loans (F.seen face.old)
-        → reads_of st.old (F.seen face.old) < reads_of st.new (F.seen face.new) → st.new.how.hold ≤ length st.new.unread }
-    // At most as many loans were copies as were lent.
-    ensures copies { st.new.copied ≤ st.new.loans }
-    // Each copy is for a byte that came in a note.
-    ensures copied { st.new.copied ≤ unsplit_bytes (map (λ t. t.note) (F.seen face.new).taken) }
-    // It never counts more bytes as written than it was lent, whatever stops it.
-    ensures lent { st.new.written ≤ lent_bytes (F.seen face.new) }
-    // Whatever stops it, each loan that an entry gave back was read whole: the bytes at its marks.
-    ensures given_whole { GivesRead (F.seen face.new) }
-    // One that came to its end without being stopped has written at least as many bytes as loans.
-    ensures counts { st.new.bare ≡ true → st.new.stopped ≡ No → st.new.loans ≤ st.new.written }
-    // One that was stopped and hadn't scrubbed has, or it saw a refill slot in use.
-    ensures scrubs { st.old.stopped ≢ No → ScrubsIfQuiet (F.seen face.old) (F.seen face.new) }
+    ensures makes { TurnMakes T.kept T.counts (at_work st.old (F.seen face.old) shelf.old) (at_work st.new (F.seen face.new) shelf.new) result }
     // What it saw is so, on a board for one thread.
     ensures told { (why : Why) → result ≡ Idle why → F.tells (look_of why) (app_gist (F.seen face.new)) (F.beside face.new) }
-    ensures later { (T.counts shelf.old).faults ≤ (T.counts shelf.new).faults }
-    // No call of the shelf failed where that didn't stop it in this turn, and what is written is what the appends took that went
-    // well.
-    ensures still { result ≢ Failed Write → (T.counts shelf.new).faults ≡ (T.counts shelf.old).faults }
-    ensures appended { CountsOn st.old.written st.new.written (T.counts shelf.old).appended (T.counts shelf.new).appended }
     ensures beside { F.beside face.new ≡ F.beside face.old }
 {
     turn(alloc, face, &mut st.stack, shelf)

@@ -9,6 +9,13 @@ use Rattle.run_account.specs.{Ran.{TellsOf, Told, told_of}, Running.{AreNew, Are
 use Rattle.replay_turns.specs.{Events.{room_of}, Schedule.{role_of}, declared.role.Role.{Role, TheVariants.{Card, App}}}
 use Rattle.zr_io.specs.Moved.{ShelfCounts}
 
+-- Nothing of a board but an application's side moved, and what its log has.
+pub record OnlyAppMoved (app : ℕ) (was now : Board) : Type 0 where
+  pub card : now.nic ≡ was.nic
+  pub others : (b : ℕ) → b ≢ app → side_of now b ≡ side_of was b
+  pub many : length now.apps ≡ length was.apps
+  pub room : now.log.room ≡ was.log.room
+
 -- A run between two turns.
 pub record Moment (S T : Type 0) : Type 0 where
   pub source : S

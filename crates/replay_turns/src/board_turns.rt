@@ -1,13 +1,12 @@
 //! Turns at the board for one thread: it goes into a role's hands for a turn, and back.
 
-ghost use Rattle.std.specs.Prelude.{◌≡◌, ◌≢◌, ℕ, ◌<◌, ◌≤◌, List, length, Option, MatchBool, false, true};
-ghost use Rattle.zr_kinds.specs.declared.{behaviour.Stopped.TheVariants.{No}, fault.Fault.TheVariants.{Write}};
+ghost use Rattle.std.specs.Prelude.{◌≡◌, ℕ, ◌<◌, ◌≤◌, List, MatchBool};
 ghost use Rattle.board_face.specs.{AppCalls.{IsHere}, AppEvents.{app_gist}};
 ghost use Rattle.plain_board.specs.{Board.{stand_of, side_of, others_of}, Seen.{IsSeenBy, IsSeenByCard}, Sound.{IsSound}};
-ghost use Rattle.app_worker.specs.{Marks.{FramesStandTogether}, Moves.{CountsOn, reads_of, reserve_loans}, State.{AppStands, app_steps, furthest}, Turns.{Turns, look_of}, declared.turn.{Turn.TheVariants.{Idle, Failed, Finished}, Why.{Why}}};
-ghost use Rattle.flow_queues.specs.{Shelves.{AreShelved, AreFronts}, Streams.{HasFronts, HasAll}};
+ghost use Rattle.app_worker.specs.{State.{AppStands}, TurnMakes.{TurnMakes, at_work}, Turns.{look_of}, declared.turn.{Turn.TheVariants.{Idle}, Why.{Why}}};
 ghost use Rattle.card_feed.specs.{Feed.{IsReady, FeedKnows, FeedStands, WantsRecord, feed_steps}, Turns.{FeedSteps, FeedTurns, IsIdle}};
 ghost use Rattle.card_feed.specs.declared.arrived.Arrived.TheVariants.{Nothing};
+ghost use Rattle.replay_turns.specs.Following.{OnlyAppMoved};
 
 use app_worker::{AppState, Turn, app_turn};
 use card_feed::{Arrived, Feed, nic_step, nic_turn};
@@ -73,44 +72,12 @@ pub(crate) fn app_step<T: Shelf>(
     requires app { app < board.arrays.layout.reserves }
     requires here { IsHere (side_of board app).view }
     requires stands { AppStands st.old (side_of board app).view }
-    ensures stands { AppStands st.new (side_of result.0 app).view }
-    ensures here { result.1 ≢ Finished → IsHere (side_of result.0 app).view }
-    ensures turns { Turns st.old st.new (side_of board app).view (side_of result.0 app).view
-        (T.kept shelf.old) (T.kept shelf.new) (T.counts shelf.old).faults (T.counts shelf.new).faults result.1 }
-    // Where the pieces of each frame stand together among the notes, what the shelf has of each flow since the first turn
-    // are the bytes at the first of the flow's marks.
-    ensures fronts { (first : ℕ → Option (List ℕ)) → FramesStandTogether (side_of result.0 app).view.taken
-        → AreShelved first (T.kept shelf.new) st.new.flows (side_of result.0 app).view
-        → HasFronts first (T.kept shelf.new) (side_of result.0 app).view }
-    // Once the shelf has failed it may have some bytes more than are counted.
-    ensures failed { (first : ℕ → Option (List ℕ)) → FramesStandTogether (side_of result.0 app).view.taken
-        → AreFronts first (T.kept shelf.new) st.new.flows (side_of result.0 app).view
-        → HasFronts first (T.kept shelf.new) (side_of result.0 app).view }
-    // It leaves with all of them, unless it was stopped.
-    ensures whole { (first : ℕ → Option (List ℕ)) → result.1 ≡ Finished → st.new.stopped ≡ No
-        → FramesStandTogether (side_of result.0 app).view.taken
-        → AreShelved first (T.kept shelf.new) st.new.flows (side_of result.0 app).view
-        → HasAll first (T.kept shelf.new) (side_of result.0 app).view }
-    // It goes no further than the notes that were taken, their bytes, and the entries that may follow each, let it.
-    ensures within { app_steps st.new (side_of result.0 app).view ≤ furthest st.new.how.stray (side_of result.0 app).view }
-    // Where a loan was read, all that it may keep stays unread, unless no note comes any more, or a loan in the reserve comes
-    // between.
-    ensures keeps { st.old.flush ≡ false → st.new.bare ≡ false → st.new.ended ≡ false
-        → reserve_loans (side_of result.0 app).view ≡ reserve_loans (side_of board app).view
-        → reads_of st.old (side_of board app).view < reads_of st.new (side_of result.0 app).view
-        → st.new.how.hold ≤ length st.new.unread }
-    ensures copies { st.new.copied ≤ st.new.loans }
-    ensures counts { st.new.bare ≡ true → st.new.stopped ≡ No → st.new.loans ≤ st.new.written }
-    ensures later { (T.counts shelf.old).faults ≤ (T.counts shelf.new).faults }
-    ensures still { result.1 ≢ Failed Write → (T.counts shelf.new).faults ≡ (T.counts shelf.old).faults }
-    ensures appended { CountsOn st.old.written st.new.written (T.counts shelf.old).appended (T.counts shelf.new).appended }
+    ensures makes { TurnMakes T.kept T.counts (at_work st.old (side_of board app).view shelf.old)
+        (at_work st.new (side_of result.0 app).view shelf.new) result.1 }
     // Why it did nothing is so.
     ensures told { (why : Why) → result.1 ≡ Idle why
         → IsSeenBy (look_of why) (app_gist (side_of result.0 app).view) (others_of result.0 app) }
-    ensures card { result.0.nic ≡ board.nic }
-    ensures others { (b : ℕ) → b ≢ app → side_of result.0 b ≡ side_of board b }
-    ensures many { length result.0.apps ≡ length board.apps }
-    ensures room { result.0.log.room ≡ board.log.room }
+    ensures only { OnlyAppMoved app board result.0 }
     ensures sound { IsSound (stand_of result.0) }
 {
     let mut face = board.app(app);

@@ -4,5 +4,5 @@ use Rattle.app_runs.proofs.worker.app_part.Goals as goal
 
 pub returns-clause-gone : goal.returns-clause-gone
 returns-clause-gone c finished =
-    let said = rw finished at c.app_turn-turn.ensures.turns.answer in
+    let said = rw finished at c.app_turn-turn.ensures.makes.turns.answer in
     search (rules, said.1)

@@ -35,6 +35,9 @@ app_step-board-requires-clause-stands g c =
 pub returns : goal.returns
 returns g c =
     let step = c.app_step-board.ensures in
+    let makes = step.makes in
+    let turns = makes.turns in
+    let only = step.only in
     let board = c.args.board in
     let board_now = c.app_step-board.result.0 in
     let old = (side_of board c.args.app).view in
@@ -65,40 +68,42 @@ returns g c =
     let here : w_was.left ≡ false =
     let there = slice_get_read c.args.run.now.workers.items _ c.args.app c.index.result.now refl c.requires.app c.index.ensures in
     let same : w_was ≡ c.index.result.now = cc in ap (λ (w : Worker). w.left) same ∙ c.if-index.false in
+    let is_here = (c.requires.fits.roles.worker c.args.app c.index.result.now
+    (slice_get_read c.args.run.now.workers.items _ c.args.app c.index.result.now refl c.requires.app c.index.ensures)).here c.if-index.false in
     let run_now : Run = record { feed = c.args.run.now.feed; workers = with_item c.args.run.now.workers c.args.app w_now } in
     let says : Bool → Type 0 = λ did. MatchBool did (run_steps board c.args.run.now < run_steps board_now run_now)
     (DidNothing (App c.args.app) board board_now c.args.run.now run_now) in
     let finished = λ (left : w_now.left ≡ true). subst
-    (λ turn. Answers w_was.state w_now.state old new (g.T.Shelf.counts shelf).faults (g.T.Shelf.counts shelf_now).faults turn) (is_left left) step.turns.answer in
+    (λ turn. Answers w_was.state w_now.state old new (g.T.Shelf.counts shelf).faults (g.T.Shelf.counts shelf_now).faults turn) (is_left left) turns.answer in
     record {
       plays = λ source. record {
         fits = subst (λ n. RunFits board_now run_now n) (sym (length-set c.args.shelves.now c.args.app shelf_now))
-            (app-fits board board_now c.args.run.now run_now c.args.app w_was w_now is_was refl refl step.card step.others step.many step.sound
+            (app-fits board board_now c.args.run.now run_now c.args.app w_was w_now is_was refl refl only.card only.others only.many step.sound
             (length c.args.shelves.now) c.requires.fits
-            (record { stands = step.stands; here = λ left. step.here (not_left left); gone = λ left. ((finished left).1, (finished left).2) }));
+            (record { stands = turns.stands; here = λ left. turns.here (not_left left) ∙ is_here; gone = λ left. ((finished left).1, (finished left).2) }));
         workers = length-set c.args.run.now.workers.items c.args.app w_now;
         many = length-set c.args.shelves.now c.args.app shelf_now;
-        room = step.room;
+        room = only.room;
         runs = λ first firsts plan runs.
-            app-runs board board_now c.args.run.now run_now c.args.app w_was w_now is_was refl refl step.card step.others step.many step.sound
+            app-runs board board_now c.args.run.now run_now c.args.app w_was w_now is_was refl refl only.card only.others only.many step.sound
             g.S.Source.left g.S.Source.faults g.T.Shelf.kept g.T.Shelf.counts first source firsts c.args.shelves.now plan
             shelf shelf_now shelf_is runs
             (λ was_goes. record {
               runs = goes-on (kept_in g.T.Shelf.kept firsts c.args.app) (g.T.Shelf.kept shelf) (g.T.Shelf.kept shelf_now)
                   (losses_in g.T.Shelf.counts firsts c.args.app) (g.T.Shelf.counts shelf) (g.T.Shelf.counts shelf_now) plan.how old new w_was w_now
-                  c.app_step-board.result.1 was_goes.runs step.turns step.later is_left
-                  (record { fronts = step.fronts _; failed = step.failed _; whole = step.whole _; copies = step.copies; counts = step.counts })
-                  (λ left. (finished left).2) step.still step.appended;
-              came = (was_goes.came.0, was_goes.came.1, was_goes.came.2, behind _ _ was_goes.came.3 (c.app_step-board.result.1, step.turns));
+                  c.app_step-board.result.1 was_goes.runs turns makes.went.later is_left
+                  (record { fronts = makes.shows.fronts _; failed = makes.shows.failed _; whole = makes.shows.whole _; copies = makes.right.copies; counts = makes.right.counts })
+                  (λ left. (finished left).2) makes.went.still makes.went.appended;
+              came = (was_goes.came.0, was_goes.came.1, was_goes.came.2, behind _ _ was_goes.came.3 (c.app_step-board.result.1, turns));
             });
       };
       answer = elim c.match-matches-2.branch [
         | in-Idle w ↦ subst (λ is. says (not is)) (sym w.matches-is)
-            (app-idles board board_now c.args.run.now run_now c.args.app w_was w_now is_was refl refl step.card step.others
-            _ _ _ _ c.app_step-board.result.1 step.turns here is_left _ w.in-Idle.is (step.told _ w.in-Idle.is))
+            (app-idles board board_now c.args.run.now run_now c.args.app w_was w_now is_was refl refl only.card only.others
+            _ _ _ _ c.app_step-board.result.1 turns here is_left _ w.in-Idle.is (step.told _ w.in-Idle.is))
         | in_default-matches w ↦ subst (λ is. says (not is)) (sym w.matches-is)
-            (app-rises board board_now c.args.run.now run_now c.args.app w_was w_now is_was refl refl step.card step.others
-            ((turns-rise w_was w_now old new _ _ _ _ c.app_step-board.result.1 step.turns here is_gone).1 w.in_default-matches.not-Idle))
+            (app-rises board board_now c.args.run.now run_now c.args.app w_was w_now is_was refl refl only.card only.others
+            ((turns-rise w_was w_now old new _ _ _ _ c.app_step-board.result.1 turns here is_gone).1 w.in_default-matches.not-Idle))
       ];
       moves = λ source. (
         w_was,
@@ -111,7 +116,7 @@ returns g c =
             shelf_now = shelf_now;
             shelf_at = shelf_is;
             answer = c.app_step-board.result.1;
-            turns = step.turns;
+            turns = turns;
             seen = step.told;
             leaves = is_gone;
             stays = stays;
@@ -119,9 +124,9 @@ returns g c =
             shelves = refl;
             feed = refl;
             source = refl;
-            card = step.card;
-            others = step.others;
-            many = step.many;
+            card = only.card;
+            others = only.others;
+            many = only.many;
             sound = step.sound;
           },
         ),
