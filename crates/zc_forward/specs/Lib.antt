@@ -1,6 +1,7 @@
 pub mod Carriage
 pub mod Tags
 pub mod Sending
+pub mod Carrying
 pub mod OutboxOf
 pub mod Forwarding
 pub mod Asking

@@ -1,11 +1,10 @@
 //! A loan is handed to a carrier, and loans are given up.
-ghost use Rattle.std.specs.{Prelude.{◌≡◌, ◌≢◌, ◌<◌, ◌≤◌, ℕ, List, [], ◌∷◌, ◌++◌, length, nat_eq, None, Some, true}, Map.{lookup}, Io.KnownBytes.{Keeps}};
+ghost use Rattle.std.specs.{Prelude.{◌≡◌, ◌<◌, ℕ, List, [], ◌∷◌, ◌++◌, length, nat_eq, None, Some}, Map.{lookup}};
 ghost use Rattle.zr_kinds.specs.declared.{place.Place.{Place}, behaviour.Stopped.TheVariants.{Write}};
-ghost use Rattle.zr_io.specs.Moved.{Gained, Rose, raised_by};
-ghost use Rattle.board_face.specs.{AppCalls.{HasLoan}, declared.views.app.{LentPiece.{LentPiece}, AppView.{AppView}}};
-ghost use Rattle.flow_queues.specs.{declared.queues.Lending.{Lending}, Core.{total, IsIn, lent_piece, OnlyReads, IsReadOf}};
+ghost use Rattle.board_face.specs.{AppCalls.{HasLoan}, declared.views.app.LentPiece.{LentPiece}};
+ghost use Rattle.flow_queues.specs.Core.{total};
 ghost use Rattle.zc_poll.specs.{Standing.{StreamStands, stopped_with}, Items.{Given, HasGiven}};
-ghost use Rattle.zc_forward.specs.{Sending.{of_sent}, Tags.{FlowsKeep}, GivenUp.{GaveAllUp, GaveUp}};
+ghost use Rattle.zc_forward.specs.{Carrying.{Carries, carrying}, Sending.{of_sent}, Tags.{FlowsKeep}, GivenUp.{GaveAllUp, GaveUp}};
 
 use crate::carrier::Carrier;
 use crate::outbox::Outbox;
@@ -29,19 +28,9 @@ fn carry_loan<F: AppFace, C: Carrier>(
     requires begun { lookup (nat_eq sent.now.tag) (C.tags carrier.old) ≡ Some sent.now.flow }
     ensures stands { StreamStands stream.new.desk (F.seen stream.new.face) }
     ensures desk { stream.new.desk ≡ stream.old.desk }
-    ensures only { OnlyReads (F.seen stream.old.face) (F.seen stream.new.face) }
-    ensures counted { result ≤ sent.now.loan.len }
-    ensures gained { (lending : Lending) → lending.loan ≡ sent.now.loan → lending.note < length (F.seen stream.old.face).taken
-        → IsIn (lent_piece (F.seen stream.old.face).taken lending) (F.seen stream.old.face).loans
-        → Gained (C.got carrier.old sent.now.flow) (C.got carrier.new sent.now.flow)
-        (λ (read : List ℕ). IsReadOf (F.seen stream.old.face).taken (F.seen stream.new.face).reads lending result sent.now.loan.len read) }
-    ensures others { (other : ℕ) → other ≢ sent.now.flow → Keeps (C.got carrier.old other) (C.got carrier.new other) }
+    ensures carries { let seen = carrying C.got C.counts C.pace in
+        Carries (F.seen stream.old.face) (F.seen stream.new.face) (seen carrier.old) (seen carrier.new) sent.now result }
     ensures tags { C.tags carrier.new ≡ C.tags carrier.old }
-    ensures later { (C.counts carrier.old).faults ≤ (C.counts carrier.new).faults }
-    ensures still { result ≡ sent.now.loan.len → (C.counts carrier.new).faults ≡ (C.counts carrier.old).faults }
-    ensures cause { result < sent.now.loan.len → Rose (C.counts carrier.old).faults (C.counts carrier.new).faults }
-    ensures appended { (C.counts carrier.new).appended ≡ raised_by (C.counts carrier.old).appended result }
-    ensures pace { C.pace carrier.new ≡ C.pace carrier.old }
     ensures beside { F.beside stream.new.face ≡ F.beside stream.old.face }
 {
     let mut chunk = [0; CHUNK];
@@ -68,19 +57,9 @@ pub fn send<F: AppFace, C: Carrier>(stream: &mut LoanStream<F>, carrier: &mut C,
     requires few { length (C.tags carrier.old) < 64 }
     ensures stands { StreamStands stream.new.desk (F.seen stream.new.face) }
     ensures desk { stream.new.desk ≡ stream.old.desk }
-    ensures only { OnlyReads (F.seen stream.old.face) (F.seen stream.new.face) }
-    ensures counted { result ≤ sent.now.loan.len }
-    ensures gained { (lending : Lending) → lending.loan ≡ sent.now.loan → lending.note < length (F.seen stream.old.face).taken
-        → IsIn (lent_piece (F.seen stream.old.face).taken lending) (F.seen stream.old.face).loans
-        → Gained (C.got carrier.old sent.now.flow) (C.got carrier.new sent.now.flow)
-        (λ (read : List ℕ). IsReadOf (F.seen stream.old.face).taken (F.seen stream.new.face).reads lending result sent.now.loan.len read) }
-    ensures others { (other : ℕ) → other ≢ sent.now.flow → Keeps (C.got carrier.old other) (C.got carrier.new other) }
+    ensures carries { let seen = carrying C.got C.counts C.pace in
+        Carries (F.seen stream.old.face) (F.seen stream.new.face) (seen carrier.old) (seen carrier.new) sent.now result }
     ensures tags { result ≡ sent.now.loan.len → C.tags carrier.new ≡ C.tags carrier.old ++ (sent.now.tag, sent.now.flow) ∷ [] }
-    ensures later { (C.counts carrier.old).faults ≤ (C.counts carrier.new).faults }
-    ensures still { result ≡ sent.now.loan.len → (C.counts carrier.new).faults ≡ (C.counts carrier.old).faults }
-    ensures cause { result < sent.now.loan.len → Rose (C.counts carrier.old).faults (C.counts carrier.new).faults }
-    ensures appended { (C.counts carrier.new).appended ≡ raised_by (C.counts carrier.old).appended result }
-    ensures pace { C.pace carrier.new ≡ C.pace carrier.old }
     ensures beside { F.beside stream.new.face ≡ F.beside stream.old.face }
 {
     if carrier.begin(sent.tag, sent.flow).is_err() {

@@ -6,13 +6,8 @@ use Rattle.flow_queues.{proofs.ReadLemmas.{IsReadTo, read-of, still-out}, specs.
 use Rattle.zc_poll.proofs.Appending.{read-more, one-more-at, some-more-at}
 use Rattle.zc_forward.proofs.carrying.carry_loan.Goals as goal
 
-pub returns-then-is_err-clause-only : goal.returns-then-is_err-clause-only
-returns-then-is_err-clause-only g c =
-    read-more (g.F.AppFace.seen c.args.stream.now.face) (g.F.AppFace.seen c.loop-done.stream.face) (g.F.AppFace.seen c.read.new.self.face)
-    c.args.sent.now.loan c.loop-done.done c.read.new.into c.loop-done.invariant.5 c.read.ensures.view
-
-pub returns-then-is_err-clause-gained : goal.returns-then-is_err-clause-gained
-returns-then-is_err-clause-gained g c =
+pub returns-then-is_err-clause-carries : goal.returns-then-is_err-clause-carries
+returns-then-is_err-clause-carries g c =
     let v0 : AppView = g.F.AppFace.seen c.args.stream.now.face in
     let v : AppView = g.F.AppFace.seen c.loop-done.stream.face in
     let w : AppView = g.F.AppFace.seen c.read.new.self.face in
@@ -28,10 +23,20 @@ returns-then-is_err-clause-gained g c =
     let bytes : AddsPiece before after c.carry.result c.read.new.into =
     subst (λ (o : Option ℕ). IfSome o (λ flow. AddsPiece (g.C.Carrier.got c.loop-done.carrier flow) (g.C.Carrier.got c.carry.new.self flow) c.carry.result c.read.new.into)) known c.carry.ensures.bytes in
     let added : (n : ℕ) × Appends before after (take n c.read.new.into) = search rules in
-    λ lending same known out.
-    some-more-at v0.taken first before after v w inv.3.common.apart c.args.sent.now.loan c.loop-done.done c.read.new.into c.read.ensures.copied
-    c.read.ensures.view lending same (still-out v0 v (lent_piece v0.taken lending) inv.5 out) known (inv.6 lending same known out) added.0 fits
-    (omega (arith, size, n)) added.1
+    record {
+      only = read-more v0 v w c.args.sent.now.loan c.loop-done.done c.read.new.into inv.5 c.read.ensures.view;
+      counted = search rules;
+      gained = λ lending same known out.
+          some-more-at v0.taken first before after v w inv.3.common.apart c.args.sent.now.loan c.loop-done.done c.read.new.into c.read.ensures.copied
+          c.read.ensures.view lending same (still-out v0 v (lent_piece v0.taken lending) inv.5 out) known (inv.6 lending same known out) added.0 fits
+          (omega (arith, size, n)) added.1;
+      others = search rules;
+      later = search rules;
+      still = search rules;
+      cause = search rules;
+      appended = search rules;
+      pace = search rules;
+    }
 
 pub loop-done-preserved : goal.loop-done-preserved
 loop-done-preserved g c =
@@ -72,12 +77,22 @@ loop-done-preserved g c =
       omega (arith, counted, inv.12, size),
     )
 
-pub returns-clause-gained : goal.returns-clause-gained
-returns-clause-gained g c =
+pub returns-clause-carries : goal.returns-clause-carries
+returns-clause-carries g c =
     let v0 : AppView = g.F.AppFace.seen c.args.stream.now.face in
     let v : AppView = g.F.AppFace.seen c.loop-done.stream.face in
     let inv = c.loop-done.invariant in
-    λ lending same known out. Gained-weaker _ _ (IsReadTo v0.taken v.reads lending c.loop-done.done)
-    (IsReadOf v0.taken v.reads lending c.loop-done.done c.args.sent.now.loan.len)
-    (λ bytes is. read-of v0.taken v.reads lending c.loop-done.done c.args.sent.now.loan.len bytes (omega (arith, inv.0, inv.1)) is)
-    (inv.6 lending same known out)
+    record {
+      only = inv.5;
+      counted = search rules;
+      gained = λ lending same known out. Gained-weaker _ _ (IsReadTo v0.taken v.reads lending c.loop-done.done)
+          (IsReadOf v0.taken v.reads lending c.loop-done.done c.args.sent.now.loan.len)
+          (λ bytes is. read-of v0.taken v.reads lending c.loop-done.done c.args.sent.now.loan.len bytes (omega (arith, inv.0, inv.1)) is)
+          (inv.6 lending same known out);
+      others = inv.7;
+      later = search rules;
+      still = λ all. inv.8;
+      cause = search rules;
+      appended = search rules;
+      pace = inv.11;
+    }

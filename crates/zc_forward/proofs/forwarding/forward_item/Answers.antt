@@ -46,7 +46,8 @@ returns-then-is_err-clause-had g c = λ st v pace later item only.
 
 pub returns-then-done-len-clause-had : goal.returns-then-done-len-clause-had
 returns-then-done-len-clause-had g c = λ st v pace later item only.
-    let read = c.send-done.ensures in
+    let call = c.send-done.ensures in
+    let read = call.carries in
     let gone = c.fail.ensures in
     let desk : Desk = c.args.stream.now.desk in
     let uncarried = gone.work.2 ∙ c.room_for.ensures.beside.1 in
@@ -63,14 +64,15 @@ returns-then-done-len-clause-had g c = λ st v pace later item only.
       read = g.F.AppFace.seen c.send-done.new.stream.face;
       reads = read.only;
       went = inr (
-        subst (λ (d : Desk). c.fail.new.stream.desk ≡ stopped_with d c.fail.new.stream.desk.flows) read.desk gone.stopped,
+        subst (λ (d : Desk). c.fail.new.stream.desk ≡ stopped_with d c.fail.new.stream.desk.flows) call.desk gone.stopped,
         inr (gone.gave_up, gone.tags, rw (gone.work.1, uncarried, pressed) refl, ap (λ (t : TallyState). t.stopped) (ap tally_of gone.work.0)),
       );
     }
 
 pub returns-else-done-len-clause-had : goal.returns-else-done-len-clause-had
 returns-else-done-len-clause-had g c = λ st v pace later item only.
-    let read = c.send-done.ensures in
+    let call = c.send-done.ensures in
+    let read = call.carries in
     let full : c.send-done.result ≡ c.args.lent.loan.len = search rules in
     let sent : Sent = record { tag = c.free_tag.result; flow = c.args.lent.flow; loan = c.args.lent.loan } in
     let out : c.push_reserved.new.self.items ≡ c.args.work.now.out.items ++ sent ∷ [] =
@@ -88,11 +90,11 @@ returns-else-done-len-clause-had g c = λ st v pace later item only.
       read = g.F.AppFace.seen c.send-done.new.stream.face;
       reads = read.only;
       went = inl (
-        read.desk,
+        call.desk,
         refl,
         c.free_tag.result,
         free,
-        read.tags full,
+        call.tags full,
         rw (out, c.room_for.ensures.beside.1, c.room_for.ensures.beside.2) refl,
         ap (λ (t : TallyState). t.stopped) (ap tally_of c.count.ensures.same)
             ∙ ap (λ (t : TallyState). t.stopped) (ap tally_of c.room_for.ensures.same) ∙ ap (λ (t : TallyState). t.stopped) c.count_item.ensures.tally,
@@ -104,7 +106,7 @@ fail-requires-clause-loans g c = λ f.
     let sent : Sent = record { tag = c.free_tag.result; flow = c.args.lent.flow; loan = c.args.lent.loan } in
     let out : c.push_reserved.new.self.items ≡ c.args.work.now.out.items ++ sent ∷ [] =
     c.push_reserved.ensures.items ∙ ap (λ ss. ss ++ sent ∷ []) c.room_for.ensures.beside.0 in
-    ap (λ (k : AppView). total (λ (l : LentPiece). f l.place) k.loans) c.send-done.ensures.only.view ∙ c.requires.loans.1 f
+    ap (λ (k : AppView). total (λ (l : LentPiece). f l.place) k.loans) c.send-done.ensures.carries.only.view ∙ c.requires.loans.1 f
     ∙ sym (ap (of_sent f) out ∙ pushed-sum f c.args.work.now.out.items sent)
 
 pub returns-then-done-len-clause-gives : goal.returns-then-done-len-clause-gives
@@ -115,7 +117,8 @@ returns-then-done-len-clause-gives g c =
     let adds : AddsTo c.args.lent.flow 0 c.args.work.now.tally.counts.entries c.room_for.new.work.tally.counts.entries =
     subst (λ es. AddsTo c.args.lent.flow 0 es c.room_for.new.work.tally.counts.entries) (ap (λ (t : TallyState). t.counts) c.count_item.ensures.tally)
     c.room_for.ensures.none in
-    let read = c.send-done.ensures in
+    let call = c.send-done.ensures in
+    let read = call.carries in
     let gone = c.fail.ensures in
     let part : c.send-done.result < c.args.lent.loan.len = search rules in
     let y : AppView = g.F.AppFace.seen c.send-done.new.stream.face in
@@ -129,9 +132,9 @@ returns-then-done-len-clause-gives g c =
     read.counted read.gained read.others (ap tally_of c.count.ensures.same) c.count.ensures.adds c.count.ensures.many (g.C.Carrier.got c.fail.new.carrier)
     (g.C.Carrier.counts c.send-done.new.carrier) gone.gave_up.0 (g.F.AppFace.seen c.fail.new.stream.face) c.fail.new.stream.desk (outbox_of c.fail.new.work)
     gone.got gone.gave_up.1 gone.gave_up.3 gone.none
-    (λ items given. gone.items items (subst (λ (d : Desk). HasGiven items d.flows y.taken) (sym read.desk) given))
+    (λ items given. gone.items items (subst (λ (d : Desk). HasGiven items d.flows y.taken) (sym call.desk) given))
     gone.stands (ap (λ (d : Desk). d.stopped) gone.stopped) (ap tally_of gone.work.0) gone.work.1 (gone.work.2 ∙ c.room_for.ensures.beside.1)
-    (λ ended. (let e : true ≡ false = sym ended ∙ ap (λ (d : Desk). d.ended) gone.stopped ∙ ap (λ (d : Desk). d.ended) read.desk ∙ item.more in absurd (cc)))
+    (λ ended. (let e : true ≡ false = sym ended ∙ ap (λ (d : Desk). d.ended) gone.stopped ∙ ap (λ (d : Desk). d.ended) call.desk ∙ item.more in absurd (cc)))
     read.later (read.cause part) read.appended in
     subst (λ n. ForwardStands first losses (outbox_of c.fail.new.work) c.fail.new.stream.desk (g.C.Carrier.tags c.fail.new.carrier)
     (g.C.Carrier.got c.fail.new.carrier) n (g.F.AppFace.seen c.fail.new.stream.face)) (sym gone.counts)
@@ -146,7 +149,8 @@ returns-else-done-len-clause-gives g c =
     let adds : AddsTo c.args.lent.flow 0 c.args.work.now.tally.counts.entries c.room_for.new.work.tally.counts.entries =
     subst (λ es. AddsTo c.args.lent.flow 0 es c.room_for.new.work.tally.counts.entries) (ap (λ (t : TallyState). t.counts) c.count_item.ensures.tally)
     c.room_for.ensures.none in
-    let read = c.send-done.ensures in
+    let call = c.send-done.ensures in
+    let read = call.carries in
     let full : c.send-done.result ≡ c.args.lent.loan.len = search rules in
     let y : AppView = g.F.AppFace.seen c.send-done.new.stream.face in
     let tag : ℕ = c.free_tag.result in
@@ -168,8 +172,8 @@ returns-else-done-len-clause-gives g c =
     (tally_of c.room_for.new.work.tally) roomy adds (g.C.Carrier.got c.send-done.new.carrier) y (tally_of c.count.new.work) c.send-done.result read.only
     read.counted read.gained read.others (ap tally_of c.count.ensures.same) c.count.ensures.adds c.count.ensures.many
     (g.C.Carrier.counts c.send-done.new.carrier) tag (outbox_of k) refl out c.room_for.ensures.beside.1 free c.requires.few full
-    (subst (λ (d : Desk). StreamStands d y) read.desk read.stands) (read.still full) read.appended in
+    (subst (λ (d : Desk). StreamStands d y) call.desk call.stands) (read.still full) read.appended in
     subst (λ (ts : Tags). ForwardStands first losses (outbox_of k) c.send-done.new.stream.desk ts (g.C.Carrier.got c.send-done.new.carrier)
-    (g.C.Carrier.counts c.send-done.new.carrier) y) (sym (read.tags full))
+    (g.C.Carrier.counts c.send-done.new.carrier) y) (sym (call.tags full))
     (subst (λ (d : Desk). ForwardStands first losses (outbox_of k) d (g.C.Carrier.tags c.args.carrier.now ++ (tag, c.args.lent.flow) ∷ [])
-    (g.C.Carrier.got c.send-done.new.carrier) (g.C.Carrier.counts c.send-done.new.carrier) y) (sym read.desk) stands)
+    (g.C.Carrier.got c.send-done.new.carrier) (g.C.Carrier.counts c.send-done.new.carrier) y) (sym call.desk) stands)
