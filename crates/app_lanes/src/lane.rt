@@ -84,7 +84,8 @@ fn told_turn<W: Sits, G: Gate>(alloc: Global, gate: &G, beside: &Loops, lane: &m
     false
 }
 
-/// Turns, until something is done in one. `false` says that nothing was done in many, and that the card takes none.
+/// Turns, until something is done in one. `false` says that nothing was done in many, and that the card takes none, or that all loops
+/// end.
 fn lane_turns<W: Sits, G: Gate, R: Wait>(
     rt: &R,
     alloc: Global,
@@ -97,6 +98,9 @@ fn lane_turns<W: Sits, G: Gate, R: Wait>(
 {
     let backoff = Backoff::new();
     for idle in 0..IDLE {
+        if beside.is_halted() {
+            return false;
+        }
         if told_turn(alloc, gate, beside, lane) {
             return true;
         }
@@ -105,7 +109,7 @@ fn lane_turns<W: Sits, G: Gate, R: Wait>(
     beside.card_runs()
 }
 
-/// Turns, until it has left, or nothing is done in many and the card takes none.
+/// Turns, until it has left, or nothing is done in many and the card takes none, or all loops end.
 fn lane_loop<W: Sits, G: Gate, R: Wait>(
     rt: &R,
     alloc: Global,

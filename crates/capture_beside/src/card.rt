@@ -212,7 +212,7 @@ pub fn paced_turn<G: Gate>(
 }
 
 /// Turns, until something is done in one: also while buffers are on their way back. `false` says that nothing was done in many, and
-/// that the capture isn't read, or that an application stays behind.
+/// that the capture isn't read, or that all loops end.
 fn card_turns<G: Gate, R: Wait>(
     rt: &R,
     gate: &G,
@@ -241,7 +241,7 @@ fn card_turns<G: Gate, R: Wait>(
     false
 }
 
-/// The turns of the card, until it is over, nothing is done in many, or an application stays behind.
+/// The turns of the card, until it is over, nothing is done in many, or all loops end.
 fn card_loop<G: Gate, R: Wait>(rt: &R, gate: &G, beside: &Loops, free: u32, card: &mut CardLane<'_>)
     requires ready { IsReady card.old.feed card.old.seat.side.view }
     ensures goes { CardGoes card.old card.new }
@@ -258,7 +258,8 @@ fn card_loop<G: Gate, R: Wait>(rt: &R, gate: &G, beside: &Loops, free: u32, card
     }
 }
 
-/// The card's loop, where so many buffers are free at first for it alone. It begins once all applications have begun theirs.
+/// The card's loop, where so many buffers are free at first for it alone. It begins once all applications have begun theirs. Where
+/// they don't, or it ends before it is over, all loops end.
 pub fn run_card<G: Gate, R: Wait>(
     rt: &R,
     gate: &G,
@@ -269,9 +270,14 @@ pub fn run_card<G: Gate, R: Wait>(
     requires ready { IsReady card.old.feed card.old.seat.side.view }
     ensures goes { CardGoes card.old card.new }
 {
-    if beside.all_begin(rt, card.seat.apps()) {
-        beside.set_card(true);
-        card_loop(rt, gate, beside, free, card);
-        beside.set_card(false);
+    if !beside.all_begin(rt, card.seat.apps()) {
+        beside.halt();
+        return;
+    }
+    beside.set_card(true);
+    card_loop(rt, gate, beside, free, card);
+    beside.set_card(false);
+    if !is_over(card) {
+        beside.halt();
     }
 }

@@ -10,14 +10,14 @@ use crate::reader::Reader;
 use card_feed::{Arrived, Stage};
 use crossbeam_utils::Backoff;
 use rtrb::{Consumer, Producer, PushError, RingBuffer};
-use run_loops::{IDLE, Loops};
+use run_loops::{BEGINNING, IDLE, Loops};
 use std::alloc::{AllocError, Global};
 use std::sync::Wait;
 use zr_io::Source;
 use zr_kinds::Fault;
 
 /// How many messages, or vectors, a ring has room for.
-const RINGS: usize = 64;
+const RINGS: usize = 128;
 
 /// How many records are read at most.
 const MOST_RECORDS: u32 = 16_777_216;
@@ -134,8 +134,8 @@ pub fn read_turn<S: Source>(reader: &mut Reader, source: &mut S) -> bool
     }
 }
 
-/// Turns, until something is done in one. `false` says that nothing was done in many, and that the card takes none, or that no
-/// more of the capture is wanted.
+/// Turns, until something is done in one. `false` says that no more of the capture is wanted, or that all loops end, since the card
+/// takes no turns, for one.
 #[tactic(auto, using(crate::proofs::ReaderTurns::reads_same, crate::proofs::ReaderTurns::reads_more))]
 fn read_turns<S: Source, R: Wait>(
     rt: &R,
@@ -147,7 +147,11 @@ fn read_turns<S: Source, R: Wait>(
 {
     let backoff = Backoff::new();
     for looks in 0..IDLE {
-        if beside.is_enough() {
+        if beside.is_enough() || beside.is_halted() {
+            return false;
+        }
+        if looks >= BEGINNING && !beside.card_runs() {
+            beside.halt();
             return false;
         }
         if read_turn(reader, source) {
@@ -159,7 +163,7 @@ fn read_turns<S: Source, R: Wait>(
     beside.card_runs()
 }
 
-/// The turns of the reading, until it is over or no more of it is wanted, or nothing is done in many and the card takes none.
+/// The turns of the reading, until it is over or no more of it is wanted, or all loops end.
 #[tactic(auto, using(crate::proofs::ReaderTurns::reads_same, crate::proofs::ReaderTurns::reads_more))]
 fn read_loop<S: Source, R: Wait>(rt: &R, beside: &Loops, source: &mut S, reader: &mut Reader)
     ensures goes { ReaderGoes S.left S.faults source.old source.new reader.old reader.new }

@@ -7,12 +7,12 @@ use std::array;
 use std::sync::Wait;
 use std::sync::atomic::{AtomicBool, AtomicU64, Ordering};
 
-/// How many looks or turns in a row may come to nothing before a loop ends. Where the card takes no turns each leaves the processor
-/// to whoever wants it, which may take a millisecond.
+/// How many looks or turns in a row may come to nothing before a loop ends. Where the card takes no turns each of an application
+/// leaves the processor to whoever wants it, which may take a millisecond.
 pub const IDLE: u32 = 1_000;
 
-/// How many looks in a row a loop waits for others to begin: half a second at least.
-const BEGINNING: u32 = 200;
+/// How many looks in a row a loop waits for others to begin: a second at least.
+pub const BEGINNING: u32 = 150;
 
 /// How many applications a board has at most.
 pub const MOST_APPS: usize = 8;
@@ -26,11 +26,8 @@ const LANE_PATIENCE: u32 = 10;
 /// Behind so many the reading does, whose ring is full.
 const READING_PATIENCE: u32 = 10;
 
-/// How long a short nap of the card and of an application is, in microseconds.
-const NAP: u64 = 50;
-
-/// How long one of the reading is: the card takes longer to take what the ring holds.
-const READING_NAP: u64 = 20;
+/// How long a short nap is, in microseconds. The system takes some fifty more.
+const NAP: u64 = 10;
 
 /// The loops of a run.
 #[derive(Drop)]
@@ -43,7 +40,7 @@ pub struct Loops {
     reading: AtomicBool,
     /// No more of the capture is wanted.
     enough: AtomicBool,
-    /// An application's loop ended before it had left.
+    /// All loops end.
     halted: AtomicBool,
     /// How often the card asked for buffers.
     asked: AtomicU64,
@@ -51,6 +48,8 @@ pub struct Loops {
     answers: [AtomicU64; MOST_APPS],
     /// The card's loop.
     card_loop: Sleeper,
+    /// The same, until all have begun: only those that begin wake it then.
+    beginning: Sleeper,
     /// Those of the applications, by their numbers.
     lanes: [Sleeper; MOST_APPS],
     /// That of the reading.
@@ -69,8 +68,9 @@ impl Loops {
             asked: AtomicU64::new(0),
             answers: array::from_fn(|_| AtomicU64::new(0)),
             card_loop: Sleeper::new(CARD_PATIENCE, NAP),
+            beginning: Sleeper::new(LANE_PATIENCE, NAP),
             lanes: array::from_fn(|_| Sleeper::new(LANE_PATIENCE, NAP)),
-            reading_loop: Sleeper::new(READING_PATIENCE, READING_NAP),
+            reading_loop: Sleeper::new(READING_PATIENCE, NAP),
         }
     }
 
@@ -86,14 +86,9 @@ impl Loops {
         self.card_loop.rest(rt, idle, backoff);
     }
 
-    /// A rest of the reading, whose ring is full, behind so many looks. Where the card takes turns it naps soon, and leaves the
-    /// processor to others.
+    /// A rest of the reading, whose ring is full, behind so many looks.
     pub fn rest_reading<R: Wait>(&self, rt: &R, idle: u32, backoff: &Backoff) {
-        if self.card_runs() {
-            self.reading_loop.rest(rt, idle, backoff);
-        } else {
-            backoff.snooze();
-        }
+        self.reading_loop.rest(rt, idle, backoff);
     }
 
     /// A rest of an application that may nap, behind so many idle looks or turns. Before it does it wakes the card, if that sleeps
@@ -137,7 +132,7 @@ impl Loops {
     /// An application's loop begins. It waits for the card's, but not for long.
     pub fn begin<R: Wait>(&self, rt: &R, app: u32) {
         self.begun.fetch_add(1, Ordering::SeqCst);
-        self.wake_card();
+        self.beginning.wake();
         let backoff = Backoff::new();
         for looks in 0..BEGINNING {
             if self.card_runs() || self.is_halted() {
@@ -150,13 +145,20 @@ impl Loops {
     /// An application's loop ends; it has left, or it hasn't. It has nothing to do any more.
     pub fn end(&self, app: u32, left: bool) {
         if !left {
-            self.halted.store(true, Ordering::SeqCst);
+            self.halt();
         }
         self.answer(app, u64::MAX);
         self.wake_card();
     }
 
-    /// Whether an application's loop ended before it had left.
+    /// All loops end, and what is left goes by rounds.
+    pub fn halt(&self) {
+        self.halted.store(true, Ordering::SeqCst);
+        self.wake_lanes();
+        self.reading_loop.wake();
+    }
+
+    /// Whether all loops end: not all have begun, or one ended before its role was over.
     pub fn is_halted(&self) -> bool {
         self.halted.load(Ordering::SeqCst)
     }
@@ -165,6 +167,7 @@ impl Loops {
     pub fn set_card(&self, runs: bool) {
         self.card.store(runs, Ordering::SeqCst);
         self.wake_lanes();
+        self.reading_loop.wake();
     }
 
     /// Whether the card takes turns, so that a note may come.
@@ -204,7 +207,7 @@ impl Loops {
             if self.begun.load(Ordering::SeqCst) >= u64::from(apps) {
                 return true;
             }
-            self.rest_card(rt, looks, &backoff);
+            self.beginning.rest(rt, looks, &backoff);
         }
         false
     }
@@ -231,7 +234,7 @@ impl Loops {
         before.saturating_add(1)
     }
 
-    /// Whether each of so many applications has found nothing more to do behind that asking, or one's loop ended before it had left.
+    /// Whether each of so many applications has found nothing more to do behind that asking, or all loops end.
     pub fn have_answered(&self, apps: u32, asking: u64) -> bool {
         self.is_halted()
             || self

@@ -6,5 +6,5 @@ mod beside;
 mod gate;
 mod sleeping;
 
-pub use beside::{IDLE, Loops, MOST_APPS};
+pub use beside::{BEGINNING, IDLE, Loops, MOST_APPS};
 pub use gate::{Gate, NoGate};

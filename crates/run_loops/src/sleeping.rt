@@ -10,7 +10,7 @@ use std::time::Duration;
 const SHORT_NAPS: u32 = 8;
 
 /// How often naps double behind these. The longest take some milliseconds.
-const DOUBLINGS: u32 = 8;
+const DOUBLINGS: u32 = 10;
 
 /// A loop that may nap, as it stands to those who have something for it.
 #[derive(Drop)]

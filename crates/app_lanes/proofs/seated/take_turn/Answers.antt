@@ -8,6 +8,8 @@ use Rattle.app_lanes.proofs.seated.take_turn.Goals as goal
 pub returns : goal.returns
 returns g c =
     let step = c.app_turn-turn.ensures in
+    let makes = step.makes in
+    let turns = makes.turns in
     let own = c.args.own.now in
     let result = c.app_turn-turn.result in
     let old = own.seat.side.view in
@@ -24,23 +26,23 @@ returns g c =
       | in_default w ↦ w.in_default.not-Finished same
     ] in
     let finished = λ (left : w_now.left ≡ true). subst
-    (λ turn. Answers own.worker.state w_now.state old new (g.T.Shelf.counts shelf).faults (g.T.Shelf.counts shelf_now).faults turn) (is_left left) step.turns.answer in
+    (λ turn. Answers own.worker.state w_now.state old new (g.T.Shelf.counts shelf).faults (g.T.Shelf.counts shelf_now).faults turn) (is_left left) turns.answer in
     record {
       goes = record {
         board = step.beside;
-        app = step.turns.goes.moves.same.1;
+        app = turns.goes.moves.same.1;
         fits = record {
           side = record {
-            stands = step.turns.stands;
-            here = λ left. step.turns.here (not_left left) ∙ c.requires.fits.side.here c.requires.here;
+            stands = turns.stands;
+            here = λ left. turns.here (not_left left) ∙ c.requires.fits.side.here c.requires.here;
             gone = λ left. ((finished left).1, (finished left).2);
           };
         };
         runs = λ first count how runs. goes-on first (g.T.Shelf.kept shelf) (g.T.Shelf.kept shelf_now) count (g.T.Shelf.counts shelf)
-            (g.T.Shelf.counts shelf_now) how old new own.worker w_now result runs step.turns step.later is_left
-            (record { fronts = step.fronts _; failed = step.failed _; whole = step.whole _; copies = step.copies; counts = step.counts })
-            (λ left. (finished left).2) step.still step.appended;
-        comes = λ plan first count comes. (comes.0, comes.1, comes.2, behind _ _ comes.3 (result, step.turns));
+            (g.T.Shelf.counts shelf_now) how old new own.worker w_now result runs turns makes.went.later is_left
+            (record { fronts = makes.shows.fronts _; failed = makes.shows.failed _; whole = makes.shows.whole _; copies = makes.right.copies; counts = makes.right.counts })
+            (λ left. (finished left).2) makes.went.still makes.went.appended;
+        comes = λ plan first count comes. (comes.0, comes.1, comes.2, behind _ _ comes.3 (result, turns));
       };
-      takes = ((result, step.turns), c.came_of.ensures);
+      takes = ((result, turns), c.came_of.ensures);
     }
