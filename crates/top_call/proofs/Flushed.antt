@@ -7,7 +7,7 @@ use Rattle.zr_io.specs.Moved.{Rose, ShelfCounts}
 use Rattle.card_feed.specs.Account.{kept_in}
 use Rattle.run_account.{specs.Running.{losses_in}, proofs.AppLines.{one-value}}
 use Rattle.run_account.proofs.Places.{get-set_same, get-set_other, get-within, kept-here, kept-there, losses-here, losses-there}
-use Rattle.top_call.{specs.Flushing.{Flushes, HasFlushed, HasLost}, proofs.Found.{get-same_rest}}
+use Rattle.top_call.{specs.{Worlds.{shelf_seen}, Flushing.{Flushes, HasFlushed, HasLost}}, proofs.Found.{get-same_rest}}
 
 or-false : (a b : Bool) → (a || b) ≡ false → (a ≡ false) × (b ≡ false)
 or-false true b is = absurd (cc)
@@ -25,7 +25,7 @@ went-well losses losses_now line line_now true flushed is = absurd (cc)
 went-well losses losses_now line line_now false flushed is = flushed
 
 pub flushes-none : {T : Type 0} (kept : T → ℕ → Option (List ℕ)) (losses : T → ShelfCounts) (shelves : List T) (lines : List AppLine)
-    → Flushes kept losses 0 shelves shelves lines lines false
+    → Flushes (shelf_seen kept losses) 0 shelves shelves lines lines false
 flushes-none kept losses shelves lines = record {
   keeps = λ app flow. Keeps-refl (kept_in kept shelves app flow);
   many = refl;
@@ -42,7 +42,7 @@ flushes-none kept losses shelves lines = record {
 
 module _ {T : Type 0} (kept : T → ℕ → Option (List ℕ)) (losses : T → ShelfCounts) (app : ℕ) (shelves now : List T) (lines lines_now : List AppLine)
     (lost failed : Bool) (shelf shelf_now : T) (line line_now : AppLine)
-    (so_far : Flushes kept losses app shelves now lines lines_now lost)
+    (so_far : Flushes (shelf_seen kept losses) app shelves now lines lines_now lost)
     (shelf_at : slice_get now app ≡ Some shelf) (line_at : slice_get lines_now app ≡ Some line)
     (keeps : (flow : ℕ) → Keeps (kept shelf flow) (kept shelf_now flow))
     (later : (losses shelf).faults ≤ (losses shelf_now).faults) (took : (losses shelf_now).appended ≡ (losses shelf).appended)
@@ -122,7 +122,7 @@ module _ {T : Type 0} (kept : T → ℕ → Option (List ℕ)) (losses : T → S
       ap (λ (c : ShelfCounts). c.appended) (losses-there losses now (set now app shelf_now) a (get-set_other now app a shelf_now other))
       ∙ so_far.appended a) (cases_eq a app)
 
-  lost-one : (lost || failed) ≡ true → HasLost losses shelves (set now app shelf_now) (app + 1)
+  lost-one : (lost || failed) ≡ true → HasLost (shelf_seen kept losses) shelves (set now app shelf_now) (app + 1)
   lost-one is = ⊎_elim
       (λ before.
       let (a, below, rose) = so_far.failed_at before in
@@ -151,7 +151,7 @@ module _ {T : Type 0} (kept : T → ℕ → Option (List ℕ)) (losses : T → S
       (went-well (losses shelf).faults (losses shelf_now).faults line line_now failed flushed own).1 ∙ sym (get_or_from_slice_get lines_now app line line_now line_at) in
       ap (set lines_now app) same ∙ set-get_or lines_now app line_now ∙ so_far.as_before before
 
-  pub flushes-one : Flushes kept losses (app + 1) shelves (set now app shelf_now) lines (set lines_now app line_now) (lost || failed)
+  pub flushes-one : Flushes (shelf_seen kept losses) (app + 1) shelves (set now app shelf_now) lines (set lines_now app line_now) (lost || failed)
   unfolding HasLine
   flushes-one = record {
     keeps = keeps-one;

@@ -14,6 +14,7 @@ use Rattle.card_feed.proofs.OfFlow.{there}
 use Rattle.run_account.{specs.{Running.{losses_in, losses_or}, Ran.{HasReadOn, HaveWholeStreams, IsAppLine, Ran, Told}}, proofs.WholeStreams.{whole-streams}}
 use Rattle.run_account.proofs.{AppLines.{found-there, one-value}, Places.{get-within}}
 use Rattle.command_words.specs.{Options.{AreInRange}, Words.{ReplayShown}}
+use Rattle.top_call.specs.Worlds.{Ends, Seen, World, left_in, shelf_seen, sink_in, sunk}
 use Rattle.top_call.{specs.{Planned.{IsPlanOf}, Records.{HasRecord, record_in}, declared.card.Card.{Card}}, proofs.{Behind.{ended_of-behind}, Found.{get-same_rest}}}
 use Rattle.top_call.{specs.Flushing.{Flushes, HasLost}, proofs.ToldLines.{record-told, rose-or-same, told-appended, told-flow, told-others, told-streams}}
 use Rattle.top_call.specs.Status.{is_memory, is_write, any_stopped, end_number, status_from, status_of}
@@ -223,7 +224,7 @@ module _ {S T : Type 0} {left : S → Option (List ℕ)} {failed : S → ℕ} {k
     {nic : NicSide} {apps : List AppSide} {answer refusals refusals_now : ℕ}
     (replayed : Ran left failed kept losses source at shelves shelves_run plan outcome nic apps)
     (ahead : HasReadOn left failed at source_now outcome.end)
-    (flushes : Flushes kept losses (length plan.ports.items) shelves_run shelves_now outcome.apps lines flush_failed)
+    (flushes : Flushes (shelf_seen kept losses) (length plan.ports.items) shelves_run shelves_now outcome.apps lines flush_failed)
     (is : IsAnswer (status_of (record outcome { apps = lines }) flush_failed) answer refusals refusals_now) where
   abbrev pub wanting : Bool
   wanting = any_stopped is_memory lines
@@ -351,7 +352,7 @@ module _ {S T : Type 0} {left : S → Option (List ℕ)} {failed : S → ℕ} {k
       rose-later before run now rose (flushes.later number))
       (rose-or-same run now was told fails flushed)
 
-  shelf-failed : lost ≡ true → HasLost losses shelves shelves_now (length plan.ports.items)
+  shelf-failed : lost ≡ true → HasLost (shelf_seen kept losses) shelves shelves_now (length plan.ports.items)
   shelf-failed some = ⊎_elim
       (λ (write : any_stopped is_write lines ≡ true).
       let stands : Stands lines = any-write lines write in
@@ -367,7 +368,7 @@ module _ {S T : Type 0} {left : S → Option (List ℕ)} {failed : S → ℕ} {k
       ))
       (or_cases (any_stopped is_write lines) flush_failed some)
 
-  lost-of : answer ≡ 9 → HasLost losses shelves shelves_now (length plan.ports.items) ⊎ Rose refusals refusals_now
+  lost-of : answer ≡ 9 → HasLost (shelf_seen kept losses) shelves shelves_now (length plan.ports.items) ⊎ Rose refusals refusals_now
   unfolding IsNumbered
   lost-of nine = ⊎_elim (λ one. absurd (omega arith)) (λ others. ⊎_elim
       (λ (at_nine, why). ⊎_elim (λ shelf. inl (shelf-failed shelf)) (λ sink. inr sink) why)
@@ -427,13 +428,14 @@ module _ {S T : Type 0} {left : S → Option (List ℕ)} {failed : S → ℕ} {k
   -- ---- completeness
 
   complete-of : (all : List ℕ) → left source ≡ Some all → (ended_of plan.ports.items all).fault ≡ None → ¬ Rose (failed source) (failed source_now)
-      → ¬ HasLost losses shelves shelves_now (length plan.ports.items) → ¬ Rose refusals refusals_now → (answer ≡ 0) ⊎ (answer ≡ 1)
-  complete-of all told_all none reads kept_all sink =
+      → ¬ (HasLost (shelf_seen kept losses) shelves shelves_now (length plan.ports.items) ⊎ Rose refusals refusals_now)
+      → (answer ≡ 0) ⊎ (answer ≡ 1)
+  complete-of all told_all none reads writes =
       let shows : ShowsEnding (ended_of plan.ports.items all) replayed.before outcome.end = rw told_all at replayed.ended.shown in
       let said : IsStatusOf answer None = subst (IsStatusOf answer) none (ending-of all shows) in
       ⊎_elim (λ zero. inl zero) (λ others. ⊎_elim (λ one. inr one) (λ more. ⊎_elim
       (λ eight. absurd (reads (read-of eight).0))
-      (λ nine. absurd (⊎_elim kept_all sink (lost-of nine))) more) others) said
+      (λ nine. absurd (writes (lost-of nine))) more) others) said
 
   all_read-of : answer ≡ 0 → (all : List ℕ) → left source ≡ Some all
       → ended_of plan.ports.items all ≡ record { before = replayed.before; fault = None }
@@ -490,25 +492,25 @@ told_well refusals refusals_now said answer (Err unreported.Memory) still is not
 told_well refusals refusals_now said answer (Err unreported.Write) still is not_1 not_9 =
     ⊎_elim (λ one. absurd (not_1 one)) (λ nine. absurd (not_9 nine.0)) (chosen said answer is)
 
-module _ {S T O : Type 0} {left : S → Option (List ℕ)} {failed : S → ℕ} {kept : T → ℕ → Option (List ℕ)} {losses : T → ShelfCounts}
-    (sent : O → Option (List ℕ)) (refusals : O → ℕ) {source source_now : S} {shelves shelves_run shelves_now : List T} (out out_now : O)
+module _ {S T O : Type 0} {m : Seen S T O} (before : World m) (ends : Ends m.streams) (out_now : O) (card_now : Card) {shelves_run : List T}
     {plan : Plan} {outcome : Told} {answer : ℕ} where
-  replays-so : (told : ReplayShown) (card_now : Card) → AreInRange told.options → IsPlanOf told plan
-      → RanWith left failed kept losses source source_now shelves shelves_run card_now told.turns plan outcome
-      → HasRecord plan outcome card_now
+  replays-so : (told : ReplayShown) → AreInRange told.options → IsPlanOf told plan
+      → RanWith before.ends (record ends { shelves = shelves_run }) card_now told.turns plan outcome → HasRecord plan outcome card_now
       → (given : List T) → given ≡ shelves_run
-      → Finishes kept losses given shelves_now (sent out) (sent out_now) (refusals out) (refusals out_now) outcome (record_in plan card_now) answer
-      → Replays left failed kept losses sent refusals source source_now shelves shelves_now out out_now card_now told answer
-  replays-so told card_now in_range planned with recorded given given_is finishes =
+      → Finishes m.streams.shelf given ends.shelves (sink_in before) (sunk m.sink out_now) (outcome, record_in plan card_now) answer
+      → Replays before (record { ends = ends; out = out_now; card = card_now }) told answer
+  replays-so told in_range planned with recorded given given_is finishes =
       let ran = with.ran in
       let ahead = with.ahead in
       let tells = finishes.tells in
-      let flushes : Flushes kept losses (length plan.ports.items) shelves_run shelves_now outcome.apps finishes.lines finishes.lost =
-      subst (λ n. Flushes kept losses n shelves_run shelves_now outcome.apps finishes.lines finishes.lost) ran.many_apps
-      (subst (λ them. Flushes kept losses (length outcome.apps) them shelves_now outcome.apps finishes.lines finishes.lost) given_is finishes.flushes) in
+      let flushes : Flushes m.streams.shelf (length plan.ports.items) shelves_run ends.shelves outcome.apps finishes.lines finishes.lost =
+      subst (λ n. Flushes m.streams.shelf n shelves_run ends.shelves outcome.apps finishes.lines finishes.lost) ran.many_apps
+      (subst (λ them. Flushes m.streams.shelf (length outcome.apps) them ends.shelves outcome.apps finishes.lines finishes.lost) given_is finishes.flushes) in
       let outcome_now : Told = record outcome { apps = finishes.lines } in
-      let is : IsAnswer (status_of outcome_now finishes.lost) answer (refusals out) (refusals out_now) = is_answer (sent out) (sent out_now) (refusals out)
-      (refusals out_now) (status_of outcome_now finishes.lost) answer _ tells.reported tells.report tells.answered in
+      let was = (sink_in before).failed in
+      let now = m.sink.failed out_now in
+      let is : IsAnswer (status_of outcome_now finishes.lost) answer was now = is_answer (sink_in before).sent (m.sink.sent out_now) was now
+      (status_of outcome_now finishes.lost) answer _ tells.reported tells.report tells.answered in
       let same : plan.ports.items ≡ told.ports = planned.ports_are in
       record {
         plan = plan;
@@ -520,42 +522,49 @@ module _ {S T O : Type 0} {left : S → Option (List ℕ)} {failed : S → ℕ} 
         flush_failed = finishes.lost;
         flushes = rw (← same) flushes;
         told_is = refl;
-        flow = rw (← same) (told-flow ran flushes);
-        appended = told-appended ran flushes;
-        others = rw (← same) (told-others ran flushes);
-        reported = tells.reported;
-        report = tells.report;
+        streams = record {
+          flow = rw (← same) (told-flow ran flushes);
+          others = rw (← same) (told-others ran flushes);
+          appended = told-appended ran flushes;
+        };
+        report = tells;
         recorded = record-told outcome flushes ran.many_apps plan card_now recorded;
-        answered = tells.answered;
-        reached = rw (← same) (reached-of ran ahead flushes is);
-        ending = rw (← same) (some-weaker (left source) _ _ ran.ended.shown (λ all shows. ending-of ran ahead flushes is all shows));
         kind = kind-of ran ahead flushes is;
-        whole = whole-of ran ahead flushes is;
-        read = rw (← same) (read-of ran ahead flushes is);
-        lost = rw (← same) (lost-of ran ahead flushes is);
-        wanting = wanting-of ran ahead flushes is;
-        failing = failing-of ran ahead flushes is;
-        unflushed = unflushed-of ran ahead flushes is;
+        reading = record {
+          reached = rw (← same) (reached-of ran ahead flushes is);
+          ending = rw (← same) (some-weaker (left_in before) _ _ ran.ended.shown (λ all shows. ending-of ran ahead flushes is all shows));
+          whole = whole-of ran ahead flushes is;
+          read = rw (← same) (read-of ran ahead flushes is);
+          settled = settled-of ran ahead flushes is;
+          sound_reads = read_well ran ahead flushes is;
+        };
+        writing = record {
+          lost = rw (← same) (lost-of ran ahead flushes is);
+          wanting = wanting-of ran ahead flushes is;
+          failing = failing-of ran ahead flushes is;
+          unflushed = unflushed-of ran ahead flushes is;
+          sound_shelves = kept_well ran ahead flushes is;
+          sound_sink = told_well was now (status_of outcome_now finishes.lost) answer tells.reported tells.still tells.answered;
+          going = going-of ran ahead flushes is;
+        };
         complete = rw (← same) (complete-of ran ahead flushes is);
-        all_read = rw (← same) (all_read-of ran ahead flushes is);
-        going = going-of ran ahead flushes is;
-        enough = rw (← same) (enough-of ran ahead flushes is);
-        streams = rw (← same, ← how-said told plan in_range planned) (streams-of ran ahead flushes is);
-        settled = settled-of ran ahead flushes is;
-        sound_reads = read_well ran ahead flushes is;
-        sound_shelves = kept_well ran ahead flushes is;
-        sound_sink = told_well (refusals out) (refusals out_now) (status_of outcome_now finishes.lost) answer tells.reported tells.still tells.answered;
-        sound_report = tells.still;
+        done = λ zero all told_all. record {
+          all_read = rw (← same) (all_read-of ran ahead flushes is zero all told_all);
+          enough = rw (← same) (enough-of ran ahead flushes is zero all told_all);
+          streams = rw (← same, ← how-said told plan in_range planned) (streams-of ran ahead flushes is zero all told_all);
+        };
       }
 
-  pub replays : (told : ReplayShown) (card_now : Card) → AreInRange told.options → IsPlanOf told plan
-      → RanWith left failed kept losses source source_now shelves shelves_run card_now told.turns plan outcome
-      → HasRecord plan outcome card_now
+  pub replays : (told : ReplayShown) → AreInRange told.options → IsPlanOf told plan
+      → RanWith before.ends (record ends { shelves = shelves_run }) card_now told.turns plan outcome → HasRecord plan outcome card_now
       → (given : List T) → given ≡ shelves_run → (room : ℕ) → room ≡ length shelves_run
-      → Finishes kept losses given shelves_now (sent out) (sent out_now) (refusals out) (refusals out_now) outcome (record_in plan card_now) answer
-      → Replays left failed kept losses sent refusals source source_now shelves (take room (shelves_now ++ drop (length shelves_now) shelves_run))
-      out out_now card_now told answer
-  replays told card_now in_range planned with recorded given given_is room size finishes =
-      subst (λ them. Replays left failed kept losses sent refusals source source_now shelves them out out_now card_now told answer)
-      (sym (back room shelves_now shelves_run (finishes.flushes.many ∙ ap length given_is ∙ sym size)))
-      (replays-so told card_now in_range planned with recorded given given_is finishes)
+      → Finishes m.streams.shelf given ends.shelves (sink_in before) (sunk m.sink out_now) (outcome, record_in plan card_now) answer
+      → Replays before (record {
+        ends = record ends { shelves = take room (ends.shelves ++ drop (length ends.shelves) shelves_run) };
+        out = out_now;
+        card = card_now;
+      }) told answer
+  replays told in_range planned with recorded given given_is room size finishes =
+      subst (λ them. Replays before (record { ends = record ends { shelves = them }; out = out_now; card = card_now }) told answer)
+      (sym (back room ends.shelves shelves_run (finishes.flushes.many ∙ ap length given_is ∙ sym size)))
+      (replays-so told in_range planned with recorded given given_is finishes)

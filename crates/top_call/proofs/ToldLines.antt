@@ -11,7 +11,7 @@ use Rattle.board_face.specs.declared.views.{nic.NicSide.{NicSide}, app.AppSide.{
 use Rattle.card_feed.{specs.{Account.{kept_in}, declared.plan.Plan.{Plan}}, proofs.OfFlow.{there}}
 use Rattle.run_account.specs.{Ran.{HaveWholeStreams, IsLineOf, IsStreamed, Ran, There, Told}, Running.{losses_in}}
 use Rattle.run_account.proofs.{AppLines.{found-there, is-there, one-value}, Places.{get-within}}
-use Rattle.top_call.specs.{Flushing.{Flushes, HasFlushed, stopped_or_lost}, declared.card.Card.{Card}}
+use Rattle.top_call.specs.{Worlds.{shelf_seen}, Flushing.{Flushes, HasFlushed, stopped_or_lost}, declared.card.Card.{Card}}
 use Rattle.top_call.specs.Records.{HasRecord, IsReportOf, IsLineOf as IsRecordedLine}
 
 -- ---- one line
@@ -63,7 +63,7 @@ module _ (losses losses_now : ℕ) (line told : AppLine) where
 -- ---- the record
 
 module _ {T : Type 0} {kept : T → ℕ → Option (List ℕ)} {losses : T → ShelfCounts} {many : ℕ} {shelves shelves_now : List T} (outcome : Told)
-    {lines : List AppLine} {lost : Bool} (flushes : Flushes kept losses many shelves shelves_now outcome.apps lines lost)
+    {lines : List AppLine} {lost : Bool} (flushes : Flushes (shelf_seen kept losses) many shelves shelves_now outcome.apps lines lost)
     (many_is : length outcome.apps ≡ many) where
   report-told : (count : ℕ → ℕ) (events : List Event) → IsReportOf count outcome events → IsReportOf count (record outcome { apps = lines }) events
   report-told count events was = record {
@@ -106,7 +106,7 @@ Gained-kept (Some xs) (Some ys) (Some zs) P (bytes, is, holds) keeps = (bytes, k
 module _ {S T : Type 0} {left : S → Option (List ℕ)} {failed : S → ℕ} {kept : T → ℕ → Option (List ℕ)} {losses : T → ShelfCounts}
     {source at : S} {shelves shelves_run shelves_now : List T} {plan : Plan} {outcome : Told} {lines : List AppLine} {flush_failed : Bool}
     {nic : NicSide} {apps : List AppSide} (replayed : Ran left failed kept losses source at shelves shelves_run plan outcome nic apps)
-    (flushes : Flushes kept losses (length plan.ports.items) shelves_run shelves_now outcome.apps lines flush_failed) where
+    (flushes : Flushes (shelf_seen kept losses) (length plan.ports.items) shelves_run shelves_now outcome.apps lines flush_failed) where
   pub told-flow : (number : ℕ) (flow : Flow) → slice_get (flows_of (steered_in plan.ports.items replayed.before)) number ≡ Some flow →
       There (slice_get outcome.flows number) (λ line. There (slice_get lines flow.app) (λ app.
       IsLineOf flow line × Gained (kept_in kept shelves flow.app number) (kept_in kept shelves_now flow.app number)

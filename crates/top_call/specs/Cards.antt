@@ -1,5 +1,5 @@
 -- The board in a card.
-use Rattle.std.specs.Prelude.{◌≡◌, ℕ, ⊤, List, All, Option, None, Some}
+use Rattle.std.specs.Prelude.{◌≡◌, ℕ, ⊤, List, All, Option, None}
 use Rattle.area_layout.specs.Layout.{pool_buffers}
 use Rattle.board_face.specs.{Ended.{IsEachOnce, IsServed}, declared.views.{nic.NicSide.{NicSide}, app.AppSide.{AppSide}}}
 use Rattle.plain_board.specs.{Finish.{IsOver, free_of, HasNoCounts}, Board.{sides_of, stand_of}, Recorded.{IsRecorded}, Sound.{IsSound}}

@@ -3,7 +3,7 @@ use Rattle.std.specs.{Prelude.{◌≡◌, ◌≢◌, ℕ, List, [], ◌∷◌, �
 use Rattle.std.specs.Io.KnownBytes.{Appends, IsAtEnd}
 use Rattle.zr_io.specs.Moved.{Rose}
 use Rattle.run_check.specs.{Judged.{Judges}, declared.checking.Checked.{Checked, TheVariants.{Yes, No}}}
-use Rattle.top_call.specs.declared.card.Card.{Card}
+use Rattle.top_call.specs.{Worlds.{SourceSeen, SinkSeen}, declared.card.Card.{Card}}
 
 -- the line that says what was found
 abbrev pub check_line : Checked → List ℕ
@@ -18,22 +18,23 @@ check_status (No line why) = 14
 abbrev pub Finds : Option (List ℕ) → Checked → Type 0
 Finds bytes found = IfSome bytes (λ told. Judges told found)
 
--- What `check` leaves of its source and its sink, and what its answer says.
-pub record Checks {S O : Type 0} (left : S → Option (List ℕ)) (failed : S → ℕ) (sent : O → Option (List ℕ)) (refusals : O → ℕ)
-    (source source_now : S) (out out_now : O) (card_now : Card) (answer : ℕ) : Type 0 where
+-- What `check` leaves of its source, its sink and its card, and what its answer says.
+pub record Checks {S O : Type 0} (reads : SourceSeen S) (writes : SinkSeen O) (source source_now : S) (out out_now : O) (card_now : Card)
+    (answer : ℕ) : Type 0 where
   pub kind : list_any (λ n. n == answer) (0 ∷ 1 ∷ 8 ∷ 9 ∷ 14 ∷ []) ≡ true
   -- With 0 and 14 the record was found to be that of a legal run, or not, and the sink gained the line that says so. What was found
   -- is in the card, with why the line is bad; with any other answer the card is blank.
-  pub told : (answer ≡ 0) ⊎ (answer ≡ 14) → (found : Checked) × (answer ≡ check_status found) × Finds (left source) found
-      × Appends (sent out) (sent out_now) (check_line found) × (refusals out_now ≡ refusals out) × (card_now ≡ Card.Found found)
+  pub told : (answer ≡ 0) ⊎ (answer ≡ 14) → (found : Checked) × (answer ≡ check_status found) × Finds (reads.left source) found
+      × Appends (writes.sent out) (writes.sent out_now) (check_line found) × (writes.failed out_now ≡ writes.failed out)
+      × (card_now ≡ Card.Found found)
   -- With 9 it gained a front of that line, and one of its calls failed.
-  pub lost : answer ≡ 9 → (found : Checked) × Finds (left source) found
-      × ((n : ℕ) × Appends (sent out) (sent out_now) (take n (check_line found))) × Rose (refusals out) (refusals out_now)
+  pub lost : answer ≡ 9 → (found : Checked) × Finds (reads.left source) found
+      × ((n : ℕ) × Appends (writes.sent out) (writes.sent out_now) (take n (check_line found))) × Rose (writes.failed out) (writes.failed out_now)
       × (card_now ≡ Card.Blank)
   -- With 8 a read failed, and with 1 there was no memory: nothing was written.
-  pub read : answer ≡ 8 → Rose (failed source) (failed source_now) × (out_now ≡ out) × (card_now ≡ Card.Blank)
+  pub read : answer ≡ 8 → Rose (reads.failed source) (reads.failed source_now) × (out_now ≡ out) × (card_now ≡ Card.Blank)
   pub unmade : answer ≡ 1 → (out_now ≡ out) × (card_now ≡ Card.Blank)
   -- With 0 the source was read to its end. Only with 8 did a read fail, and only with 9 a write.
-  pub whole : answer ≡ 0 → IsAtEnd (left source_now)
-  pub unread : answer ≢ 8 → failed source_now ≡ failed source
-  pub unwritten : answer ≢ 9 → refusals out_now ≡ refusals out
+  pub whole : answer ≡ 0 → IsAtEnd (reads.left source_now)
+  pub unread : answer ≢ 8 → reads.failed source_now ≡ reads.failed source
+  pub unwritten : answer ≢ 9 → writes.failed out_now ≡ writes.failed out

@@ -1,20 +1,21 @@
 -- What a replay leaves: the streams on their shelves, the report, the status, and the board of the run.
-use Rattle.std.specs.Prelude.{◌≡◌, ◌≢◌, ℕ, ◌≤◌, List, [], ◌∷◌, ◌++◌, length, ◌==◌, Bool, true, Option, Some, None, Result, IfSome, OnOk, ◌⊎◌, ⊤, option_map}
+use Rattle.std.specs.Prelude.{◌≡◌, ◌≢◌, ℕ, ◌≤◌, List, [], ◌∷◌, ◌++◌, length, ◌==◌, Bool, true, Option, Some, None, Result, IfOk, IfSome, OnErr, OnOk, ◌⊎◌, ⊤, option_map}
 use Rattle.std.specs.{List.{list_any, slice_get}, Io.KnownBytes.{Keeps}}
 use Rattle.zr_kinds.specs.declared.{fault.Fault.{Fault, TheVariants.{Cut}}, outcome.AppLine.{AppLine}}
-use Rattle.zr_io.specs.Moved.{Gained, Rose, ShelfCounts, Took, raised_by}
+use Rattle.zr_io.specs.Moved.{Gained, Rose, Took, raised_by}
 use Rattle.flow_table.specs.{Flows.{Flow, flows_of}, Stream.{stream_of}}
 use Rattle.board_face.specs.declared.views.{nic.NicSide.{NicSide}, app.AppSide.{AppSide}}
 use Rattle.command_words.specs.{Words.{ReplayShown, Shown, replay, make, check}, declared.options.Options.{Options}}
 use Rattle.frames_read.specs.{Ending.{ended_of, steered_in}, Reading.{IsReadToEnd}}
 use Rattle.zr_kinds.specs.declared.behaviour.Stopped.TheVariants as stop
-use Rattle.card_feed.specs.{declared.plan.Plan.{Plan}, Account.{kept_in}, Counts.{sweeping_in, sweeps_in}, Need.{buffers_of, need_in}, Offered.{offers_of}}
+use Rattle.card_feed.specs.{declared.{plan.Plan.{Plan}, outcome.Outcome.{Outcome}}, Counts.{sweeping_in, sweeps_in}, Need.{buffers_of, need_in}, Offered.{offers_of}}
 use Rattle.card_feed.specs.Plan.{TakesTurns}
-use Rattle.run_account.specs.{Running.{losses_in}, Ran.{HasReadOn, HaveWholeStreams, IsLineOf, IsStreamed, LacksMemory, LacksMemoryBeside, Ran, There, Told}}
+use Rattle.run_account.specs.Ran.{HasReadOn, HaveWholeStreams, IsLineOf, IsStreamed, LacksMemory, LacksMemoryBeside, Ran, There, Told, told_of}
 use Rattle.replay_turns.specs.Following.{RunsBy}
 use Rattle.run_report.specs.{Report.{report_of, Reports, answer_of}, declared.report.Unreported.{Unreported}}
 use Rattle.top_call.specs.{Cards.{HasOver, HasSides, IsClosed, IsOfWay, IsUncounted}, Flushing.{Flushes, HasLost}, Planned.{IsPlanOf}, Records.{HasRecord, record_in}}
 use Rattle.top_call.specs.{Status.{end_number, status_of}, Making.{Makes}, Checking.{Checks}, declared.card.Card.{Card}}
+use Rattle.top_call.specs.Worlds.{Ends, IsUntouched, Seen, ShelfSeen, Streams, Sunk, World, counts_by, failed_in, kept_by, left_in, sink_in}
 
 -- Want of memory, a failed read and a lost shelf show in no byte. Any other status is that of what ended the reading.
 abbrev pub IsStatusOf : ℕ → Option Fault → Type 0
@@ -33,175 +34,204 @@ abbrev pub text_of : Told → Bool → List ℕ
 text_of outcome lost =
     report_of outcome.tally outcome.apps outcome.flows outcome.refused outcome.pool (status_of outcome lost)
 
+-- ---- what is told
+
+-- the report of an outcome and what stands behind it went out, by what the flush of the shelves said, and the answer
+pub record Tells (before after : Sunk) (outcome : Told) (lost : Bool) (behind : List ℕ) (answer : ℕ) : Type 0 where
+  -- All of it went out, and no call of the sink failed; or not, and then the answer says so.
+  pub reported : Result (Unit {0}) Unreported
+  pub report : Reports before.sent after.sent before.failed after.failed (text_of outcome lost ++ behind) reported
+  pub still : OnOk reported (after.failed ≡ before.failed)
+  pub answered : answer ≡ answer_of (status_of outcome lost) reported
+
+-- What an outcome tells is written: its shelves are flushed, and then its report goes out and what stands behind it.
+pub record Finishes {T : Type 0} (m : ShelfSeen T) (shelves shelves_now : List T) (before after : Sunk) (outcome : Told × List ℕ) (answer : ℕ)
+    : Type 0 where
+  pub lines : List AppLine
+  pub lost : Bool
+  pub flushes : Flushes m (length outcome.0.apps) shelves shelves_now outcome.0.apps lines lost
+  pub tells : Tells before after (record outcome.0 { apps = lines }) lost outcome.1 answer
+
+-- ---- what ran
+
 -- With a text of turns the run's turns are those of the text, one a letter, and then whole rounds. Without one it is over the board for one
 -- thread only where applications take turns of their own. By what turns the roles came to what is told, `ran` says of each.
-abbrev pub IsPlayed : {S T : Type 0} → (S → Option (List ℕ)) → (S → ℕ) → (T → ℕ → Option (List ℕ)) → (T → ShelfCounts) → S → S
-    → List T → List T → Plan → Told → Option (List ℕ) → Card → Type 0
-IsPlayed left failed kept losses source source_now shelves shelves_now plan outcome (Some turns) (Card.Plain board) =
-    RunsBy left failed kept losses source source_now shelves shelves_now plan turns outcome board
-IsPlayed left failed kept losses source source_now shelves shelves_now plan outcome (Some turns) card = ⊥
-IsPlayed left failed kept losses source source_now shelves shelves_now plan outcome None (Card.Plain board) = TakesTurns plan
-IsPlayed left failed kept losses source source_now shelves shelves_now plan outcome None (Card.Words board desk) = ⊤
-IsPlayed left failed kept losses source source_now shelves shelves_now plan outcome None card = ⊥
+abbrev pub IsPlayed : {S T : Type 0} → {m : Streams S T} → Ends m → Ends m → Plan → Told → Option (List ℕ) → Card → Type 0
+IsPlayed {S} {T} {m} before after plan outcome (Some turns) (Card.Plain board) =
+    RunsBy m.source.left m.source.failed m.shelf.kept m.shelf.counts before.source after.source before.shelves after.shelves plan turns outcome board
+IsPlayed before after plan outcome (Some turns) card = ⊥
+IsPlayed before after plan outcome None (Card.Plain board) = TakesTurns plan
+IsPlayed before after plan outcome None (Card.Words board desk) = ⊤
+IsPlayed before after plan outcome None card = ⊥
 
 -- What a run leaves, with a text of turns or without one: the streams, what its outcome says, and in the card the board of the run, which
 -- accounts for it, has no count any more and may be finished. Without one the capture may be read beside the card.
-pub record RanWith {S T : Type 0} (left : S → Option (List ℕ)) (failed : S → ℕ) (kept : T → ℕ → Option (List ℕ)) (losses : T → ShelfCounts)
-    (source source_now : S) (shelves shelves_now : List T) (card_now : Card) (turns : Option (List ℕ)) (plan : Plan) (outcome : Told) : Type 0 where
+pub record RanWith {S T : Type 0} {m : Streams S T} (before after : Ends m) (card_now : Card) (turns : Option (List ℕ)) (plan : Plan)
+    (outcome : Told) : Type 0 where
   -- the source as the ending of the reading left it; by turns it stands there still
   pub at : S
-  pub ahead : HasReadOn left failed at source_now outcome.end
-  pub still : turns ≢ None → at ≡ source_now
+  pub ahead : HasReadOn m.source.left m.source.failed at after.source outcome.end
+  pub still : turns ≢ None → at ≡ after.source
   pub nic : NicSide
   pub apps : List AppSide
-  pub ran : Ran left failed kept losses source at shelves shelves_now plan outcome nic apps
+  pub ran : Ran m.source.left m.source.failed m.shelf.kept m.shelf.counts before.source at before.shelves after.shelves plan outcome nic apps
   -- by turns each sweep of the free list was made by a search that is counted as one that swept it
   pub sweeps : turns ≢ None → sweeping_in outcome.pool ≡ sweeps_in nic.view
   pub sides : HasSides card_now nic apps
   pub over : HasOver card_now
   pub uncounted : IsUncounted card_now
   pub way : IsOfWay turns card_now
-  pub played : IsPlayed left failed kept losses source source_now shelves shelves_now plan outcome turns card_now
+  pub played : IsPlayed before after plan outcome turns card_now
 
--- What a replay leaves of its source, its shelves and its sink, which board is in the card, and what its answer says. `ran.at` is the
--- source as the ending of the reading left it.
-pub record Replays {S T O : Type 0} (left : S → Option (List ℕ)) (failed : S → ℕ) (kept : T → ℕ → Option (List ℕ)) (losses : T → ShelfCounts)
-    (sent : O → Option (List ℕ)) (refusals : O → ℕ)
-    (source source_now : S) (shelves shelves_now : List T) (out out_now : O) (card_now : Card) (told : ReplayShown) (answer : ℕ) : Type 0 where
-  pub plan : Plan
-  pub planned : IsPlanOf told plan
-  -- The run: what it leaves on the shelves and of itself, and the board in the card.
-  pub shelves_run : List T
-  pub outcome_run : Told
-  pub ran : RanWith left failed kept losses source source_now shelves shelves_run card_now told.turns plan outcome_run
-  -- Then the shelf of each application was flushed. What is told is what the run left, but for the lines of those where that failed.
-  pub outcome : Told
-  pub flush_failed : Bool
-  pub flushes : Flushes kept losses (length told.ports) shelves_run shelves_now outcome_run.apps outcome.apps flush_failed
-  pub told_is : outcome ≡ record outcome_run { apps = outcome.apps }
+-- There was no memory for a run by these turns, or for one by threads.
+abbrev pub LacksMemoryBy : {S T : Type 0} → {m : Streams S T} → Ends m → Ends m → Option (List ℕ) → Plan → Type 0
+LacksMemoryBy {S} {T} {m} before after (Some turns) plan =
+    LacksMemory m.source.left m.source.failed m.shelf.kept m.shelf.counts before.source after.source before.shelves after.shelves plan
+LacksMemoryBy {S} {T} {m} before after None plan =
+    LacksMemoryBeside m.source.left m.source.failed m.shelf.kept m.shelf.counts before.source after.source before.shelves after.shelves plan
+
+-- What a run by these turns leaves, or one without a text of turns: an outcome, or for want of memory none.
+pub record Plays {S T E : Type 0} {m : Streams S T} (before after : Ends m) (card card_now : Card) (turns : Option (List ℕ)) (plan : Plan)
+    (result : Result Outcome E) : Type 0 where
+  pub ran : IfOk result (λ outcome. RanWith before after card_now turns plan (told_of outcome))
+  pub recorded : IfOk result (λ outcome. HasRecord plan (told_of outcome) card_now)
+  pub lacks : OnErr result (LacksMemoryBy before after turns plan × (card_now ≡ card))
+
+-- ---- what the answer of a replay says
+
+-- Of the streams: what counts are the flows' payloads in the frames before the ending.
+pub record SaysOfStreams {S T O : Type 0} {m : Seen S T O} (before after : World m) (ports : List ℕ) (frames : List (List ℕ)) (outcome : Told)
+    : Type 0 where
   -- The stream theorem, of the shelves that are left and the lines that are told: each flow's shelf gained a front of what the copying
   -- receiver gives of what counts of the flow's payloads but those that were refused, and all of it where its application wasn't stopped.
-  pub flow : (number : ℕ) (flow : Flow) → slice_get (flows_of (steered_in told.ports ran.ran.before)) number ≡ Some flow →
+  pub flow : (number : ℕ) (flow : Flow) → slice_get (flows_of (steered_in ports frames)) number ≡ Some flow →
       There (slice_get outcome.flows number) (λ line. There (slice_get outcome.apps flow.app) (λ app.
-      IsLineOf flow line × Gained (kept_in kept shelves flow.app number) (kept_in kept shelves_now flow.app number)
-      (λ bytes. IsStreamed app.stopped (stream_of (steered_in told.ports ran.ran.before) outcome.refused number) bytes line.bytes)))
+      IsLineOf flow line × Gained (kept_by before flow.app number) (kept_by after flow.app number)
+      (λ bytes. IsStreamed app.stopped (stream_of (steered_in ports frames) outcome.refused number) bytes line.bytes)))
   -- No other flow of any shelf gained anything.
-  pub others : (app number : ℕ)
-      → option_map (λ (flow : Flow). flow.app) (slice_get (flows_of (steered_in told.ports ran.ran.before)) number) ≢ Some app
-      → Keeps (kept_in kept shelves app number) (kept_in kept shelves_now app number)
+  pub others : (app number : ℕ) → option_map (λ (flow : Flow). flow.app) (slice_get (flows_of (steered_in ports frames)) number) ≢ Some app
+      → Keeps (kept_by before app number) (kept_by after app number)
   -- What the lines say was written is what the appends took that went well, and nothing else.
   pub appended : (app : ℕ) (line : AppLine) → slice_get outcome.apps app ≡ Some line
-      → (losses_in losses shelves_now app).appended ≡ raised_by (losses_in losses shelves app).appended line.written
-  -- The report, with the status of that outcome, went out whole, and the record behind it where one is asked for; or not, and then the
-  -- answer says so.
-  pub reported : Result (Unit {0}) Unreported
-  pub report : Reports (sent out) (sent out_now) (refusals out) (refusals out_now) (text_of outcome flush_failed ++ record_in plan card_now) reported
-  -- The record tells of that run.
-  pub recorded : HasRecord plan outcome card_now
-  pub answered : answer ≡ answer_of (status_of outcome flush_failed) reported
+      → (counts_by after app).appended ≡ raised_by (counts_by before app).appended line.written
+
+-- Of the reading. `at` is the source as its ending left it.
+pub record SaysOfReading {S T O : Type 0} {m : Seen S T O} (before after : World m) (ports : List ℕ) (at : S) (answer : ℕ) : Type 0 where
   -- What was taken ends as all the bytes do, after the same records and by the same fault, unless memory ran out or a read failed.
-  pub reached : IfSome (left source) (λ all. Took (left source) (left source_now) (λ taken. ended_of told.ports taken ≡ ended_of told.ports all))
-      ⊎ ((answer ≡ 1) ⊎ (((answer ≡ 8) ⊎ (answer ≡ 9)) × Rose (failed source) (failed source_now)))
+  pub reached : IfSome (left_in before) (λ all. Took (left_in before) (left_in after) (λ taken. ended_of ports taken ≡ ended_of ports all))
+      ⊎ ((answer ≡ 1) ⊎ (((answer ≡ 8) ⊎ (answer ≡ 9)) × Rose (failed_in before) (failed_in after)))
   -- The answer is the number of what ended the reading of all the bytes, or 1, 8 or 9.
-  pub ending : IfSome (left source) (λ all. IsStatusOf answer (ended_of told.ports all).fault)
-  pub kind : IsStatus answer
-  pub whole : answer ≡ 0 → IsReadToEnd (left source) (left source_now)
+  pub ending : IfSome (left_in before) (λ all. IsStatusOf answer (ended_of ports all).fault)
+  pub whole : answer ≡ 0 → IsReadToEnd (left_in before) (left_in after)
   -- 8 comes only where a read failed, and what was taken by then breaks off: nothing else in it ends the reading.
-  pub read : answer ≡ 8 → Rose (failed source) (failed source_now)
-      × Took (left source) (left source_now) (λ taken. IsBrokenOff (ended_of told.ports taken).fault)
+  pub read : answer ≡ 8 → Rose (failed_in before) (failed_in after)
+      × Took (left_in before) (left_in after) (λ taken. IsBrokenOff (ended_of ports taken).fault)
+  -- Where the answer is none of 1, 9 and 10 nothing was read behind the ending.
+  pub settled : answer ≢ 1 → answer ≢ 9 → answer ≢ 10 → at ≡ after.ends.source
+  -- No read failed before the ending where the answer is none of 1, 8 and 9.
+  pub sound_reads : answer ≢ 1 → answer ≢ 8 → answer ≢ 9 → m.streams.source.failed at ≡ failed_in before
+
+-- a call of the shelf of one of these applications failed, or of the sink
+abbrev pub IsLost : {S T O : Type 0} → {m : Seen S T O} → World m → World m → List ℕ → Type 0
+IsLost {S} {T} {O} {m} before after ports =
+    HasLost m.streams.shelf before.ends.shelves after.ends.shelves (length ports) ⊎ Rose (sink_in before).failed (sink_in after).failed
+
+-- Of the applications, their shelves and the sink.
+pub record SaysOfWriting {S T O : Type 0} {m : Seen S T O} (before after : World m) (ports : List ℕ) (outcome : Told) (flush_failed : Bool)
+    (answer : ℕ) : Type 0 where
   -- 9 comes only where an application's shelf failed, or the sink.
-  pub lost : answer ≡ 9 → HasLost losses shelves shelves_now (length told.ports) ⊎ Rose (refusals out) (refusals out_now)
+  pub lost : answer ≡ 9 → IsLost before after ports
   -- Where memory stopped an application it is 1, and where its shelf did it is 1 or 9.
   pub wanting : (number : ℕ) (app : AppLine) → slice_get outcome.apps number ≡ Some app → app.stopped ≡ stop.Memory → answer ≡ 1
   pub failing : (number : ℕ) (app : AppLine) → slice_get outcome.apps number ≡ Some app → app.stopped ≡ stop.Write
       → (answer ≡ 1) ⊎ (answer ≡ 9)
   -- So it is where a flush failed, whatever the lines say.
   pub unflushed : flush_failed ≡ true → (answer ≡ 1) ⊎ (answer ≡ 9)
-  -- Completeness: where all the bytes end without a fault, and no read and no call of a shelf or of the sink failed, it is 0 or 1.
-  pub complete : (all : List ℕ) → left source ≡ Some all → (ended_of told.ports all).fault ≡ None → ¬ Rose (failed source) (failed source_now)
-      → ¬ HasLost losses shelves shelves_now (length told.ports) → ¬ Rose (refusals out) (refusals out_now) → (answer ≡ 0) ⊎ (answer ≡ 1)
-  -- With 0 the frames are those of all the bytes, no application was stopped but to quit, and with as many buffers as these frames
-  -- need none was refused.
-  pub all_read : answer ≡ 0 → (all : List ℕ) → left source ≡ Some all → ended_of told.ports all ≡ record { before = ran.ran.before; fault = None }
+  -- No call of a shelf or of the sink failed where it is neither 1 nor 9.
+  pub sound_shelves : answer ≢ 1 → answer ≢ 9 → (app : ℕ) → (counts_by after app).faults ≡ (counts_by before app).faults
+  pub sound_sink : answer ≢ 1 → answer ≢ 9 → (sink_in after).failed ≡ (sink_in before).failed
+  -- With 0 no application was stopped but to quit.
   pub going : answer ≡ 0 → (number : ℕ) (app : AppLine) → slice_get outcome.apps number ≡ Some app → (app.stopped ≡ stop.No) ⊎ (app.stopped ≡ stop.Quit)
-  pub enough : answer ≡ 0 → (all : List ℕ) → left source ≡ Some all
-      → need_in plan (offers_of (steered_in told.ports (ended_of told.ports all).before)) ≤ buffers_of plan → outcome.refused ≡ []
-  -- And each flow's shelf gained the whole stream that a copying receiver gives for it over those frames, the refused ones left out,
-  -- unless its application wrote as many bytes as it was to. So where none is refused it is a function of capture and ports alone,
-  -- whatever the turns or the threads did.
-  pub streams : answer ≡ 0 → (all : List ℕ) → left source ≡ Some all
-      → HaveWholeStreams kept shelves shelves_now told.ports told.options.how.quit (ended_of told.ports all).before outcome
-  -- Where the answer is none of 1, 9 and 10 nothing was read behind the ending.
-  pub settled : answer ≢ 1 → answer ≢ 9 → answer ≢ 10 → ran.at ≡ source_now
-  -- No read failed before the ending where the answer is none of 1, 8 and 9, and no call of a shelf or of the sink where it is neither
-  -- 1 nor 9.
-  pub sound_reads : answer ≢ 1 → answer ≢ 8 → answer ≢ 9 → failed ran.at ≡ failed source
-  pub sound_shelves : answer ≢ 1 → answer ≢ 9 → (app : ℕ) → (losses_in losses shelves_now app).faults ≡ (losses_in losses shelves app).faults
-  pub sound_sink : answer ≢ 1 → answer ≢ 9 → refusals out_now ≡ refusals out
-  -- Nor one of the sink where the report went out whole, whatever the answer.
-  pub sound_report : OnOk reported (refusals out_now ≡ refusals out)
 
--- There was no memory before anything was read or written.
-pub record IsUntouched {S T O : Type 0} (source source_now : S) (shelves shelves_now : List T) (out out_now : O) : Type 0 where
-  pub source_is : source_now ≡ source
-  pub shelves_are : shelves_now ≡ shelves
-  pub out_is : out_now ≡ out
+-- With 0, of all the bytes.
+pub record IsDone {S T O : Type 0} {m : Seen S T O} (before after : World m) (told : ReplayShown) (plan : Plan) (frames : List (List ℕ))
+    (outcome : Told) (all : List ℕ) : Type 0 where
+  -- These are the frames of all the bytes.
+  pub all_read : ended_of told.ports all ≡ record { before = frames; fault = None }
+  -- With as many buffers as these frames need none was refused.
+  pub enough : need_in plan (offers_of (steered_in told.ports (ended_of told.ports all).before)) ≤ buffers_of plan → outcome.refused ≡ []
+  -- Each flow's shelf gained the whole stream that a copying receiver gives for it over those frames, the refused ones left out, unless
+  -- its application wrote as many bytes as it was to. So where none is refused it is a function of capture and ports alone, whatever
+  -- the turns or the threads did.
+  pub streams : HaveWholeStreams m.streams.shelf.kept before.ends.shelves after.ends.shelves told.ports told.options.how.quit
+      (ended_of told.ports all).before outcome
 
--- There was no memory for a run by these turns, or for one by threads.
-abbrev pub LacksMemoryBy : {S T : Type 0} → (S → Option (List ℕ)) → (S → ℕ) → (T → ℕ → Option (List ℕ)) → (T → ShelfCounts) → S → S
-    → List T → List T → Option (List ℕ) → Plan → Type 0
-LacksMemoryBy left failed kept losses source source_now shelves shelves_now (Some turns) plan =
-    LacksMemory left failed kept losses source source_now shelves shelves_now plan
-LacksMemoryBy left failed kept losses source source_now shelves shelves_now None plan =
-    LacksMemoryBeside left failed kept losses source source_now shelves shelves_now plan
-
--- There was no memory: before the first turn, and nothing was touched; or for the outcome behind the last turn. No shelf was flushed.
-pub record Lacks {S T O : Type 0} (left : S → Option (List ℕ)) (failed : S → ℕ) (kept : T → ℕ → Option (List ℕ)) (losses : T → ShelfCounts)
-    (source source_now : S) (shelves shelves_now : List T) (out out_now : O) (card_now : Card) (told : ReplayShown) (answer : ℕ) : Type 0 where
-  pub answer_is : answer ≡ 1
-  pub card_is : card_now ≡ Card.Blank
-  pub out_is : out_now ≡ out
+-- What a replay leaves, and what its answer says. `ran.at` is the source as the ending of the reading left it.
+pub record Replays {S T O : Type 0} {m : Seen S T O} (before after : World m) (told : ReplayShown) (answer : ℕ) : Type 0 where
   pub plan : Plan
   pub planned : IsPlanOf told plan
-  pub lacks : LacksMemoryBy left failed kept losses source source_now shelves shelves_now told.turns plan
+  -- The run: what it leaves on the shelves and of itself, and the board in the card.
+  pub shelves_run : List T
+  pub outcome_run : Told
+  pub ran : RanWith before.ends (record after.ends { shelves = shelves_run }) after.card told.turns plan outcome_run
+  -- Then the shelf of each application was flushed. What is told is what the run left, but for the lines of those where that failed.
+  pub outcome : Told
+  pub flush_failed : Bool
+  pub flushes : Flushes m.streams.shelf (length told.ports) shelves_run after.ends.shelves outcome_run.apps outcome.apps flush_failed
+  pub told_is : outcome ≡ record outcome_run { apps = outcome.apps }
+  pub streams : SaysOfStreams before after told.ports ran.ran.before outcome
+  -- The report, with the status of that outcome, went out whole, and the record behind it where one is asked for; or not, and then the
+  -- answer says so.
+  pub report : Tells (sink_in before) (sink_in after) outcome flush_failed (record_in plan after.card) answer
+  -- The record tells of that run.
+  pub recorded : HasRecord plan outcome after.card
+  pub kind : IsStatus answer
+  pub reading : SaysOfReading before after told.ports ran.at answer
+  pub writing : SaysOfWriting before after told.ports outcome flush_failed answer
+  -- Completeness: where all the bytes end without a fault, and no read and no call of a shelf or of the sink failed, it is 0 or 1.
+  pub complete : (all : List ℕ) → left_in before ≡ Some all → (ended_of told.ports all).fault ≡ None → ¬ Rose (failed_in before) (failed_in after)
+      → ¬ IsLost before after told.ports → (answer ≡ 0) ⊎ (answer ≡ 1)
+  pub done : answer ≡ 0 → (all : List ℕ) → left_in before ≡ Some all → IsDone before after told plan ran.ran.before outcome all
+
+-- There was no memory: before the first turn, and nothing was touched; or for the outcome behind the last turn. No shelf was flushed.
+pub record Lacks {S T O : Type 0} {m : Seen S T O} (before after : World m) (told : ReplayShown) (answer : ℕ) : Type 0 where
+  pub answer_is : answer ≡ 1
+  pub card_is : after.card ≡ Card.Blank
+  pub out_is : after.out ≡ before.out
+  pub plan : Plan
+  pub planned : IsPlanOf told plan
+  pub lacks : LacksMemoryBy before.ends after.ends told.turns plan
 
 -- a replay of these ports, areas and options, by these turns
 abbrev pub asked_by : List ℕ → List (ℕ × ℕ) → Options → Option (List ℕ) → ReplayShown
 asked_by ports areas options turns = record { ports = ports; areas = areas; options = options; turns = turns }
 
 -- what a replay leaves, with memory or without
-abbrev pub RepliesTo : {S T O : Type 0} → (S → Option (List ℕ)) → (S → ℕ) → (T → ℕ → Option (List ℕ)) → (T → ShelfCounts)
-    → (O → Option (List ℕ)) → (O → ℕ)
-    → S → S → List T → List T → O → O → Card → ReplayShown → ℕ → Type 0
-RepliesTo left failed kept losses sent refusals source source_now shelves shelves_now out out_now card_now told answer =
-    Replays left failed kept losses sent refusals source source_now shelves shelves_now out out_now card_now told answer
-    ⊎ Lacks left failed kept losses source source_now shelves shelves_now out out_now card_now told answer
+abbrev pub RepliesTo : {S T O : Type 0} → {m : Seen S T O} → World m → World m → ReplayShown → ℕ → Type 0
+RepliesTo before after told answer = Replays before after told answer ⊎ Lacks before after told answer
+
+-- ---- what words leave
 
 -- what a command leaves
-abbrev pub Commands : {S T O : Type 0} → (S → Option (List ℕ)) → (S → ℕ) → (T → ℕ → Option (List ℕ)) → (T → ShelfCounts)
-    → (O → Option (List ℕ)) → (O → ℕ)
-    → S → S → List T → List T → O → O → Card → ℕ → Shown → Type 0
-Commands left failed kept losses sent refusals source source_now shelves shelves_now out out_now card_now answer (replay told) =
-    Replays left failed kept losses sent refusals source source_now shelves shelves_now out out_now card_now told answer
-    ⊎ Lacks left failed kept losses source source_now shelves shelves_now out out_now card_now told answer
-    ⊎ ((answer ≡ 1) × (card_now ≡ Card.Blank) × IsUntouched source source_now shelves shelves_now out out_now)
-Commands left failed kept losses sent refusals source source_now shelves shelves_now out out_now card_now answer (make told) =
-    Makes sent refusals source source_now shelves shelves_now out out_now told.seed told.frames answer × (card_now ≡ Card.Blank)
-Commands left failed kept losses sent refusals source source_now shelves shelves_now out out_now card_now answer check =
-    Checks left failed sent refusals source source_now out out_now card_now answer × (shelves_now ≡ shelves)
+abbrev pub Commands : {S T O : Type 0} → {m : Seen S T O} → World m → World m → ℕ → Shown → Type 0
+Commands before after answer (replay told) =
+    Replays before after told answer ⊎ Lacks before after told answer ⊎ ((answer ≡ 1) × IsUntouched before after)
+Commands before after answer (make told) = Makes before after told.seed told.frames answer × (after.card ≡ Card.Blank)
+Commands {S} {T} {O} {m} before after answer check =
+    Checks m.streams.source m.sink before.ends.source after.ends.source before.out after.out after.card answer
+    × (after.ends.shelves ≡ before.ends.shelves)
 
 -- What words leave, whatever they ask for.
-pub record Answers {S T O : Type 0} (left : S → Option (List ℕ)) (failed : S → ℕ) (kept : T → ℕ → Option (List ℕ)) (losses : T → ShelfCounts)
-    (sent : O → Option (List ℕ)) (refusals : O → ℕ)
-    (source source_now : S) (shelves shelves_now : List T) (out out_now : O) (card_now : Card) (reading : Option Shown) (answer : ℕ) : Type 0 where
+pub record Answers {S T O : Type 0} {m : Seen S T O} (before after : World m) (reading : Option Shown) (answer : ℕ) : Type 0 where
   -- Words without a reading are answered by 2, or by 1 where there was no memory to read them; and no other words by 2.
   pub usage : answer ≡ 2 → reading ≡ None
   pub unread : reading ≡ None → (answer ≡ 2) ⊎ (answer ≡ 1)
   -- Then nothing is read or written.
-  pub untouched : reading ≡ None → IsUntouched source source_now shelves shelves_now out out_now × (card_now ≡ Card.Blank)
-  pub replays : IfSome reading (Commands left failed kept losses sent refusals source source_now shelves shelves_now out out_now card_now answer)
+  pub untouched : reading ≡ None → IsUntouched before after
+  -- To replay: the stream theorem, what the status and the report say, and the board. To make: the capture. To check: what was found.
+  pub replays : IfSome reading (Commands before after answer)
   -- A board that is left may be finished.
-  pub closed : IsClosed card_now
+  pub closed : IsClosed after.card
 
 -- a replay without a text of turns
 abbrev pub IsThreaded : Option Shown → Type 0
@@ -210,18 +240,9 @@ IsThreaded (Some (make told)) = ⊥
 IsThreaded (Some check) = ⊥
 IsThreaded None = ⊥
 
--- the report of an outcome, with what came of the flush, what stands behind it, and the answer
-pub record Tells (sent now : Option (List ℕ)) (refusals refusals_now : ℕ) (outcome : Told) (lost : Bool) (record_text : List ℕ)
-    (answer : ℕ) : Type 0 where
-  pub reported : Result (Unit {0}) Unreported
-  pub report : Reports sent now refusals refusals_now (text_of outcome lost ++ record_text) reported
-  pub still : OnOk reported (refusals_now ≡ refusals)
-  pub answered : answer ≡ answer_of (status_of outcome lost) reported
-
--- The shelves of an outcome's applications are flushed, and then it is told.
-pub record Finishes {T : Type 0} (kept : T → ℕ → Option (List ℕ)) (losses : T → ShelfCounts) (shelves shelves_now : List T)
-    (sent now : Option (List ℕ)) (refusals refusals_now : ℕ) (outcome : Told) (record_text : List ℕ) (answer : ℕ) : Type 0 where
-  pub lines : List AppLine
-  pub lost : Bool
-  pub flushes : Flushes kept losses (length outcome.apps) shelves shelves_now outcome.apps lines lost
-  pub tells : Tells sent now refusals refusals_now (record outcome { apps = lines }) lost record_text answer
+-- What words leave that are answered on one thread. `None` is the answer of no words but a replay by threads, which has no other but 1,
+-- where there was no memory to read them, and then nothing was done.
+pub record AnswersAlone {S T O : Type 0} {m : Seen S T O} (before after : World m) (reading : Option Shown) (answer : Option ℕ) : Type 0 where
+  pub some : IfSome answer (Answers before after reading)
+  pub none : answer ≡ None → IsThreaded reading × IsUntouched before after
+  pub threaded : IsThreaded reading → (answer ≡ None) ⊎ (answer ≡ Some 1)

@@ -1,6 +1,6 @@
 //! The command `check`.
 ghost use Rattle.std.specs.Prelude.{◌≡◌, Some};
-ghost use Rattle.top_call.specs.{Cards.{IsClosed}, Checking.{Checks, check_line, check_status}};
+ghost use Rattle.top_call.specs.{Cards.{IsClosed}, Checking.{Checks, check_line, check_status}, Worlds.{sink_seen, source_seen}};
 
 use crate::card::Card;
 use run_check::{Checked, check};
@@ -41,7 +41,7 @@ pub(crate) fn check_record<S: Source, O: Sink>(
     card: &mut Card,
 ) -> u8
     requires { card.old ≡ Card.Blank }
-    ensures checks { Checks S.left S.faults O.sent O.faults source.old source.new out.old out.new card.new result }
+    ensures checks { Checks (source_seen S.left S.faults) (sink_seen O.sent O.faults) source.old source.new out.old out.new card.new result }
     ensures closed { IsClosed card.new }
 {
     let found = match check(alloc, source) {

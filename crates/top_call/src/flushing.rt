@@ -1,7 +1,7 @@
 //! The flush of the shelves, once all roles have left.
 
 ghost use Rattle.std.specs.{Prelude.{◌≡◌, ℕ, ◌≤◌, length}, Io.KnownBytes.{Keeps}};
-ghost use Rattle.top_call.specs.Flushing.{Flushes, HasFlushed};
+ghost use Rattle.top_call.specs.{Flushing.{Flushes, HasFlushed}, Worlds.{shelf_seen}};
 
 use zr_io::{Failed, Shelf};
 use zr_kinds::{AppLine, Stopped};
@@ -29,7 +29,7 @@ fn flush_shelf<T: Shelf>(shelf: &mut T, line: &mut AppLine) -> bool
 /// failed at one.
 pub(crate) fn flush_shelves<T: Shelf>(shelves: &mut [T], lines: &mut [AppLine]) -> bool
     requires { length lines.old ≤ length shelves.old }
-    ensures { Flushes T.kept T.counts (length lines.old) shelves.old shelves.new lines.old lines.new result }
+    ensures { Flushes (shelf_seen T.kept T.counts) (length lines.old) shelves.old shelves.new lines.old lines.new result }
 {
     let mut lost = false;
     for app in 0..lines.len() {

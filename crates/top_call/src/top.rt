@@ -1,6 +1,6 @@
 //! The top call: a command's words, a source, eight shelves and a sink.
 
-ghost use Rattle.std.specs.{Prelude.{◌≡◌, ℕ, ◌≤◌, ◌<◌, ◌⊎◌, true, List, Option, None, Some, IfSome, IfOk, IfErr, OnErr, OnOk, Ok, ◌++◌, map, length, take, vec_len}, Io.KnownBytes.{Appends}};
+ghost use Rattle.std.specs.{Prelude.{◌≡◌, ℕ, ◌≤◌, ◌<◌, ◌⊎◌, true, List, Option, None, Some, IfOk, IfErr, MatchResult, OnErr, OnOk, Ok, ◌++◌, map, length, take, vec_len}, Io.KnownBytes.{Appends}};
 ghost use Rattle.zr_io.specs.Moved.{AddsPiece, HasCause, Rose};
 ghost use Rattle.area_layout.specs.Layout.{MakeLayout};
 ghost use Rattle.cap_make.specs.GeneratedCapture.{generated_capture};
@@ -9,7 +9,7 @@ ghost use Rattle.card_feed.specs.Plan.{IsPlan, TakesTurns};
 ghost use Rattle.run_account.specs.Ran.{told_of};
 ghost use Rattle.run_report.specs.Report.{Reports, report_of};
 ghost use Rattle.replay_turns.specs.Schedule.{AreTurns};
-ghost use Rattle.top_call.specs.{Cards.{IsClosed}, Planned.{IsPlanOf}, Records.{HasRecord, record_in}, StreamTheorem.{Answers, Commands, Finishes, IsThreaded, IsUntouched, LacksMemoryBy, RanWith, RepliesTo, Tells, asked_by}};
+ghost use Rattle.top_call.specs.{Planned.{IsPlanOf}, Records.{record_in}, StreamTheorem.{Answers, AnswersAlone, Finishes, IsThreaded, Plays, RepliesTo, Tells, asked_by}, Worlds.{IsUntouched, ends_at, seen, shelf_seen, sink_seen, source_seen, streams, sunk, world_at}};
 
 use crate::card::Card;
 use crate::checking::check_record;
@@ -73,8 +73,8 @@ fn tell<O: Sink>(
     out: &mut O,
 ) -> u8
     requires plan { IsPlan plan.now }
-    ensures { Tells (O.sent out.old) (O.sent out.new) (O.faults out.old) (O.faults out.new) (told_of outcome.now) lost
-        (record_in plan.now card.now) result }
+    ensures { let m = sink_seen O.sent O.faults in
+        Tells (sunk m out.old) (sunk m out.new) (told_of outcome.now) lost (record_in plan.now card.now) result }
 {
     let status = status_of(outcome, lost);
     let report = Report {
@@ -99,8 +99,9 @@ fn finish<T: Shelf, O: Sink>(
 ) -> u8
     requires plan { IsPlan plan.now }
     requires shelves { length outcome.apps.items ≤ length shelves.old }
-    ensures { Finishes T.kept T.counts shelves.old shelves.new (O.sent out.old) (O.sent out.new) (O.faults out.old) (O.faults out.new)
-        (told_of outcome) (record_in plan.now card.now) result }
+    ensures { let m = sink_seen O.sent O.faults in
+        Finishes (shelf_seen T.kept T.counts) shelves.old shelves.new (sunk m out.old) (sunk m out.new)
+        (told_of outcome, record_in plan.now card.now) result }
 {
     let lost = flush_shelves(shelves, &mut outcome.apps);
     tell(alloc, &outcome, lost, plan, card, out)
@@ -152,11 +153,8 @@ fn play_turns<S: Source, T: Shelf>(
     requires shelves { length plan.now.ports.items ≤ vec_len shelves.old }
     requires turns { AreTurns (length plan.now.ports.items) turns.now }
     ensures many { vec_len shelves.new ≡ vec_len shelves.old }
-    ensures ran { IfOk result (λ outcome. RanWith S.left S.faults T.kept T.counts source.old source.new shelves.old.items shelves.new.items card.new
-        (Some turns.now) plan.now (told_of outcome)) }
-    ensures recorded { IfOk result (λ outcome. HasRecord plan.now (told_of outcome) card.new) }
-    ensures lacks { OnErr result (LacksMemoryBy S.left S.faults T.kept T.counts source.old source.new shelves.old.items shelves.new.items
-        (Some turns.now) plan.now × (card.new ≡ card.old)) }
+    ensures plays { let m = streams (source_seen S.left S.faults) (shelf_seen T.kept T.counts) in
+        Plays (ends_at m source.old shelves.old.items) (ends_at m source.new shelves.new.items) card.old card.new (Some turns.now) plan.now result }
 {
     let (outcome, board) = run_turns(alloc, random, source, shelves, plan, turns)?;
     *card = Card::Plain(board);
@@ -177,11 +175,8 @@ fn play_beside<S: Source + Send, T: Shelf + Send, G: Gate + Sync, R: Threads + W
     requires plan { IsPlan plan.now }
     requires shelves { length plan.now.ports.items ≤ vec_len shelves.old }
     ensures many { vec_len shelves.new ≡ vec_len shelves.old }
-    ensures ran { IfOk result (λ outcome. RanWith S.left S.faults T.kept T.counts source.old source.new shelves.old.items shelves.new.items card.new
-        None plan.now (told_of outcome)) }
-    ensures recorded { IfOk result (λ outcome. HasRecord plan.now (told_of outcome) card.new) }
-    ensures lacks { OnErr result (LacksMemoryBy S.left S.faults T.kept T.counts source.old source.new shelves.old.items shelves.new.items
-        None plan.now × (card.new ≡ card.old)) }
+    ensures plays { let m = streams (source_seen S.left S.faults) (shelf_seen T.kept T.counts) in
+        Plays (ends_at m source.old shelves.old.items) (ends_at m source.new shelves.new.items) card.old card.new None plan.now result }
 {
     let (outcome, board, desk) = run_threads(rt, alloc, random, source, shelves, plan, gate)?;
     board.uncounted(&desk);
@@ -203,11 +198,8 @@ fn play_rounds<S: Source, T: Shelf, G: Gate>(
     requires turns_only { TakesTurns plan.now }
     requires shelves { length plan.now.ports.items ≤ vec_len shelves.old }
     ensures many { vec_len shelves.new ≡ vec_len shelves.old }
-    ensures ran { IfOk result (λ outcome. RanWith S.left S.faults T.kept T.counts source.old source.new shelves.old.items shelves.new.items card.new
-        None plan.now (told_of outcome)) }
-    ensures recorded { IfOk result (λ outcome. HasRecord plan.now (told_of outcome) card.new) }
-    ensures lacks { OnErr result (LacksMemoryBy S.left S.faults T.kept T.counts source.old source.new shelves.old.items shelves.new.items
-        None plan.now × (card.new ≡ card.old)) }
+    ensures plays { let m = streams (source_seen S.left S.faults) (shelf_seen T.kept T.counts) in
+        Plays (ends_at m source.old shelves.old.items) (ends_at m source.new shelves.new.items) card.old card.new None plan.now result }
 {
     let (outcome, plain) = run_rounds(alloc, random, source, shelves, plan, gate)?;
     *card = Card::Plain(plain);
@@ -236,11 +228,8 @@ fn play_freely<S: Source + Send, T: Shelf + Send, G: Gate + Sync, R: Threads + W
     requires plan { IsPlan plan.now }
     requires shelves { length plan.now.ports.items ≤ vec_len shelves.old }
     ensures many { vec_len shelves.new ≡ vec_len shelves.old }
-    ensures ran { IfOk result (λ outcome. RanWith S.left S.faults T.kept T.counts source.old source.new shelves.old.items shelves.new.items card.new
-        None plan.now (told_of outcome)) }
-    ensures recorded { IfOk result (λ outcome. HasRecord plan.now (told_of outcome) card.new) }
-    ensures lacks { OnErr result (LacksMemoryBy S.left S.faults T.kept T.counts source.old source.new shelves.old.items shelves.new.items
-        None plan.now × (card.new ≡ card.old)) }
+    ensures plays { let m = streams (source_seen S.left S.faults) (shelf_seen T.kept T.counts) in
+        Plays (ends_at m source.old shelves.old.items) (ends_at m source.new shelves.new.items) card.old card.new None plan.now result }
 {
     if takes_turns(plan) && processors(rt, gate) == 1 {
         play_rounds(alloc, random, source, shelves, plan, gate, card)
@@ -275,8 +264,9 @@ fn replay_alone<S: Source, T: Shelf, O: Sink>(
     requires turns { AreTurns (length command.ports.items) turns.now }
     requires shelves { vec_len shelves.old ≡ 8 }
     requires blank { card.old ≡ Card.Blank }
-    ensures replays { RepliesTo S.left S.faults T.kept T.counts O.sent O.faults source.old source.new shelves.old.items shelves.new.items out.old out.new
-        card.new (asked_by command.ports.items command.areas.items command.options (Some turns.now)) result }
+    ensures replays { let m = seen (source_seen S.left S.faults) (shelf_seen T.kept T.counts) (sink_seen O.sent O.faults) in
+        RepliesTo (world_at m source.old shelves.old.items out.old card.old) (world_at m source.new shelves.new.items out.new card.new)
+        (asked_by command.ports.items command.areas.items command.options (Some turns.now)) result }
 {
     let plan = plan_of(command);
     match play_turns(alloc, random, source, shelves, &plan, turns, card) {
@@ -302,8 +292,9 @@ fn replay<S: Source + Send, T: Shelf + Send, O: Sink, G: Gate + Sync, R: Threads
     requires options { AreInRange command.options }
     requires shelves { vec_len shelves.old ≡ 8 }
     requires blank { card.old ≡ Card.Blank }
-    ensures replays { RepliesTo S.left S.faults T.kept T.counts O.sent O.faults source.old source.new shelves.old.items shelves.new.items out.old out.new
-        card.new (asked_by command.ports.items command.areas.items command.options None) result }
+    ensures replays { let m = seen (source_seen S.left S.faults) (shelf_seen T.kept T.counts) (sink_seen O.sent O.faults) in
+        RepliesTo (world_at m source.old shelves.old.items out.old card.old) (world_at m source.new shelves.new.items out.new card.new)
+        (asked_by command.ports.items command.areas.items command.options None) result }
 {
     let plan = plan_of(command);
     match play_freely(rt, alloc, random, source, shelves, &plan, gate, card) {
@@ -344,11 +335,12 @@ fn run_alone<S: Source, T: Shelf, O: Sink>(
 ) -> Result<u8, Threaded>
     requires shelves { vec_len shelves.old ≡ 8 }
     requires blank { card.old ≡ Card.Blank }
-    ensures answers { IfOk result (Answers S.left S.faults T.kept T.counts O.sent O.faults source.old source.new shelves.old.items shelves.new.items
-        out.old out.new card.new (reading_of (map (λ w. w.now) words.now))) }
+    ensures answers { let m = seen (source_seen S.left S.faults) (shelf_seen T.kept T.counts) (sink_seen O.sent O.faults) in
+        let before = world_at m source.old shelves.old.items out.old card.old in
+        let after = world_at m source.new shelves.new.items out.new card.new in
+        MatchResult result (Answers before after (reading_of (map (λ w. w.now) words.now))) (λ _. IsUntouched before after) }
     ensures alone { IfOk result (λ answer. IsThreaded (reading_of (map (λ w. w.now) words.now)) → answer ≡ 1) }
     ensures asks { IfErr result (λ t. reading_of (map (λ w. w.now) words.now) ≡ Some (replay (asked_by t.command.ports.items t.command.areas.items t.command.options None))) }
-    ensures untouched { OnErr result (IsUntouched source.old source.new shelves.old.items shelves.new.items out.old out.new × (card.new ≡ Card.Blank)) }
     ensures asked { IfErr result (λ t. IsPortList t.command.ports.items × MakeLayout t.command.areas.items (length t.command.ports.items)
         × AreInRange t.command.options) }
     ensures shelves { OnErr result (vec_len shelves.new ≡ 8) }
@@ -398,12 +390,9 @@ pub fn zcrx_alone<S: Source, T: Shelf, O: Sink>(
 ) -> Option<u8>
     requires shelves { vec_len shelves.old ≡ 8 }
     requires blank { card.old ≡ Card.Blank }
-    ensures answers { IfSome result (Answers S.left S.faults T.kept T.counts O.sent O.faults source.old source.new shelves.old.items shelves.new.items
-        out.old out.new card.new (reading_of (map (λ w. w.now) words.now))) }
-    // It is `None` only for a replay by threads; such a one is answered by `None`, or by 1 where there was no memory to read the words.
-    ensures none { result ≡ None → IsThreaded (reading_of (map (λ w. w.now) words.now)) }
-    ensures threaded { IsThreaded (reading_of (map (λ w. w.now) words.now)) → (result ≡ None) ⊎ (result ≡ Some 1) }
-    ensures untouched { result ≡ None → IsUntouched source.old source.new shelves.old.items shelves.new.items out.old out.new × (card.new ≡ Card.Blank) }
+    ensures { let m = seen (source_seen S.left S.faults) (shelf_seen T.kept T.counts) (sink_seen O.sent O.faults) in
+        AnswersAlone (world_at m source.old shelves.old.items out.old card.old) (world_at m source.new shelves.new.items out.new card.new)
+        (reading_of (map (λ w. w.now) words.now)) result }
 {
     run_alone(alloc, random, words, source, shelves, out, card).ok()
 }
@@ -427,20 +416,10 @@ pub fn zcrx<S: Source + Send, T: Shelf + Send, O: Sink, G: Gate + Sync, R: Threa
 ) -> u8
     requires shelves { vec_len shelves.old ≡ 8 }
     requires blank { card.old ≡ Card.Blank }
-
-    // Words without a reading are answered by 2, or by 1 where there was no memory to read them; and no other words by 2.
-    ensures usage { result ≡ 2 → reading_of (map (λ w. w.now) words.now) ≡ None }
-    ensures unread { reading_of (map (λ w. w.now) words.now) ≡ None → (result ≡ 2) ⊎ (result ≡ 1) }
-    // Then nothing is read or written.
-    ensures untouched { reading_of (map (λ w. w.now) words.now) ≡ None
-        → IsUntouched source.old source.new shelves.old.items shelves.new.items out.old out.new × (card.new ≡ Card.Blank) }
-
-    // To replay: the stream theorem, what the status and the report say, and the board. To make: the capture. To check: what was found.
-    ensures replays { IfSome (reading_of (map (λ w. w.now) words.now))
-        (Commands S.left S.faults T.kept T.counts O.sent O.faults source.old source.new shelves.old.items shelves.new.items out.old out.new
-        card.new result) }
-    // A board that is left may be finished.
-    ensures closed { IsClosed card.new }
+    // `card.new` may be finished; the rest of what the answer says stands in `Answers`.
+    ensures { let m = seen (source_seen S.left S.faults) (shelf_seen T.kept T.counts) (sink_seen O.sent O.faults) in
+        Answers (world_at m source.old shelves.old.items out.old card.old) (world_at m source.new shelves.new.items out.new card.new)
+        (reading_of (map (λ w. w.now) words.now)) result }
 {
     match run_alone(alloc, random, words, source, shelves, out, card) {
         Ok(answer) => answer,

@@ -4,31 +4,34 @@ use Rattle.plain_board.{specs.{Board.{stand_of}, Finish.{IsOver}}, proofs.Ending
 use Rattle.top_call.proofs.{Alone.{lacks-alone}, Recording.{board-records}}
 use Rattle.top_call.proofs.top.play_rounds.Goals as goal
 
-pub returns-clause-ran : goal.returns-clause-ran
-returns-clause-ran g c =
+pub returns-clause-plays : goal.returns-clause-plays
+returns-clause-plays g c =
     let ran = c.in_ok-outcome.ensures in
     let over : IsOver (stand_of c.in_ok-outcome.plain) = record { card = ran.ran.over.card; apps = ran.ran.over.left } in
     record {
-      at = c.run_rounds.new.source;
-      ahead = search rules;
-      still = λ _. refl;
-      nic = _;
-      apps = _;
-      ran = ran.ran;
-      sweeps = λ some. absurd (some refl);
-      sides = (refl, refl);
-      over = over;
-      uncounted = (boards-end_well _ ran.sound over).counts;
-      way = (ran.sound, ran.recorded);
-      played = c.requires.turns_only;
+      ran = record {
+        at = c.run_rounds.new.source;
+        ahead = search rules;
+        still = λ _. refl;
+        nic = _;
+        apps = _;
+        ran = ran.ran;
+        sweeps = λ some. absurd (some refl);
+        sides = (refl, refl);
+        over = over;
+        uncounted = (boards-end_well _ ran.sound over).counts;
+        way = (ran.sound, ran.recorded);
+        played = c.requires.turns_only;
+      };
+      recorded = board-records g.S.Source.left g.S.Source.faults g.T.Shelf.kept g.T.Shelf.counts _ _ _ _ c.args.plan.now _ _ c.requires.plan
+          c.in_ok-outcome.ensures.ran c.in_ok-outcome.ensures.sound c.in_ok-outcome.ensures.recorded c.in_ok-outcome.ensures.room;
+      lacks = tt;
     }
 
-pub returns-clause-recorded : goal.returns-clause-recorded
-returns-clause-recorded g c =
-    board-records g.S.Source.left g.S.Source.faults g.T.Shelf.kept g.T.Shelf.counts _ _ _ _ c.args.plan.now _ _ c.requires.plan
-    c.in_ok-outcome.ensures.ran c.in_ok-outcome.ensures.sound c.in_ok-outcome.ensures.recorded c.in_ok-outcome.ensures.room
-
-pub returns-in_err-outcome-clause-lacks : goal.returns-in_err-outcome-clause-lacks
-returns-in_err-outcome-clause-lacks g c =
-    lacks-alone g.S.Source.left g.S.Source.faults g.T.Shelf.kept g.T.Shelf.counts c.args.source.now c.run_rounds.new.source c.args.shelves.now.items
-    c.run_rounds.new.shelves.items c.args.plan.now _ c.args.card.now (search rules)
+pub returns-in_err-outcome-clause-plays : goal.returns-in_err-outcome-clause-plays
+returns-in_err-outcome-clause-plays g c = record {
+  ran = search rules;
+  recorded = search rules;
+  lacks = lacks-alone g.S.Source.left g.S.Source.faults g.T.Shelf.kept g.T.Shelf.counts c.args.source.now c.run_rounds.new.source c.args.shelves.now.items
+      c.run_rounds.new.shelves.items c.args.plan.now _ c.args.card.now (search rules);
+}

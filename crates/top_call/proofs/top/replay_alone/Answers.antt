@@ -15,20 +15,19 @@ play_turns-requires-clause-turns_only g c =
 
 pub returns-in-Ok : goal.returns-in-Ok
 returns-in-Ok g c = record {
-  replays = inl (replays g.O.Sink.sent g.O.Sink.faults c.args.out.now c.finish.new.out
-      (asked_by c.args.command.ports.items c.args.command.areas.items c.args.command.options (Some c.args.turns.now)) _ c.requires.options
-      (c.plan_of-plan.ensures.told _) c.in-Ok.ensures.ran c.in-Ok.ensures.recorded
-      c.deref_mut.result.now c.deref_mut.ensures.value c.play_turns.new.shelves.len (omega (arith, c.play_turns.new.shelves.ok)) c.finish.ensures);
+  replays = inl (replays _ _ c.finish.new.out _ (asked_by c.args.command.ports.items c.args.command.areas.items c.args.command.options (Some c.args.turns.now))
+      c.requires.options (c.plan_of-plan.ensures.told _) c.in-Ok.ensures.plays.ran c.in-Ok.ensures.plays.recorded c.deref_mut.result.now
+      c.deref_mut.ensures.value c.play_turns.new.shelves.len (omega (arith, c.play_turns.new.shelves.ok)) c.finish.ensures);
 }
 
 pub returns : goal.returns
 returns g c = record {
   replays = inr (record {
     answer_is = c.number.ensures;
-    card_is = c.in-Err.ensures.lacks.1 ∙ c.requires.blank;
+    card_is = c.in-Err.ensures.plays.lacks.1 ∙ c.requires.blank;
     out_is = refl;
     plan = c.plan_of-plan.result;
     planned = c.plan_of-plan.ensures.told _;
-    lacks = c.in-Err.ensures.lacks.0;
+    lacks = c.in-Err.ensures.plays.lacks.0;
   });
 }
