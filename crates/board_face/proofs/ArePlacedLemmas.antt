@@ -24,7 +24,7 @@ use Rattle.board_face.proofs.{ListLemmas.{All-without, not-eqb}, Tallies.{total-
 use Rattle.board_face.proofs.{Parts.{owns_in, spares_in, app_count, returned_in-count, pool_count-parts, count-tally}, NicLemmas.{making_at, owns-without}}
 use Rattle.board_face.proofs.AppLemmas.{pool_count-app, owns-without as spares-without}
 use Rattle.board_face.proofs.PlaceTallies.{in_buffer, piece_places, app_places, places-parts}
-use Rattle.board_face.proofs.PlacesByEvent.{places-stretch, places-nic, places-placed, places-begun, places-text_done, places-making, places-sent}
+use Rattle.board_face.proofs.PlacesByEvent.{places-stretch, places-nic, places-placed, places-begun, places-text_done, places-sent}
 use Rattle.board_face.proofs.PlacesByEvent.{places-sent_linear, places-app, app_places-cut, app_places-released, app_places-abandoned}
 use Rattle.board_face.proofs.{PlacesByEvent.{app_places-lent_own}, IsFilledByOneLemmas.{fillings-one, fillings-alone}}
 use Rattle.board_face.{proofs.FillingsFitLemmas.{FillingsFit-own, FillingsFit-spare, few-within}}
@@ -180,12 +180,6 @@ module _ (b : ℕ) (nic : NicSide) (apps : List AppSide) where
       ArePlaced-card (making_at nic (text_done nic.view own bytes) None) refl refl
       (λ test. omega (arith, places-text_done b test nic apps own bytes making busy place))
 
-  pub ArePlaced-making : (making : Making) (words : List ℕ) → nic.inside.making ≡ Some making
-      → CardStays (making_at nic nic.view (Some (record { place = making.place; words = words })))
-  ArePlaced-making making words busy =
-      ArePlaced-card (making_at nic nic.view (Some (record { place = making.place; words = words }))) refl refl
-      (λ test. omega (arith, places-making b test nic apps making words busy))
-
 -- ---- where one place comes
 
 -- no element has this number, so any fact holds of those that have it
@@ -316,13 +310,13 @@ ArePlaced-placed b nic apps own bytes out some_bytes within fit by_one sound =
     (λ test. omega (arith, places-placed b test nic apps own bytes)) sound
 
 -- the two parts of a placing
-pub ArePlaced-begun : (b : ℕ) (nic : NicSide) (apps : List AppSide) (own : Filling) (n : ℕ) (words : List ℕ) → HasOwn nic.view own → 0 < n
+pub ArePlaced-begun : (b : ℕ) (nic : NicSide) (apps : List AppSide) (own : Filling) (n : ℕ) (bytes : List ℕ) → HasOwn nic.view own → 0 < n
     → own.start + n ≤ own.size → nic.inside.making ≡ None → FillingsFit nic apps → IsFilledByOne b nic apps
-    → ArePlaced b nic apps → ArePlaced b (making_at nic (begun nic.view own n) (Some (record { place = next_place own n; words = words }))) apps
-ArePlaced-begun b nic apps own n words out some_bytes within idle fit by_one sound =
+    → ArePlaced b nic apps → ArePlaced b (making_at nic (begun nic.view own n) (Some (record { place = next_place own n; bytes = bytes }))) apps
+ArePlaced-begun b nic apps own n bytes out some_bytes within idle fit by_one sound =
     placed-on b nic (making_at nic (begun nic.view own n) (Some
-    (record { place = next_place own n; words = words }))) apps own n out some_bytes within fit by_one refl refl
-    (λ test. omega (arith, places-begun b test nic apps own n words idle)) sound
+    (record { place = next_place own n; bytes = bytes }))) apps own n out some_bytes within fit by_one refl refl
+    (λ test. omega (arith, places-begun b test nic apps own n bytes idle)) sound
 
 -- ---- an application's events
 

@@ -146,11 +146,11 @@ module _ (b : ℕ) (nic : NicSide) (apps : List AppSide) where
       (pool_count-placed b nic apps own bytes out) sound
 
   -- the two parts of a placing
-  pub IsFilledByOne-begun : (own : Filling) (n : ℕ) (words : List ℕ) → HasOwn nic.view own → nic.inside.making ≡ None
-      → CardStays b nic apps (making_at nic (begun nic.view own n) (Some (record { place = next_place own n; words = words })))
-  IsFilledByOne-begun own n words out idle sound =
-      more-held own (making_at nic (begun nic.view own n) (Some (record { place = next_place own n; words = words }))) out refl
-      (owns_in-filled b nic own n out) (pool_count-begun b nic apps own n words out idle) sound
+  pub IsFilledByOne-begun : (own : Filling) (n : ℕ) (bytes : List ℕ) → HasOwn nic.view own → nic.inside.making ≡ None
+      → CardStays b nic apps (making_at nic (begun nic.view own n) (Some (record { place = next_place own n; bytes = bytes })))
+  IsFilledByOne-begun own n bytes out idle sound =
+      more-held own (making_at nic (begun nic.view own n) (Some (record { place = next_place own n; bytes = bytes }))) out refl
+      (owns_in-filled b nic own n out) (pool_count-begun b nic apps own n bytes out idle) sound
 
   pub IsFilledByOne-text_done : (own : Filling) (bytes : List ℕ) (making : Making) → nic.inside.making ≡ Some making
       → making.place ≡ next_place own (length bytes) → CardStays b nic apps (making_at nic (text_done nic.view own bytes) None)

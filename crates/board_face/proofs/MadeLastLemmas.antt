@@ -8,8 +8,7 @@ use Rattle.board_face.specs.{NicCalls.{HasOwn, HasPiece}, AppCalls.{HasHeld, Has
 use Rattle.board_face.specs.{Holders.{sent_to, ended_in, returning_count}, Fillings.{IsFilledByOne}, Places.{places_of, ends_behind, ArePlaced, IsMadeLast}}
 use Rattle.board_face.specs.declared.views.{parts.{Filling.{Filling}, Making.{Making}}, nic.{NicView.{NicView}, NicSide.{NicSide}}, app.AppSide.{AppSide}}
 use Rattle.board_face.proofs.{Tallies.{weight, tally}, ListLemmas.{eqb_same, not-eqb}, Parts.{making_in, pool_count-parts, count-tally}, NicLemmas.{making_at}}
-use Rattle.board_face.proofs.PlaceTallies.{in_buffer, piece_places, app_places}
-use Rattle.board_face.proofs.PlacesByEvent.{places-nic, places-begun, places-making, places-sent, places-sent_linear}
+use Rattle.board_face.proofs.{PlaceTallies.{in_buffer, piece_places, app_places}, PlacesByEvent.{places-nic, places-begun, places-sent, places-sent_linear}}
 use Rattle.board_face.proofs.PlacesByEvent.{places-app, app_places-cut, app_places-released, app_places-filled, app_places-lent_own, places-stretch}
 use Rattle.board_face.proofs.ArePlacedLemmas.{IsBehind, right-weight, none-later, in-none, in-other, not-behind, less_spare, spare-free, front-ends, rest-ends}
 
@@ -44,13 +43,13 @@ ends-itself : (b : ℕ) (p : Place) → weight (in_buffer b (ends_behind (p.offs
 ends-itself b p = in-none b (ends_behind (p.offset + p.len)) p (not-behind (p.offset + p.len) p (omega arith))
 
 -- A piece is begun where the card fills its buffer next, behind all that lies there.
-pub IsMadeLast-begun : (nic : NicSide) (apps : List AppSide) (own : Filling) (n : ℕ) (words : List ℕ) → HasOwn nic.view own
+pub IsMadeLast-begun : (nic : NicSide) (apps : List AppSide) (own : Filling) (n : ℕ) (bytes : List ℕ) → HasOwn nic.view own
     → nic.inside.making ≡ None → ArePlaced own.buffer nic apps
-    → IsMadeLast (making_at nic (begun nic.view own n) (Some (record { place = next_place own n; words = words }))) apps
-IsMadeLast-begun nic apps own n words out idle sound = record {
+    → IsMadeLast (making_at nic (begun nic.view own n) (Some (record { place = next_place own n; bytes = bytes }))) apps
+IsMadeLast-begun nic apps own n bytes out idle sound = record {
   last = λ making busy.
-      let now = making_at nic (begun nic.view own n) (Some (record { place = next_place own n; words = words })) in
-      let it : record { place = next_place own n; words = words } ≡ making = cc in
+      let now = making_at nic (begun nic.view own n) (Some (record { place = next_place own n; bytes = bytes })) in
+      let it : record { place = next_place own n; bytes = bytes } ≡ making = cc in
       let p = next_place own n in
       let x = p.offset + p.len in
       let free : count_by (ends_behind own.start) (places_of own.buffer nic apps) ≡ 0 =
@@ -58,30 +57,11 @@ IsMadeLast-begun nic apps own n words out idle sound = record {
       subst (λ (m : Making). count_by (ends_behind (m.place.offset + m.place.len)) (places_of m.place.buffer now apps) ≡ 0) it
       (omega (
         arith,
-        places-begun own.buffer (ends_behind x) nic apps own n words idle,
+        places-begun own.buffer (ends_behind x) nic apps own n bytes idle,
         none-later own.start x (places_of own.buffer nic apps) (omega arith) free,
         count-tally (ends_behind x) (places_of own.buffer nic apps),
         count-tally (ends_behind x) (places_of own.buffer now apps),
         ends-itself own.buffer p,
-      ));
-}
-
--- a word more of it was stored
-pub IsMadeLast-making : (nic : NicSide) (apps : List AppSide) (making : Making) (words : List ℕ) → nic.inside.making ≡ Some making
-    → IsMadeLast nic apps → IsMadeLast (making_at nic nic.view (Some (record { place = making.place; words = words }))) apps
-IsMadeLast-making nic apps making words busy is = record {
-  last = λ it now.
-      let same : record { place = making.place; words = words } ≡ it = cc in
-      let x = making.place.offset + making.place.len in
-      subst
-      (λ (m : Making). count_by (ends_behind (m.place.offset + m.place.len))
-      (places_of m.place.buffer (making_at nic nic.view (Some (record { place = making.place; words = words }))) apps) ≡ 0) same
-      (omega (
-        arith,
-        is.last making busy,
-        places-making making.place.buffer (ends_behind x) nic apps making words busy,
-        count-tally (ends_behind x) (places_of making.place.buffer nic apps),
-        count-tally (ends_behind x) (places_of making.place.buffer (making_at nic nic.view (Some (record { place = making.place; words = words }))) apps),
       ));
 }
 

@@ -152,12 +152,12 @@ abbrev pub making_at : NicSide → NicView → Option Making → NicSide
 making_at nic view making = record { view = view; inside = record nic.inside { making = making } }
 
 -- a piece in the making has its buffer
-pub pool_count-begun : (b : ℕ) (nic : NicSide) (apps : List AppSide) (own : Filling) (n : ℕ) (words : List ℕ) → HasOwn nic.view own
+pub pool_count-begun : (b : ℕ) (nic : NicSide) (apps : List AppSide) (own : Filling) (n : ℕ) (bytes : List ℕ) → HasOwn nic.view own
     → nic.inside.making ≡ None
-    → pool_count b (making_at nic (begun nic.view own n) (Some (record { place = next_place own n; words = words }))) apps
+    → pool_count b (making_at nic (begun nic.view own n) (Some (record { place = next_place own n; bytes = bytes }))) apps
     ≡ pool_count b nic apps + weight (own.buffer == b)
-pool_count-begun b nic apps own n words out idle =
-    let now = making_at nic (begun nic.view own n) (Some (record { place = next_place own n; words = words })) in
+pool_count-begun b nic apps own n bytes out idle =
+    let now = making_at nic (begun nic.view own n) (Some (record { place = next_place own n; bytes = bytes })) in
     let same : pool_count b now apps ≡ pool_count b (side_begun nic own n) apps = refl in
     let counts = fine-counts (begins own n) (sides nic apps) (out, idle) in
     omega (arith, same, counts.pool b)

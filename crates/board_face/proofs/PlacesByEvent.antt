@@ -185,12 +185,12 @@ app_places-lent_own b test nic app own some_bytes =
 -- ---- a placing in its two parts
 
 -- a piece in the making has its place
-pub places-begun : (b : ℕ) (test : Place → Bool) (nic : NicSide) (apps : List AppSide) (own : Filling) (n : ℕ) (words : List ℕ)
+pub places-begun : (b : ℕ) (test : Place → Bool) (nic : NicSide) (apps : List AppSide) (own : Filling) (n : ℕ) (bytes : List ℕ)
     → nic.inside.making ≡ None
-    → tally test (places_of b (making_at nic (begun nic.view own n) (Some (record { place = next_place own n; words = words }))) apps)
+    → tally test (places_of b (making_at nic (begun nic.view own n) (Some (record { place = next_place own n; bytes = bytes }))) apps)
     ≡ tally test (places_of b nic apps) + weight (in_buffer b test (next_place own n))
-places-begun b test nic apps own n words idle =
-    let now = making_at nic (begun nic.view own n) (Some (record { place = next_place own n; words = words })) in
+places-begun b test nic apps own n bytes idle =
+    let now = making_at nic (begun nic.view own n) (Some (record { place = next_place own n; bytes = bytes })) in
     let same : total (app_places b test now) apps ≡ total (app_places b test nic) apps = refl in
     let none : tally (in_buffer b test) (making_places nic.inside.making) ≡ 0 = rw idle refl in
     omega (arith, places-parts b test now apps, places-parts b test nic apps, none)
@@ -211,16 +211,6 @@ places-text_done b test nic apps own bytes making busy place =
       one,
       tally-push (λ (p : PlacedText). in_buffer b test p.place) nic.view.pieces (record { place = next_place own (length bytes); bytes = bytes }),
     )
-
--- while its words are stored, the places stay as they are
-pub places-making : (b : ℕ) (test : Place → Bool) (nic : NicSide) (apps : List AppSide) (making : Making) (words : List ℕ)
-    → nic.inside.making ≡ Some making
-    → tally test (places_of b (making_at nic nic.view (Some (record { place = making.place; words = words }))) apps) ≡ tally test (places_of b nic apps)
-places-making b test nic apps making words busy =
-    let now = making_at nic nic.view (Some (record { place = making.place; words = words })) in
-    let same : total (app_places b test now) apps ≡ total (app_places b test nic) apps = refl in
-    let one : tally (in_buffer b test) (making_places nic.inside.making) ≡ weight (in_buffer b test making.place) + 0 = rw busy refl in
-    omega (arith, places-parts b test now apps, places-parts b test nic apps, one)
 
 -- ---- what a board is in the middle of
 

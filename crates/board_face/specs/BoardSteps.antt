@@ -25,9 +25,9 @@
 -- | lends_own     | the spare is the application's                      | `lent_own`              | iou-zcrx: a user reference                |
 -- | reads, settles, sees, is_told, falls_quiet, leaves | always         | `has_read`, `came_to_rest`, `app_saw`, `told_end`, `fell_quiet`, `left_board` | |
 --
--- A note that is sent and an entry that is honoured need besides that all sides fit together (`FitTogether`), and a loan that comes back
--- that no more of the application's loans were ended than came back (`EndedWereReturned`). What changes more of a side than its view, as a
--- scrub, is a step of FineSteps.
+-- A step of an application needs besides that it is one of the board's (`IsApp`). A note that is sent and an entry that is honoured need
+-- that all sides fit together (`FitTogether`), and a loan that comes back that no more of the application's loans were ended than came back
+-- (`EndedWereReturned`). What changes more of a side than its view, as a scrub, is a step of FineSteps.
 use Rattle.std.specs.Prelude.{⊤, ◌≡◌, ℕ, Bool, true, false, List, ◌∷◌}
 use Rattle.zr_kinds.specs.declared.{place.{Place.{Place}, Note.{Note}}, ring.Rqe.{Rqe}}
 use Rattle.board_face.specs.{Holders.{owed_in, returning_count}, Counts.{EndedWereReturned}, Sides.{IsApp, side_in}}

@@ -43,8 +43,7 @@ pub record ArePlaced (b : ℕ) (nic : NicSide) (apps : List AppSide) : Type 0 wh
   pub apart : (x : ℕ) → count_by (has_byte x) (places_of b nic apps) ≤ 1
   pub behind : All (λ o. o.buffer ≡ b → count_by (ends_behind o.start) (places_of b nic apps) ≡ 0) nic.view.owns
 
--- The piece in the making is the last of its buffer: no place there ends behind it. So the words that fill it up to a whole one
--- are nobody's.
+-- The piece in the making is the last of its buffer: no place there ends behind it. So the rest of its last line is nobody's.
 pub record IsMadeLast (nic : NicSide) (apps : List AppSide) : Type 0 where
   pub last : (making : Making) → nic.inside.making ≡ Some making
       → count_by (ends_behind (making.place.offset + making.place.len)) (places_of making.place.buffer nic apps) ≡ 0

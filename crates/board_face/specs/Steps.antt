@@ -14,7 +14,7 @@ use Rattle.board_face.specs.declared.views.{nic.{NicLook.TheVariants.{NotOwed, O
 abbrev pub side_begun : NicSide → Filling → ℕ → NicSide
 side_begun nic own n = record {
   view = begun nic.view own n;
-  inside = record nic.inside { making = Some (record { place = next_place own n; words = [] }) };
+  inside = record nic.inside { making = Some (record { place = next_place own n; bytes = [] }) };
 }
 
 -- a buffer of the pool came to be free for which the cache has no room

@@ -54,7 +54,8 @@ pub trait AppFace {
         ensures view { Looked (seen self.old) (seen self.new) linear.new result }
         // Once it answered `Ended`, it answers that again.
         ensures untold { result ≡ got_none → (seen self.old).ended ≡ false }
-        ensures told { AppTold (λ look. tells look (app_gist (seen self.old)) (beside self.old)) (seen self.old) (seen self.new) }
+        ensures told { AppTold (λ look. tells look (app_gist (seen self.old)) (beside self.old))
+            (seen self.old) (seen self.new) }
         ensures beside { beside self.new ≡ beside self.old };
 
     /// Cuts a piece in two behind its first `at` bytes, each with a reference of its own.
@@ -74,7 +75,8 @@ pub trait AppFace {
             (seen self.new ≡ came_to_rest (seen self.old))
             (AppOnlySaw RawOnItsWay (seen self.old) (seen self.new)) }
         ensures raw { result ≡ false → HasPushedRaw (seen self.old) }
-        ensures told { AppTold (λ look. tells look (app_gist (seen self.old)) (beside self.old)) (seen self.old) (seen self.new) }
+        ensures told { AppTold (λ look. tells look (app_gist (seen self.old)) (beside self.old))
+            (seen self.old) (seen self.new) }
         // Where nothing was pushed raw since the last `true`, it is `true` again.
         ensures still { (seen self.old).settled ≡ true → IsTrue result }
         ensures beside { beside self.new ≡ beside self.old };
@@ -106,7 +108,8 @@ pub trait AppFace {
             (λ _. seen self.new ≡ gave (seen self.old) loan)
             (λ back. (back ≡ loan) × AppOnlySaw RefillInUse (seen self.old) (seen self.new)) }
         ensures full { IfErr result (λ _. HasWrittenRingful (seen self.old)) }
-        ensures told { AppTold (λ look. tells look (app_gist (seen self.old)) (beside self.old)) (seen self.old) (seen self.new) }
+        ensures told { AppTold (λ look. tells look (app_gist (seen self.old)) (beside self.old))
+            (seen self.old) (seen self.new) }
         ensures beside { beside self.new ≡ beside self.old };
 
     /// Whether a loan in this buffer is out.
@@ -122,7 +125,8 @@ pub trait AppFace {
             (λ _. seen self.new ≡ pushed_raw (seen self.old) entry)
             (λ back. (back ≡ entry) × AppOnlySaw RefillInUse (seen self.old) (seen self.new)) }
         ensures full { IfErr result (λ _. HasWrittenRingful (seen self.old)) }
-        ensures told { AppTold (λ look. tells look (app_gist (seen self.old)) (beside self.old)) (seen self.old) (seen self.new) }
+        ensures told { AppTold (λ look. tells look (app_gist (seen self.old)) (beside self.old))
+            (seen self.old) (seen self.new) }
         ensures beside { beside self.new ≡ beside self.old };
 
     /// Gives a piece up, unread.
@@ -141,8 +145,10 @@ pub trait AppFace {
             (AppOnlySaw NoSpare (seen self.old) (seen self.new))
             (λ own. GotSpare (seen self.old) (seen self.new) own) }
         ensures held { IfNone result (HasUsedReserve (seen self.old)) }
-        ensures lowest { IfSome result (λ own. finds own.buffer (app_gist (seen self.old)) (beside self.old)) }
-        ensures told { AppTold (λ look. tells look (app_gist (seen self.old)) (beside self.old)) (seen self.old) (seen self.new) }
+        ensures lowest { IfSome result
+            (λ own. finds own.buffer (app_gist (seen self.old)) (beside self.old)) }
+        ensures told { AppTold (λ look. tells look (app_gist (seen self.old)) (beside self.old))
+            (seen self.old) (seen self.new) }
         ensures beside { beside self.new ≡ beside self.old };
 
     /// Stores a short payload at the begin of a spare.
@@ -180,7 +186,8 @@ pub trait AppFace {
             (seen self.new ≡ fell_quiet (seen self.old))
             (AppOnlySaw NotQuiet (seen self.old) (seen self.new)) }
         ensures some { result ≡ false → HasWritten (seen self.old) }
-        ensures told { AppTold (λ look. tells look (app_gist (seen self.old)) (beside self.old)) (seen self.old) (seen self.new) }
+        ensures told { AppTold (λ look. tells look (app_gist (seen self.old)) (beside self.old))
+            (seen self.old) (seen self.new) }
         ensures beside { beside self.new ≡ beside self.old };
 
     /// Takes back all references that this application still owes, as the kernel does when a queue goes down.

@@ -67,14 +67,16 @@ pub trait NicFace {
         // Buffers of swept words that are neither cached nor were taken were picked as spares, and each spare is for a
         // byte of an unsplit note.
         ensures bound { lost_of (seen self.new) ≤ sent_unsplit_bytes (seen self.new) }
-        ensures told { NicTold (λ look. tells look (nic_gist (seen self.old)) (beside self.old)) (seen self.old) (seen self.new) }
+        ensures told { NicTold (λ look. tells look (nic_gist (seen self.old)) (beside self.old))
+            (seen self.old) (seen self.new) }
         ensures beside { beside self.new ≡ beside self.old };
 
     /// Deals with the next refill entry of an application.
     fn entry(&mut self, app: u32) -> Entry
         requires app { app < apps_of (seen self.old).setting }
         ensures view { DealtWith (seen self.old) (seen self.new) app result }
-        ensures told { NicTold (λ look. tells look (nic_gist (seen self.old)) (beside self.old)) (seen self.old) (seen self.new) }
+        ensures told { NicTold (λ look. tells look (nic_gist (seen self.old)) (beside self.old))
+            (seen self.old) (seen self.new) }
         ensures beside { beside self.new ≡ beside self.old };
 
     /// Stores a text where the buffer's next bytes go.
@@ -99,7 +101,8 @@ pub trait NicFace {
             (λ _. seen self.new ≡ sent (seen self.old) app note)
             (λ back. (back ≡ piece) × NicOnlySaw (NoteInUse app) (seen self.old) (seen self.new)) }
         ensures full { IfErr result (λ _. HasSentRingful (seen self.old) app) }
-        ensures told { NicTold (λ look. tells look (nic_gist (seen self.old)) (beside self.old)) (seen self.old) (seen self.new) }
+        ensures told { NicTold (λ look. tells look (nic_gist (seen self.old)) (beside self.old))
+            (seen self.old) (seen self.new) }
         ensures beside { beside self.new ≡ beside self.old };
 
     /// Sends a note in which its bytes travel. `false` says that the next note slot was seen in use.
@@ -112,7 +115,8 @@ pub trait NicFace {
             (seen self.new ≡ sent_linear (seen self.old) app note bytes.now)
             (NicOnlySaw (NoteInUse app) (seen self.old) (seen self.new)) }
         ensures full { result ≡ false → HasSentRingful (seen self.old) app }
-        ensures told { NicTold (λ look. tells look (nic_gist (seen self.old)) (beside self.old)) (seen self.old) (seen self.new) }
+        ensures told { NicTold (λ look. tells look (nic_gist (seen self.old)) (beside self.old))
+            (seen self.old) (seen self.new) }
         ensures beside { beside self.new ≡ beside self.old };
 
     /// Closes a buffer. If no reference to it is left, it is free.
@@ -120,7 +124,8 @@ pub trait NicFace {
         requires open { IsOpen (seen self.old) }
         requires out { HasOwn (seen self.old) own }
         ensures view { Closed (seen self.old) (seen self.new) own }
-        ensures told { NicTold (λ look. tells look (nic_gist (seen self.old)) (beside self.old)) (seen self.old) (seen self.new) }
+        ensures told { NicTold (λ look. tells look (nic_gist (seen self.old)) (beside self.old))
+            (seen self.old) (seen self.new) }
         ensures beside { beside self.new ≡ beside self.old };
 
     /// Ends: nothing is taken, placed, sent or closed any more.
@@ -135,6 +140,7 @@ pub trait NicFace {
         ensures view { MatchBool result
             (seen self.new ≡ saw_leave (seen self.old) app)
             (NicOnlySaw (NotLeft app) (seen self.old) (seen self.new)) }
-        ensures told { NicTold (λ look. tells look (nic_gist (seen self.old)) (beside self.old)) (seen self.old) (seen self.new) }
+        ensures told { NicTold (λ look. tells look (nic_gist (seen self.old)) (beside self.old))
+            (seen self.old) (seen self.new) }
         ensures beside { beside self.new ≡ beside self.old };
 }

@@ -17,7 +17,7 @@ use zr_io::Source;
 use zr_kinds::Fault;
 
 /// How many messages, or vectors, a ring has room for.
-const RINGS: usize = 128;
+const RINGS: usize = 256;
 
 /// How many records are read at most.
 const MOST_RECORDS: u32 = 16_777_216;
@@ -84,10 +84,12 @@ fn next_message<S: Source>(
 ) -> Carried
     requires goes { is_over stage.old ≡ false }
     requires few { count ≤ most_records }
-    ensures makes { MakesMessage S.left S.faults count source.old stage.old result source.new stage.new }
+    ensures makes { MakesMessage S.left S.faults count source.old stage.old result source.new
+        stage.new }
     ensures over { is_over stage.new ≡ is_end result }
     ensures few { count + 1 ≤ most_records + one_if (is_end result) }
-    ensures follows { (before : List Carried) → length before ≡ count → has_end before ≡ false → MayFollow before result }
+    ensures follows { (before : List Carried) → length before ≡ count → has_end before ≡ false
+        → MayFollow before result }
 {
     match stage.read(alloc, source, into) {
         Arrived::Frame(record, bytes) if count < MOST_RECORDS => {

@@ -36,7 +36,7 @@ events_of (card step) old new = card_events step new
 events_of (app a step) old new = app_events a step (side_in old.apps a).view new
 
 -- What a step needs, beside that it can be made, to be told truly: what is taken or given is the role's to have and nobody has it,
--- no text is empty, and each fits.
+-- no text is empty, each fits, and a stray entry is of one of the board's applications.
 abbrev pub MayTell : Step → AllSides → Type 0
 MayTell (card (takes b)) s = (b < pool_buffers s.nic.view.setting.layout) × (pool_of s b ≡ 0)
 MayTell (card (places own bytes)) s = (0 < length bytes) × (own.start + length bytes ≤ own.size)

@@ -9,7 +9,7 @@ use Rattle.board_face.proofs.{MadeLastLemmas.{IsMadeLast-app}, OwnBufferLemmas.{
 use Rattle.board_face.{proofs.WrittenLemmas.{loans-fewer, returned-more, owed-more, IsClear-fewer}, specs.Holders.{owed_in, returned_in}}
 use Rattle.ref_words.specs.{Words.{Words, listed_in}, Rule.{RefRule}, PhaseRule.{PhaseRule}, PhaseSteps.{side_abandoned}}
 use Rattle.ref_words.proofs.{Frees.{AreKept-app, free_places-hands}, Phases.{phases-mine, phases-here}, PhasesByApp.{loan-here}, RingSteps.{rings-app}}
-use Rattle.ref_words.proofs.{SideSteps.{mine, SidesRule-app, own-was}, SlotSteps.{no-word, RefRule-slot}}
+use Rattle.ref_words.proofs.{SideSteps.{mine, SidesRule-app, own-was}, SlotSteps.{no-word, RefRule-slot}, LineLemmas.{AreByLine-abandoned}}
 
 module _ (setting : Setting) (words : Words) (nic : NicSide) (apps : List AppSide) (app : AppSide) (place : Place)
     (rule : RefRule setting words nic apps) (here : IsApp apps app.view.app app) (out : HasLoan app.view place) where
@@ -54,6 +54,7 @@ module _ (setting : Setting) (words : Words) (nic : NicSide) (apps : List AppSid
       RefRule-slot setting words words nic nic apps apps' rule (no-word setting words rule.sizes) (record {
         sides = SidesRule-app setting nic apps a app rule.sides here now (record {
           placed = λ b. ArePlaced-abandoned b nic apps a app place here out (ended b) (rule.sides.placed b);
+          lines = λ b. AreByLine-abandoned b nic apps a app place here out (ended b) (rule.sides.lines b);
           by_one = λ b. IsFilledByOne-abandoned b nic apps a app place here out (ended b) (rule.sides.by_one b);
           fit = FillingsFit-same nic apps a app now here refl rule.sides.fit;
           made = IsMadeLast-app nic apps a app now here (λ b test. omega (arith, app_places-abandoned b test nic app place out (ended b)))

@@ -5,6 +5,7 @@ use Rattle.board_face.{specs.declared.views.{parts.Setting.{Setting}, nic.NicSid
 use Rattle.board_face.proofs.{ArePlacedLemmas.{ArePlaced-app}, MadeLastLemmas.{IsMadeLast-app}, IsFilledByOneLemmas.{IsFilledByOne-app}}
 use Rattle.board_face.proofs.FillingsFitLemmas.{FillingsFit-same}
 use Rattle.ref_words.{specs.{Words.{Words}, Rule.{RefRule}, Sides.{SidesRule}}, proofs.{RingSteps.{AllRings, rings-app}, SideSteps.{own-was, SidesRule-app, mine}}}
+use Rattle.ref_words.proofs.LineLemmas.{AreByLine-app}
 
 module _ (setting : Setting) (words : Words) (nic : NicSide) (apps : List AppSide) (a : ℕ) (app : AppSide) (rule : RefRule setting words nic apps)
     (here : IsApp apps a app) (picked hands without : List ℕ) where
@@ -29,6 +30,7 @@ module _ (setting : Setting) (words : Words) (nic : NicSide) (apps : List AppSid
   pub sides : HasFewPicks now → SidesRule setting nic apps'
   sides few = SidesRule-app setting nic apps a app rule.sides here now (record {
     placed = λ b. ArePlaced-app b nic apps a app now here (λ test. omega arith) (rule.sides.placed b);
+    lines = λ b. AreByLine-app b nic apps a app now here refl (λ test. omega arith) (rule.sides.lines b);
     by_one = λ b. IsFilledByOne-app b nic apps a app now here (omega arith) (omega arith) (rule.sides.by_one b);
     fit = FillingsFit-same nic apps a app now here refl rule.sides.fit;
     made = IsMadeLast-app nic apps a app now here (λ b test. omega arith) rule.sides.made;

@@ -5,7 +5,7 @@ use Rattle.board_face.{specs.declared.views.{parts.Setting.{Setting}, nic.NicSid
 use Rattle.board_face.proofs.{ArePlacedLemmas.{ArePlaced-app}, MadeLastLemmas.{IsMadeLast-app}, IsFilledByOneLemmas.{IsFilledByOne-app}}
 use Rattle.board_face.proofs.FillingsFitLemmas.{FillingsFit-same}
 use Rattle.ref_words.{specs.{Words.{Words, listed_in}, Rule.{RefRule}}, proofs.{RingSteps.{AllRings}, SlotSteps.{DifferInSlots, RefRule-slot}}}
-use Rattle.ref_words.proofs.{Frees.{AreKept-app, free_places-hands}, SideSteps.{own-was, SidesRule-app, mine}}
+use Rattle.ref_words.proofs.{Frees.{AreKept-app, free_places-hands}, SideSteps.{own-was, SidesRule-app, mine}, LineLemmas.{AreByLine-app}}
 
 -- the application's side with no other change
 abbrev pub like-of : AppSide → AppSide → AppSide
@@ -49,6 +49,7 @@ module _ (setting : Setting) (words : Words) (nic : NicSide) (apps : List AppSid
       (RefRule-slot setting words words' nic nic apps apps' rule differ (record {
         sides = SidesRule-app setting nic apps a app rule.sides here like (record {
           placed = λ b. ArePlaced-app b nic apps a app like here (λ test. omega arith) (rule.sides.placed b);
+          lines = λ b. AreByLine-app b nic apps a app like here refl (λ test. omega arith) (rule.sides.lines b);
           by_one = λ b. IsFilledByOne-app b nic apps a app like here (omega arith) (omega arith) (rule.sides.by_one b);
           fit = FillingsFit-same nic apps a app like here refl rule.sides.fit;
           made = IsMadeLast-app nic apps a app like here (λ b test. omega arith) rule.sides.made;

@@ -1,9 +1,8 @@
 -- A look of an application, whatever it sees, leaves the application's number.
-use Rattle.std.proofs.Common.{◌≡◌, ℕ, zero, suc, List, Bool, true, false, if◌then◌else◌, refl}
-use Rattle.zr_kinds.specs.declared.place.Place.{Place}
+use Rattle.std.proofs.Common.{◌≡◌, ℕ, Bool, true, false, if◌then◌else◌, refl}
 use Rattle.board_face.specs.{AppEvents.{app_saw, told_end}, SlotSteps.{side_refill_looked, side_slot_looked}, declared.views.app.AppLook.TheVariants.{NoNote}}
 use Rattle.board_face.specs.declared.views.app.AppSide.{AppSide}
-use Rattle.ref_words.specs.{AreaSteps.{side_loaded}, FreeSteps.{side_word_looked, side_bit_cleared}, RestSteps.{side_raw_looked, side_any_looked, side_last_looked}}
+use Rattle.ref_words.specs.{FreeSteps.{side_word_looked, side_bit_cleared}, RestSteps.{side_raw_looked, side_any_looked, side_last_looked}}
 use Rattle.ref_words.specs.PhaseSteps.{side_end_looked, side_note_sought, side_reserve_looked}
 
 pub refill_looked-number : (app : AppSide) (saw : Bool) → (side_refill_looked app saw).view.app ≡ app.view.app
@@ -53,7 +52,3 @@ empty-number app false false = refl
 pub note_sought-number : (app : AppSide) (full : Bool) → (side_note_sought app full).view.app ≡ app.view.app
 note_sought-number app true = refl
 note_sought-number app false = empty-number app app.inside.end_seen app.inside.end_unseen
-
-pub loaded-number : (app : AppSide) (place : Place) (from k : ℕ) (bytes : List ℕ) → (side_loaded app place from k bytes).view.app ≡ app.view.app
-loaded-number app place from zero bytes = refl
-loaded-number app place from (suc k) bytes = refl

@@ -9,7 +9,7 @@ use Rattle.board_face.proofs.{IsFilledByOneLemmas.{IsFilledByOne-begun}, Filling
 use Rattle.board_face.proofs.{Parts.{user_part, user_count-parts}, Counting.{weight-other, weight-same}}
 use Rattle.board_face.proofs.Tallies as tallies
 use Rattle.ref_words.{specs.{Words.{Words, pool_of, listed_in}, Rule.{RefRule}}, proofs.{RingSteps.{rings-card}, Frees.{AreFreeOnce-more, AreKept-card}}}
-use Rattle.ref_words.proofs.{CardSteps.{SidesRule-card}, PoolSteps.{IsPoolStep}}
+use Rattle.ref_words.proofs.{CardSteps.{SidesRule-card}, PoolSteps.{IsPoolStep}, LineLemmas.{AreByLine-begun}}
 
 -- a buffer within the area has so many holders at most
 pub holders-few : (setting : Setting) (words : Words) (nic : NicSide) (apps : List AppSide) (b : ℕ) → RefRule setting words nic apps
@@ -56,8 +56,9 @@ module _ (setting : Setting) (words : Words) (nic : NicSide) (apps : List AppSid
     there = there;
     sides = SidesRule-card setting nic now apps rule.sides (record {
       placed = λ b. ArePlaced-begun b nic apps own n [] out some_bytes within idle rule.sides.fit (rule.sides.by_one b) (rule.sides.placed b);
+      lines = λ b. AreByLine-begun b nic apps own n [] out idle rule.sides.fit (rule.sides.placed b) (rule.sides.lines b);
       by_one = λ b. IsFilledByOne-begun b nic apps own n [] out idle (rule.sides.by_one b);
-      fit = FillingsFit-begun nic apps own n (Some (record { place = next_place own n; words = [] })) out within rule.sides.fit;
+      fit = FillingsFit-begun nic apps own n (Some (record { place = next_place own n; bytes = [] })) out within rule.sides.fit;
       made = IsMadeLast-begun nic apps own n [] out idle (rule.sides.placed own.buffer);
       taken = λ k x here. assumption (rule.sides.taken k x here);
       unheld = λ b past none. omega (arith, more b, none, held b);

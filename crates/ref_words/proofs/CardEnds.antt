@@ -9,6 +9,7 @@ use Rattle.board_face.proofs.Parts.{user_part, user_count-parts, pool_count-part
 use Rattle.board_face.proofs.{ArePlacedLemmas.{ArePlaced-stretch}, MadeLastLemmas.{IsMadeLast-stretch}, IsFilledByOneLemmas.{IsFilledByOne-fewer}}
 use Rattle.ref_words.specs.{Words.{Words, listed_in}, Sides.{SidesRule, IsInHand, IsDealtInOrder}, Rule.{RefRule}}
 use Rattle.ref_words.proofs.{CardSteps.{IsScrubbedSoFar-owed, HasNoneOwed-owed}, RingSteps.{AllRings}, SlotSteps.{DifferInSlots, RefRule-slot}, Frees.{AreKept-card}}
+use Rattle.ref_words.proofs.LineLemmas.{AreByLine-stretch}
 
 -- the card's side with no other change
 abbrev pub like-of : NicSide → NicSide → NicSide
@@ -59,6 +60,7 @@ module _ (setting : Setting) (words : Words) (nic : NicSide) (apps : List AppSid
     set = assumption rule.sides.set;
     lists = rule.sides.lists;
     placed = λ c. ArePlaced-stretch c nic like apps refl refl refl refl refl (small c) (small-now c) (later c) (rule.sides.placed c);
+    lines = λ c. AreByLine-stretch c nic like apps refl refl refl (small c) (small-now c) (later c) (rule.sides.lines c);
     by_one = λ c. IsFilledByOne-fewer c nic like apps apps refl (omega arith) (omega arith) (omega (arith, pools c)) (rule.sides.by_one c);
     fit = assumption rule.sides.fit;
     made = IsMadeLast-stretch nic like apps refl refl refl small small-now later rule.sides.made;

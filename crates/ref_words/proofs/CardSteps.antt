@@ -4,7 +4,7 @@ use Rattle.area_layout.specs.Layout.{pool_buffers}
 use Rattle.board_face.specs.{AppEvents.{reserve_of}, Counts.{pool_count, EndedWereReturned}, Places.{ArePlaced, IsMadeLast}, Fillings.{IsFilledByOne, FillingsFit}}
 use Rattle.board_face.specs.{Returns.{AreReturns}, Holders.{owed_in, lowered_in_hand}, declared.views.{parts.Setting.{Setting}, nic.NicSide.{NicSide}}}
 use Rattle.board_face.specs.{declared.views.app.AppSide.{AppSide}, Relay.{IsProper}, Sides.{IsApp}}
-use Rattle.ref_words.specs.{Rings.{NoteFits}, Sides.{SidesRule, IsTakenInOrder, IsScrubbedSoFar, HasNoneOwed}}
+use Rattle.ref_words.specs.{Rings.{NoteFits}, Sides.{AreByLine, SidesRule, IsTakenInOrder, IsScrubbedSoFar, HasNoneOwed}}
 
 -- What is to be known of the card's new side, but for buffers.
 pub record IsOwnCardStep (nic now : NicSide) (apps : List AppSide) : Type 0 where
@@ -19,6 +19,7 @@ pub record IsOwnCardStep (nic now : NicSide) (apps : List AppSide) : Type 0 wher
 -- What is to be known of it.
 pub record IsCardStep (nic now : NicSide) (apps : List AppSide) : Type 0 where
   pub placed : (b : ℕ) → ArePlaced b now apps
+  pub lines : (b : ℕ) → AreByLine b now apps
   pub by_one : (b : ℕ) → IsFilledByOne b now apps
   pub fit : FillingsFit now apps
   pub made : IsMadeLast now apps
@@ -64,6 +65,7 @@ SidesRule-card setting nic now apps rule step = record {
   set = record { card = step.own.setting ∙ rule.set.card; many = rule.set.many; numbers = rule.set.numbers; others = rule.set.others };
   lists = rule.lists;
   placed = step.placed;
+  lines = step.lines;
   by_one = step.by_one;
   fit = step.fit;
   made = step.made;

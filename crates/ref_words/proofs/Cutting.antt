@@ -9,6 +9,7 @@ use Rattle.board_face.proofs.{MadeLastLemmas.{IsMadeLast-cut}, IsFilledByOneLemm
 use Rattle.board_face.proofs.Counting.{weight-other, weight-same}
 use Rattle.ref_words.{specs.{Words.{Words, pool_of, listed_in}, Rule.{RefRule}}, proofs.RingSteps.{rings-app}}
 use Rattle.ref_words.proofs.{Frees.{AreFreeOnce-more, AreKept-app, free_places-hands}, SideSteps.{own-was, mine, SidesRule-app, in-area}, PoolSteps.{IsPoolStep}}
+use Rattle.ref_words.proofs.LineLemmas.{AreByLine-cut}
 
 module _ (setting : Setting) (words : Words) (nic : NicSide) (apps : List AppSide) (a : ℕ) (app : AppSide) (place : Place) (at : ℕ)
     (rule : RefRule setting words nic apps) (here : IsApp apps a app) (out : HasHeld app.view place) (front : 0 < at) (rest : at < place.len) where
@@ -42,6 +43,7 @@ module _ (setting : Setting) (words : Words) (nic : NicSide) (apps : List AppSid
     there = there;
     sides = SidesRule-app setting nic apps a app rule.sides here now (record {
       placed = λ b. ArePlaced-cut b nic apps a app place at here out front rest (rule.sides.placed b);
+      lines = λ b. AreByLine-cut b nic apps a app place at here out (omega (arith, rest)) (rule.sides.lines b);
       by_one = λ b. IsFilledByOne-cut b nic apps a app place at here out (rule.sides.by_one b);
       fit = FillingsFit-same nic apps a app now here refl rule.sides.fit;
       made = IsMadeLast-cut nic apps a app place at here out rest rule.sides.made;

@@ -4,7 +4,7 @@ use Rattle.std.{proofs.Common.{refl, ap, sym, ◌∙◌, arith, length-append, m
 use Rattle.std.proofs.lemmas.List.{get_or-append-add, get_or_append_left, set-append_left, set-append_right, Elements.{All-head, All-tail}}
 use Rattle.area_layout.specs.Layout.{total}
 use Rattle.board_face.specs.{NicCalls.{apps_of}, declared.views.parts.Setting.{Setting}}
-use Rattle.ref_words.specs.Words.{Words, HasSizes, AreSlots, groups, group_sizes, begins, begin_at, joined, table_of}
+use Rattle.ref_words.specs.{Words.{Words, HasSizes, AreSlots, groups, group_sizes, begins, begin_at, table_of}, Lines.{joined}}
 use Rattle.ref_words.specs.Words.{pool_at, pool_of, with_pool, user_at, user_of, with_user, role_at, with_role, table_words}
 use Rattle.ref_words.specs.Words.{slot_word, with_slot_word, note_at, with_note, refill_at, with_refill, free_at, free_of, with_free}
 use Rattle.word_rings.specs.Slots.{note_width, refill_width}
@@ -154,14 +154,14 @@ module _ (setting : Setting) (w : Words) (sizes : HasSizes setting w) where
       slots-length setting.places note_width w.notes sizes.note_slots ∙ ap (λ n. n * (setting.places * note_width)) sizes.notes in
       let refills : length (flat_map joined w.refills) ≡ apps_of setting * (setting.places * refill_width) =
       slots-length setting.places refill_width w.refills sizes.refill_slots ∙ ap (λ n. n * (setting.places * refill_width)) sizes.refills in
-      rw (sizes.roles, sizes.phases, sizes.pool, users, sizes.free, sizes.area, notes, refills) refl
+      rw (sizes.roles, sizes.phases, sizes.pool, users, sizes.free, notes, refills) refl
 
-  pub group-word : (g i : ℕ) → g < 8 → i < length (get_or (groups w) g [])
+  pub group-word : (g i : ℕ) → g < 7 → i < length (get_or (groups w) g [])
       → get_or (table_of w) (begin_at setting g + i) 0 ≡ get_or (get_or (groups w) g []) i 0
   group-word g i there inside =
       subst (λ ls. get_or (table_of w) (begins ls g + i) 0 ≡ get_or (get_or (groups w) g []) i 0) lengths (joined-word (groups w) g i there inside)
 
-  pub group-set : (g i n : ℕ) → g < 8 → i < length (get_or (groups w) g [])
+  pub group-set : (g i n : ℕ) → g < 7 → i < length (get_or (groups w) g [])
       → set (table_of w) (begin_at setting g + i) n ≡ joined (set (groups w) g (set (get_or (groups w) g []) i n))
   group-set g i n there inside =
       subst (λ ls. set (table_of w) (begins ls g + i) n ≡ joined (set (groups w) g (set (get_or (groups w) g []) i n))) lengths
@@ -210,33 +210,33 @@ module _ (setting : Setting) (w : Words) (sizes : HasSizes setting w) where
   pub note-word : (a s i : ℕ) → a < length w.notes → s < setting.places → i < note_width
       → get_or (table_of w) (note_at setting a s i) 0 ≡ slot_word w.notes a s i
   note-word a s i there small less =
-      group-word 6 (a * (setting.places * note_width) + (s * note_width + i)) (omega arith)
+      group-word 5 (a * (setting.places * note_width) + (s * note_width + i)) (omega arith)
       (slot-inside-of setting.places note_width w.notes a s i sizes.note_slots there small less)
       ∙ ring-word setting.places note_width w.notes a s i sizes.note_slots there small less
 
   pub note-set : (a s i n : ℕ) → a < length w.notes → s < setting.places → i < note_width
       → set (table_of w) (note_at setting a s i) n ≡ table_of (with_note w a s i n)
   note-set a s i n there small less =
-      group-set 6 (a * (setting.places * note_width) + (s * note_width + i)) n (omega arith)
+      group-set 5 (a * (setting.places * note_width) + (s * note_width + i)) n (omega arith)
       (slot-inside-of setting.places note_width w.notes a s i sizes.note_slots there small less)
-      ∙ ap (λ rs. joined (set (groups w) 6 rs)) (ring-set setting.places note_width w.notes a s i n sizes.note_slots there small less)
+      ∙ ap (λ rs. joined (set (groups w) 5 rs)) (ring-set setting.places note_width w.notes a s i n sizes.note_slots there small less)
 
   pub refill-word : (a s i : ℕ) → a < length w.refills → s < setting.places → i < refill_width
       → get_or (table_of w) (refill_at setting a s i) 0 ≡ slot_word w.refills a s i
   refill-word a s i there small less =
-      group-word 7 (a * (setting.places * refill_width) + (s * refill_width + i)) (omega arith)
+      group-word 6 (a * (setting.places * refill_width) + (s * refill_width + i)) (omega arith)
       (slot-inside-of setting.places refill_width w.refills a s i sizes.refill_slots there small less)
       ∙ ring-word setting.places refill_width w.refills a s i sizes.refill_slots there small less
 
   pub refill-set : (a s i n : ℕ) → a < length w.refills → s < setting.places → i < refill_width
       → set (table_of w) (refill_at setting a s i) n ≡ table_of (with_refill w a s i n)
   refill-set a s i n there small less =
-      group-set 7 (a * (setting.places * refill_width) + (s * refill_width + i)) n (omega arith)
+      group-set 6 (a * (setting.places * refill_width) + (s * refill_width + i)) n (omega arith)
       (slot-inside-of setting.places refill_width w.refills a s i sizes.refill_slots there small less)
-      ∙ ap (λ rs. joined (set (groups w) 7 rs)) (ring-set setting.places refill_width w.refills a s i n sizes.refill_slots there small less)
+      ∙ ap (λ rs. joined (set (groups w) 6 rs)) (ring-set setting.places refill_width w.refills a s i n sizes.refill_slots there small less)
 
   pub table-length : length (table_of w) ≡ table_words setting
-  table-length = joined-all (groups w) ∙ ap (λ ls. begins ls 8) lengths
+  table-length = joined-all (groups w) ∙ ap (λ ls. begins ls 7) lengths
     where
       joined-all : (rows : List (List ℕ)) → length (joined rows) ≡ begins (map length rows) (length rows)
       joined-all [] = refl

@@ -10,6 +10,7 @@ use Rattle.board_face.proofs.{ReturnLemmas.{IsClear-of_loans}, Tallies.{weight},
 use Rattle.zr_kinds.specs.declared.place.Place.{Place}
 use Rattle.ref_words.{specs.{Words.{Words, user_of, listed_in}, Rule.{RefRule}}, proofs.{RingSteps.{rings-app}, Frees.{AreKept-app, free_places-hands}}}
 use Rattle.ref_words.proofs.{InHand.{same-if, other-pair}, SideSteps.{own-was, mine, SidesRule-app, is-app, in-area}, UserSteps.{IsUserStep}, Beginning.{few-holders}}
+use Rattle.ref_words.proofs.LineLemmas.{AreByLine-lent}
 
 module _ (setting : Setting) (words : Words) (nic : NicSide) (apps : List AppSide) (a : ℕ) (app : AppSide) (place : Place)
     (rule : RefRule setting words nic apps) (here : IsApp apps a app) (out : HasHeld app.view place) (can : CanLend app.view)
@@ -63,6 +64,7 @@ module _ (setting : Setting) (words : Words) (nic : NicSide) (apps : List AppSid
     there = there;
     sides = SidesRule-app setting nic apps a app rule.sides here now (record {
       placed = λ b. ArePlaced-lent b nic apps a app place here out (rule.sides.placed b);
+      lines = λ b. AreByLine-lent b nic apps a app place here out (rule.sides.lines b);
       by_one = λ b. IsFilledByOne-lent b nic apps a app place here out (rule.sides.by_one b);
       fit = FillingsFit-same nic apps a app now here refl rule.sides.fit;
       made = IsMadeLast-lent nic apps a app place here out rule.sides.made;

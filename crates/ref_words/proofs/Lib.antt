@@ -64,14 +64,15 @@ pub mod AppNumbers
 mod CardLaw
 mod AppLaw
 pub mod Running
-pub mod AreaWords
-pub mod LayingArea
+pub mod LineLemmas
+pub mod AreaLines
+pub mod LaidLines
+pub mod AtHome
 pub mod TextsOpened
 pub mod TextsByCard
 pub mod TextsByApp
 pub mod TextsBySlots
 mod TextsStored
-mod AreaStoring
 pub mod TextsRead
 mod AreaCard
 mod TextsByFree

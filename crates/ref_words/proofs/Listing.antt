@@ -4,7 +4,7 @@ use Rattle.board_face.specs.{Sides.{IsApp}, FreeOnce.{free_places}, Used.{HasFew
 use Rattle.board_face.{specs.declared.views.app.AppSide.{AppSide}, proofs.{Tallies.{weight}, Counting.{weight-none, weight-same}}}
 use Rattle.ref_words.specs.{Words.{Words, listed_in, with_listed}, FreeSteps.{side_nic_listed, side_app_listed}, Rule.{RefRule}}
 use Rattle.ref_words.proofs.{Frees.{AreKept-app, free_places-hands, in-hands, count-taken}, RingSteps.{rings-card}, CardSteps.{SidesRule-card}, SideSteps.{mine}}
-use Rattle.ref_words.proofs.FreeWords.{RefRule-free, AreKept-listed, listed-more, in-list, one-place}
+use Rattle.ref_words.proofs.{FreeWords.{RefRule-free, AreKept-listed, listed-more, in-list, one-place}, LineLemmas.{AreByLine-like}}
 use Rattle.ref_words.proofs.AppHands as hands
 
 -- a buffer in hand is counted there
@@ -31,6 +31,7 @@ module _ (setting : Setting) (words : Words) (nic : NicSide) (apps : List AppSid
     by-card = RefRule-free setting words nic now apps apps _ _ rule (record {
       sides = SidesRule-card setting nic now apps rule.sides (record {
         placed = λ x. assumption (rule.sides.placed x);
+        lines = λ x. AreByLine-like x nic apps now (λ test. refl) (λ test app. refl) (rule.sides.lines x);
         by_one = λ x. assumption (rule.sides.by_one x);
         fit = assumption rule.sides.fit;
         made = record { last = rule.sides.made.last };

@@ -15,7 +15,7 @@ use Rattle.word_rings.proofs.{NoteSlots.{note_back, note-front, bytes-front}, Wo
 use Rattle.ref_words.specs.{Words.{Words, listed_in, with_note}, Rings.{AreRings, NoteFits, area_of_note, words_of_note, linear_bytes, takes_note_at}}
 use Rattle.ref_words.{specs.{Rings.{loaded_note, loaded_bytes, note_loads}, Rule.{RefRule}}, proofs.RingSteps.{AllRings, rings-others}}
 use Rattle.ref_words.proofs.{SlotWords.{ring-here, ring-other, differ-note}, SlotSteps.{DifferInSlots, RefRule-slot}, SideSteps.{own-was, SidesRule-app, mine, is-app}}
-use Rattle.ref_words.{proofs.{Frees.{AreKept-app, free_places-hands}, Dealing.{take-next}}, specs.Sides.{IsTakenInOrder}}
+use Rattle.ref_words.{proofs.{Frees.{AreKept-app, free_places-hands}, Dealing.{take-next}, LineLemmas.{AreByLine-app}}, specs.Sides.{IsTakenInOrder}}
 use Rattle.ref_words.proofs.Ringing as ringing
 use Rattle.ref_words.proofs.LeftWords as left-words
 
@@ -167,6 +167,7 @@ module _ (setting : Setting) (words : Words) (nic : NicSide) (apps : List AppSid
         (RefRule-slot setting words words' nic nic apps apps' rule differ (record {
           sides = SidesRule-app setting nic apps a app rule.sides here like (record {
             placed = λ b. ArePlaced-app b nic apps a app like here (is.places b) (rule.sides.placed b);
+            lines = λ b. AreByLine-app b nic apps a app like here refl (is.places b) (rule.sides.lines b);
             by_one = λ b. IsFilledByOne-app b nic apps a app like here (omega arith) (omega (arith, is.counts b)) (rule.sides.by_one b);
             fit = FillingsFit-same nic apps a app like here refl rule.sides.fit;
             made = IsMadeLast-app nic apps a app like here is.places rule.sides.made;

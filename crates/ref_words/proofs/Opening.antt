@@ -5,17 +5,18 @@ use Rattle.std.{specs.Int.{bit_at}, proofs.lemmas.List.{length-replicate, get_or
 use Rattle.std.proofs.lemmas.{List.Elements.{All-nil, All-replicate}, Bool.{cases_lt, false≢true}, Nat.Bits.{bit_at_ones, bit_at_ones_above, bit_at-zero}}
 use mathlib.Core.Option.{some, some-injective, some-ne-none}
 use lib.ListN.{get_elem?}
-use Rattle.area_layout.specs.Layout.{IsLayout, total, pool_buffers, area_words}
+use Rattle.area_layout.specs.Layout.{IsLayout, total, pool_buffers}
 use Rattle.board_face.specs.{NicCalls.{apps_of, free_words_of}, NicEvents.{word_bits}, Opened.{new_nic, new_app, new_apps, unseen}, Counts.{EndedWereReturned}}
 use Rattle.board_face.specs.{Holders.{ended_in}, Used.{HasFewPicks}, Returns.{AreReturns}, declared.views.{parts.Setting.{Setting}, app.AppSide.{AppSide}}}
 use Rattle.board_face.proofs.{Tallies.{weight}, MadeLastLemmas.{IsMadeLast-idle}}
 use Rattle.board_face.proofs.OpenedLemmas.{all-alike, news, length-new_apps, numbered-new_apps, All-new, hands-new, count-new, users-new}
 use Rattle.board_face.proofs.OpenedLemmas.{FillingsFit-opened, IsFilledByOne-opened, ArePlaced-opened}
 use Rattle.zr_kinds.specs.declared.place.Place.{Place}
-use Rattle.ref_words.specs.{declared.view.View.{View}, Words.{AreSlots, opened_words, free_list, free_word, listed_in, user_of, roles_of}}
+use Rattle.ref_words.specs.{declared.view.View.{View}, Lines.{area_lines}, Words.{AreSlots, opened_words, free_list, free_word, listed_in, user_of, roles_of}}
 use Rattle.ref_words.specs.{Seated.{Seated, no_role, side_at}, Sides.{HasScrubLists, HasFreeReserve, IsDealtInOrder, IsTakenInOrder, HasNoneOwed, IsScrubbedSoFar}}
 use Rattle.ref_words.specs.{Rings.{slot_of, IsRing, AreLeft, left_for, AreRings, EntryFits, words_of_entry, words_of_note}, Rule.{RefRule}}
 use Rattle.word_rings.specs.Slots.{note_width, refill_width}
+use Rattle.ref_words.proofs.LineLemmas.{AreByLine-opened}
 
 module _ (setting : Setting) where
   abbrev apps : List AppSide
@@ -165,7 +166,8 @@ module _ (setting : Setting) where
       users = length-replicate (apps_of setting) (replicate (total setting.layout) 0);
       rows = All-replicate (λ row. length row ≡ total setting.layout) (apps_of setting) _ (length-replicate (total setting.layout) 0);
       free = length-free buffers (free_words_of setting);
-      area = length-replicate (area_words setting.layout) 0;
+      area = length-replicate (area_lines setting.layout) (replicate 64 0);
+      lines = All-replicate (λ line. length line ≡ 64) (area_lines setting.layout) _ (length-replicate {A = ℕ} 64 0);
       notes = length-replicate (apps_of setting) (replicate setting.places (replicate note_width 0));
       note_slots = All-replicate (AreSlots setting.places note_width) (apps_of setting) _ (slots note_width);
       refills = length-replicate (apps_of setting) (replicate setting.places (replicate refill_width 0));
@@ -181,6 +183,7 @@ module _ (setting : Setting) where
       lists = All-new (HasScrubLists setting) setting 0 (apps_of setting)
           (λ a. record { took = length-replicate (total setting.layout) 0; owes = length-replicate (total setting.layout) 0 });
       placed = λ b. ArePlaced-opened b setting apps (news setting 0 (apps_of setting));
+      lines = λ b. AreByLine-opened b setting apps (news setting 0 (apps_of setting));
       by_one = λ b. IsFilledByOne-opened b setting apps (news setting 0 (apps_of setting));
       fit = FillingsFit-opened setting apps (news setting 0 (apps_of setting));
       made = IsMadeLast-idle (new_nic setting) apps refl;

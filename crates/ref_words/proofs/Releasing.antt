@@ -10,7 +10,7 @@ use Rattle.board_face.proofs.{MadeLastLemmas.{IsMadeLast-app}, IsFilledByOneLemm
 use Rattle.board_face.proofs.Counting.{count-push, weight-other, weight-same, weight-swap}
 use Rattle.ref_words.{specs.{Words.{Words, pool_of, listed_in}, Rule.{RefRule}}, proofs.{RingSteps.{rings-app}, Counting.{if_so, if_so-weight, and-false}}}
 use Rattle.ref_words.proofs.{Frees.{AreFreeOnce-fewer, AreKept-app, free_places-hands}, SideSteps.{own-was, mine, own-setting, SidesRule-app, in-area}}
-use Rattle.ref_words.proofs.{PoolSteps.{IsPoolStep}, Shutting.{last-is}}
+use Rattle.ref_words.proofs.{PoolSteps.{IsPoolStep}, Shutting.{last-is}, LineLemmas.{AreByLine-app}}
 
 -- a buffer that came to be free stands in the hands
 pub hands-case : (came : Bool) (hands : List ℕ) (i b : ℕ)
@@ -60,6 +60,7 @@ module _ (setting : Setting) (words : Words) (nic : NicSide) (apps : List AppSid
     there = there;
     sides = SidesRule-app setting nic apps a app rule.sides here now (record {
       placed = λ b. ArePlaced-app b nic apps a app now here (λ test. omega (arith, app_places-released b test nic app place out)) (rule.sides.placed b);
+      lines = λ b. AreByLine-app b nic apps a app now here refl (λ test. omega (arith, app_places-released b test nic app place out)) (rule.sides.lines b);
       by_one = λ b. IsFilledByOne-app b nic apps a app now here (omega arith) (omega (arith, app_count-released b nic app place out)) (rule.sides.by_one b);
       fit = FillingsFit-same nic apps a app now here refl rule.sides.fit;
       made = IsMadeLast-app nic apps a app now here (λ b test. omega (arith, app_places-released b test nic app place out)) rule.sides.made;

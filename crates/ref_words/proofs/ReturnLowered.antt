@@ -13,7 +13,7 @@ use Rattle.board_face.proofs.{SideLemmas.{IsApp-at}, Counting.{weight-and, weigh
 use Rattle.ref_words.specs.{Words.{Words, pool_of, listed_in}, Sides.{IsInHand}, Rule.{RefRule}}
 use Rattle.ref_words.proofs.{CardSteps.{AreReturns-owed, IsScrubbedSoFar-owed, HasNoneOwed-owed}, RingSteps.{rings-card}, Counting.{if_so-weight, and-false}}
 use Rattle.ref_words.proofs.{Frees.{AreFreeOnce-fewer, AreKept-card, cache-grows}, PoolSteps.{IsPoolStep}, Shutting.{last-is, free-gave_up}}
-use Rattle.ref_words.proofs.{InHand.{in_hand, some-is, if-none, same-if, other-if}, SideSteps.{in-area}}
+use Rattle.ref_words.proofs.{InHand.{in_hand, some-is, if-none, same-if, other-if}, SideSteps.{in-area}, LineLemmas.{AreByLine-stretch}}
 
 module _ (setting : Setting) (words : Words) (nic : NicSide) (apps : List AppSide) (a : ℕ) (entry : Rqe) (b : ℕ) (rule : RefRule setting words nic apps)
     (at : nic.inside.entry ≡ in_hand a entry (UserLowered b)) where
@@ -104,6 +104,7 @@ module _ (setting : Setting) (words : Words) (nic : NicSide) (apps : List AppSid
       set = assumption rule.sides.set;
       lists = rule.sides.lists;
       placed = λ c. ArePlaced-stretch c nic now apps refl refl refl refl refl (small-before c) (small-now c) (later c) (rule.sides.placed c);
+      lines = λ c. AreByLine-stretch c nic now apps refl refl refl (small-before c) (small-now c) (later c) (rule.sides.lines c);
       by_one = λ c. IsFilledByOne-fewer c nic now apps apps refl (omega arith) (omega arith) (omega (arith, less c)) (rule.sides.by_one c);
       fit = assumption rule.sides.fit;
       made = IsMadeLast-stretch nic now apps refl refl refl small-before small-now later rule.sides.made;

@@ -1,5 +1,5 @@
 -- Whatever the steps, the rule is kept: by the laws of the opening, of roles, and of each role's steps, step after step.
-use Rattle.std.{proofs.{Common.{◌≡◌, ℕ, ◌<◌, List, length, [], ◌∷◌, set, refl, sym, subst, arith}, lemmas.List.Elements.{All-weaker}}, specs.Prelude.{◌≤◌, All}}
+use Rattle.std.{proofs.{Common.{◌≡◌, ℕ, ◌<◌, List, [], ◌∷◌, set, refl, sym, subst, arith}, lemmas.List.Elements.{All-weaker}}, specs.Prelude.{◌≤◌, All}}
 use Rattle.area_layout.specs.Layout.{IsLayout, total}
 use Rattle.board_face.specs.{Counts.{pool_count}, Holders.{sent_to}, Relay.{IsAsSent}, declared.views.{parts.Setting.{Setting}, nic.NicSide.{NicSide}}}
 use Rattle.board_face.{specs.declared.views.app.AppSide.{AppSide}, proofs.FreeLemmas.{user_count-le}}
@@ -9,7 +9,7 @@ use Rattle.ref_words.specs.Runs.{State, Step, CardStep, AppStep, card_words, car
 use Rattle.ref_words.specs.Runs.{May, MayRun, after, run_of, opened_state, view_of, most_holders, Keeps, Holds}
 use Rattle.ref_words.proofs.{Beginning.{holders-few}, Roles.{card-moves, app-is, app-moves}}
 use Rattle.ref_words.proofs.AppNumbers.{refill_looked-number, slot_looked-number, raw_looked-number, any_looked-number, last_looked-number}
-use Rattle.ref_words.proofs.AppNumbers.{word_looked-number, bit_cleared-number, end_looked-number, note_sought-number, reserve_looked-number, loaded-number}
+use Rattle.ref_words.proofs.AppNumbers.{word_looked-number, bit_cleared-number, end_looked-number, note_sought-number, reserve_looked-number}
 use Rattle.ref_words.specs.Runs
 
 pub record AreLaws : Type 0 where
@@ -42,7 +42,6 @@ module _ (laws : AreLaws) (setting : Setting) where
   app-number words app Runs.looks_end = end_looked-number app _
   app-number words app Runs.seeks_note = note_sought-number app _
   app-number words app Runs.looks_reserve = reserve_looked-number app _
-  app-number words app (Runs.loads_text place from reads so_far more) = loaded-number app place from (length so_far) _
   app-number words app _ = refl
 
   -- ---- any step

@@ -12,7 +12,7 @@ use Rattle.board_face.proofs.{MadeLastLemmas.{IsMadeLast-app}, IsFilledByOneLemm
 use Rattle.board_face.proofs.ListLemmas.{eqb_same, not-eqb}
 use Rattle.ref_words.{specs.{Words.{Words, user_of, listed_in}, Sides.{HasScrubLists}, Rings.{EntryFits}, Rule.{RefRule}}, proofs.RingSteps.{rings-app}}
 use Rattle.ref_words.proofs.{Counting.{if_so}, Frees.{AreKept-app, free_places-hands}, SideSteps.{mine, own-setting, SidesRule-app, is-app}, UserSteps.{IsUserStep}}
-use Rattle.ref_words.proofs.Judging.{own-users}
+use Rattle.ref_words.proofs.{Judging.{own-users}, LineLemmas.{AreByLine-app}}
 
 -- one number of a list is raised by n
 pub raised-at : (b n c : ℕ) (xs : List ℕ) → b < length xs → get_or (set xs b (get_or xs b 0 + n)) c 0 ≡ get_or xs c 0 + if_so (b == c) n
@@ -180,6 +180,9 @@ module _ (setting : Setting) (words : Words) (nic : NicSide) (apps : List AppSid
       placed = λ c. ArePlaced-app c nic apps a app now here
           (λ test. app_places-stretch c test nic nic app now.inside refl (sound c).returning (sound-now c).returning (places-less c))
           (rule.sides.placed c);
+      lines = λ c. AreByLine-app c nic apps a app now here refl
+          (λ test. app_places-stretch c test nic nic app now.inside refl (sound c).returning (sound-now c).returning (places-less c))
+          (rule.sides.lines c);
       by_one = λ c. IsFilledByOne-app c nic apps a app now here (omega arith) (omega (arith, same_pool c, pool_count-app c nic apps a app now here))
           (rule.sides.by_one c);
       fit = FillingsFit-same nic apps a app now here refl rule.sides.fit;

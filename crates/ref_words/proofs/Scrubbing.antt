@@ -9,7 +9,7 @@ use Rattle.board_face.proofs.{AppLemmas.{pool_count-app, user_count-app}, Places
 use Rattle.board_face.proofs.{MadeLastLemmas.{IsMadeLast-app}, IsFilledByOneLemmas.{IsFilledByOne-app}, FillingsFitLemmas.{FillingsFit-same}}
 use Rattle.ref_words.{specs.{Words.{Words, pool_of, listed_in}, Rule.{RefRule}}, proofs.{RingSteps.{rings-app}, Counting.{if_so, and-false}}}
 use Rattle.ref_words.proofs.{Frees.{AreFreeOnce-fewer, AreKept-app, free_places-hands}, SideSteps.{own-was, mine, own-setting, SidesRule-app}, PoolSteps.{IsPoolStep}}
-use Rattle.ref_words.proofs.{Shutting.{last-is}, Releasing.{hands-case}}
+use Rattle.ref_words.proofs.{Shutting.{last-is}, Releasing.{hands-case}, LineLemmas.{AreByLine-app}}
 use Rattle.zr_kinds.proofs.Booleans.{and-true}
 
 module _ (setting : Setting) (words : Words) (nic : NicSide) (apps : List AppSide) (a : ℕ) (app : AppSide) (b n : ℕ)
@@ -86,6 +86,9 @@ module _ (setting : Setting) (words : Words) (nic : NicSide) (apps : List AppSid
       placed = λ c. ArePlaced-app c nic apps a app now here
           (λ test. app_places-stretch c test nic nic app now.inside refl (sound c).returning (sound-now c).returning (omega (arith, owes-now c)))
           (rule.sides.placed c);
+      lines = λ c. AreByLine-app c nic apps a app now here refl
+          (λ test. app_places-stretch c test nic nic app now.inside refl (sound c).returning (sound-now c).returning (omega (arith, owes-now c)))
+          (rule.sides.lines c);
       by_one = λ c. IsFilledByOne-app c nic apps a app now here (omega arith) (omega (arith, less c, pool_count-app c nic apps a app now here))
           (rule.sides.by_one c);
       fit = FillingsFit-same nic apps a app now here refl rule.sides.fit;

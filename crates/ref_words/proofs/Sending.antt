@@ -16,6 +16,7 @@ use Rattle.ref_words.proofs.{RingSteps.{AllRings}, RingMoves.{slot-here, slot-ot
 use Rattle.ref_words.proofs.{SlotSteps.{DifferInSlots, RefRule-slot}, CardSteps.{SidesRule-card}, Frees.{AreKept-card}, Writing.{take-mapped}}
 use Rattle.ref_words.proofs.Ringing as ringing
 use Rattle.ref_words.proofs.LeftWords as left-words
+use Rattle.ref_words.{specs.Sides.{AreByLine}, proofs.LineLemmas.{AreByLine-like, AreByLine-sent, AreByLine-sent_linear}}
 
 -- What is to be known of the view v after the event, by which the note s was sent.
 pub record IsSending (nic : NicSide) (apps : List AppSide) (v : NicView) (s : SentNote) : Type 0 where
@@ -24,6 +25,7 @@ pub record IsSending (nic : NicSide) (apps : List AppSide) (v : NicView) (s : Se
   pub proper : IsProper s
   pub pools : (b : ℕ) → pool_count b (nic_at nic v) apps ≡ pool_count b nic apps
   pub placed : (b : ℕ) → ArePlaced b (nic_at nic v) apps
+  pub lines : (b : ℕ) → AreByLine b (nic_at nic v) apps
   pub by_one : (b : ℕ) → IsFilledByOne b (nic_at nic v) apps
   pub made : IsMadeLast (nic_at nic v) apps
 
@@ -113,6 +115,7 @@ module _ (setting : Setting) (words : Words) (nic : NicSide) (apps : List AppSid
         (RefRule-slot setting words words' nic like apps apps rule differ (record {
           sides = SidesRule-card setting nic like apps rule.sides (record {
             placed = λ b. assumption (is.placed b);
+            lines = λ b. AreByLine-like b (nic_at nic like.view) apps like (λ test. refl) (λ test app. refl) (is.lines b);
             by_one = λ b. assumption (is.by_one b);
             fit = assumption rule.sides.fit;
             made = record { last = is.made.last };
@@ -151,6 +154,7 @@ module _ (setting : Setting) (words : Words) (nic : NicSide) (apps : List AppSid
         proper = record { split = λ e. fields; linear = λ e. absurd (let wrong : true ≡ false = sym split ∙ e in let none : ⊥ = cc in none) };
         pools = λ b. pool_count-sent b nic apps a note app out split numbers here within;
         placed = λ b. ArePlaced-sent b nic apps a note app out split numbers here within (rule.sides.placed b);
+        lines = λ b. AreByLine-sent b nic apps a note app out split numbers here within (rule.sides.lines b);
         by_one = λ b. IsFilledByOne-sent b nic apps a note app out split numbers here within (rule.sides.by_one b);
         made = IsMadeLast-sent nic apps a note app out split numbers here within rule.sides.made;
       }) refl saw (words_are ∙ sym (ap
@@ -173,6 +177,7 @@ module _ (setting : Setting) (words : Words) (nic : NicSide) (apps : List AppSid
         };
         pools = λ b. pool_count-sent_linear b nic apps a note bytes app split numbers here within;
         placed = λ b. ArePlaced-sent_linear b nic apps a note bytes app split numbers here within (rule.sides.placed b);
+        lines = λ b. AreByLine-sent_linear b nic apps a note bytes app split numbers here within (rule.sides.lines b);
         by_one = λ b. IsFilledByOne-sent_linear b nic apps a note bytes app split numbers here within (rule.sides.by_one b);
         made = IsMadeLast-sent_linear nic apps a note bytes app split numbers here within rule.sides.made;
       }) refl saw (words_are ∙ sym (ap

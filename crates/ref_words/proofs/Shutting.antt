@@ -8,7 +8,7 @@ use Rattle.board_face.proofs.{NicLemmas.{pool_count-shut, user_count-nic}, ArePl
 use Rattle.board_face.proofs.{IsFilledByOneLemmas.{IsFilledByOne-shut}, FillingsFitLemmas.{FillingsFit-shut}, ListLemmas.{not-eqb}, Tallies.{weight}}
 use Rattle.board_face.proofs.Counting.{weight-other, weight-same, weight-swap}
 use Rattle.ref_words.{specs.{Words.{Words, pool_of, listed_in}, Rule.{RefRule}}, proofs.{RingSteps.{rings-card}, Counting.{cached-or-in_hand, if_so, if_so-weight}}}
-use Rattle.ref_words.proofs.{Frees.{AreFreeOnce-fewer, AreKept-card, cache-grows}, CardSteps.{SidesRule-card}, PoolSteps.{IsPoolStep}}
+use Rattle.ref_words.proofs.{Frees.{AreFreeOnce-fewer, AreKept-card, cache-grows}, CardSteps.{SidesRule-card}, PoolSteps.{IsPoolStep}, LineLemmas.{AreByLine-like}}
 use Rattle.zr_kinds.proofs.Booleans.{and-true}
 
 -- a count of w is lowered by w to 0, and no greater one
@@ -58,6 +58,7 @@ module _ (setting : Setting) (words : Words) (nic : NicSide) (apps : List AppSid
     there = there;
     sides = SidesRule-card setting nic now apps rule.sides (record {
       placed = λ b. assumption (ArePlaced-shut b nic apps own last (rule.sides.placed b));
+      lines = λ b. AreByLine-like b nic apps now (λ test. refl) (λ test app. refl) (rule.sides.lines b);
       by_one = λ b. assumption (IsFilledByOne-shut b nic apps own last out (rule.sides.by_one b));
       fit = assumption (FillingsFit-shut nic apps own last rule.sides.fit);
       made = let m = IsMadeLast-nic nic (shut nic.view own last) apps refl refl refl rule.sides.made in record { last = m.last };

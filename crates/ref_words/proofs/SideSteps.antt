@@ -7,7 +7,7 @@ use Rattle.board_face.specs.{AppEvents.{reserve_of}, Sides.{IsApp}, Holders.{end
 use Rattle.board_face.specs.{Places.{ArePlaced, IsMadeLast}, Fillings.{IsFilledByOne, FillingsFit}, Used.{HasFewPicks}, Returns.{AreReturns, entries_on_way}}
 use Rattle.board_face.{specs.declared.views.{parts.Setting.{Setting}, nic.NicSide.{NicSide}, app.AppSide.{AppSide}}, proofs.SideLemmas.{AreNumbered-set}}
 use Rattle.board_face.specs.NicCalls.{apps_of}
-use Rattle.ref_words.specs.{Rings.{EntryFits}, Sides.{SidesRule, HasScrubLists, HasFreeReserve, IsDealtInOrder, IsTakenInOrder, HasNoneOwed}}
+use Rattle.ref_words.specs.{Rings.{EntryFits}, Sides.{AreByLine, SidesRule, HasScrubLists, HasFreeReserve, IsDealtInOrder, IsTakenInOrder, HasNoneOwed}}
 use Rattle.ref_words.specs.Sides.{IsScrubbedSoFar, IsFirst, IsFirstRaw}
 
 -- What is to be known of what the application itself did and knows.
@@ -32,6 +32,7 @@ pub record IsOwnStep (nic : NicSide) (app now : AppSide) : Type 0 where
 -- What is to be known of its new side.
 pub record IsAppStep (nic : NicSide) (apps : List AppSide) (a : ℕ) (app now : AppSide) : Type 0 where
   pub placed : (b : ℕ) → ArePlaced b nic (set apps a now)
+  pub lines : (b : ℕ) → AreByLine b nic (set apps a now)
   pub by_one : (b : ℕ) → IsFilledByOne b nic (set apps a now)
   pub fit : FillingsFit nic (set apps a now)
   pub made : IsMadeLast nic (set apps a now)
@@ -137,6 +138,7 @@ module _ (setting : Setting) (nic : NicSide) (apps : List AppSide) (a : ℕ) (ap
       lists = let l = mine (HasScrubLists setting) rule.lists in
           All-set (HasScrubLists setting) apps a now (record { took = step.own.took ∙ l.took; owes = step.own.owes ∙ l.owes }) rule.lists;
       placed = step.placed;
+      lines = step.lines;
       by_one = step.by_one;
       fit = step.fit;
       made = step.made;

@@ -9,6 +9,7 @@ use Rattle.board_face.{specs.{AppEvents.{lent_own}, Sides.{app_at}, Returns.{loa
 use Rattle.board_face.proofs.{ReturnLemmas.{IsClear-of_loans}, Tallies.{weight}, Counting.{weight-same}}
 use Rattle.ref_words.{specs.{Words.{Words, user_of, listed_in}, Rule.{RefRule}}, proofs.{RingSteps.{rings-app}, Frees.{AreKept-app, free_places-hands}}}
 use Rattle.ref_words.proofs.{InHand.{same-if, other-pair}, SideSteps.{own-was, mine, SidesRule-app, is-app, in-area}, UserSteps.{IsUserStep}, Beginning.{few-holders}}
+use Rattle.ref_words.proofs.LineLemmas.{AreByLine-lent_own}
 
 module _ (setting : Setting) (words : Words) (nic : NicSide) (apps : List AppSide) (a : ℕ) (app : AppSide) (own : Filling)
     (rule : RefRule setting words nic apps) (here : IsApp apps a app) (out : HasSpare app.view own) (some : IsFilled app.view own)
@@ -63,6 +64,7 @@ module _ (setting : Setting) (words : Words) (nic : NicSide) (apps : List AppSid
     there = there;
     sides = SidesRule-app setting nic apps a app rule.sides here now (record {
       placed = λ b. ArePlaced-lent_own b nic apps a app own here some (rule.sides.placed b);
+      lines = λ b. AreByLine-lent_own b nic apps a app own here some (rule.sides.lines b);
       by_one = λ b. IsFilledByOne-lent_own b nic apps a app own here out (rule.sides.by_one b);
       fit = FillingsFit-lent_own nic apps a app own here rule.sides.fit;
       made = IsMadeLast-lent_own nic apps a app own here some rule.sides.made;

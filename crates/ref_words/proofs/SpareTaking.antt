@@ -11,7 +11,7 @@ use Rattle.board_face.proofs.{FillingsFitLemmas.{IsFit, FillingsFit-app, Filling
 use Rattle.board_face.proofs.Counting.{All-none, weight-other, weight-same}
 use Rattle.ref_words.{specs.{Words.{Words, pool_of, listed_in}, Rule.{RefRule}}, proofs.RingSteps.{rings-app}}
 use Rattle.ref_words.proofs.Frees.{AreFreeOnce-taken, AreFreeOnce-reserve, AreKept-app, free_places-hands, in-hands, count-taken, without-none}
-use Rattle.ref_words.proofs.{SideSteps.{own-was, mine, own-setting, SidesRule-app}, PoolSteps.{IsPoolStep}}
+use Rattle.ref_words.proofs.{SideSteps.{own-was, mine, own-setting, SidesRule-app}, PoolSteps.{IsPoolStep}, LineLemmas.{AreByLine-app}}
 
 -- an application has nothing in a buffer that nobody has
 pub own-none : (b : ℕ) (nic : NicSide) (apps : List AppSide) (a : ℕ) (app : AppSide) → IsApp apps a app → pool_count b nic apps ≡ 0
@@ -52,6 +52,7 @@ module _ (setting : Setting) (words : Words) (nic : NicSide) (apps : List AppSid
         there = there;
         sides = SidesRule-app setting nic apps a app rule.sides here now (record {
           placed = λ c. ArePlaced-app c nic apps a app now here (λ test. omega (arith, app_places-spare_begun c test nic app b)) (rule.sides.placed c);
+          lines = λ c. AreByLine-app c nic apps a app now here refl (λ test. omega (arith, app_places-spare_begun c test nic app b)) (rule.sides.lines c);
           by_one = λ c. one-spare c b nic apps a app now here (spares_in-got_spare c app b) (app_count-got_spare c nic app b)
               (omega (arith, there, ap (λ s. total s.layout) rule.sides.set.card)) unheld (rule.sides.by_one c);
           fit = FillingsFit-app nic apps a now

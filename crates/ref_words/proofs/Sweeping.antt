@@ -9,7 +9,7 @@ use Rattle.board_face.proofs.{MadeLastLemmas.{IsMadeLast-nic}, IsFilledByOneLemm
 use Rattle.board_face.proofs.{LookLemmas.{NicRose-nic_saw}, Tallies.{weight}, Losing.{lost-bound}, Counting.{count-append, count-push}}
 use Rattle.ref_words.specs.{Words.{Words, listed_in, free_of, with_free}, FreeSteps.{found_in, side_swept}, Rule.{RefRule}}
 use Rattle.ref_words.proofs.{Found.{IsFound, found-none, found-one, found-all, found-falling, found-few}, FreeWords.{RefRule-free, listed-here, listed-there, of-pool}}
-use Rattle.ref_words.proofs.{RingSteps.{rings-card}, CardSteps.{SidesRule-card}}
+use Rattle.ref_words.proofs.{RingSteps.{rings-card}, CardSteps.{SidesRule-card}, LineLemmas.{AreByLine-like}}
 
 module _ (setting : Setting) (words : Words) (nic : NicSide) (apps : List AppSide) (j : ℕ) (rule : RefRule setting words nic apps)
     (within : j < free_words_of setting) where
@@ -62,6 +62,7 @@ module _ (setting : Setting) (words : Words) (nic : NicSide) (apps : List AppSid
   sweeps = RefRule-free setting words nic now apps apps j 0 rule (record {
     sides = SidesRule-card setting nic now apps rule.sides (record {
       placed = λ b. ArePlaced-swept b nic apps j found (rule.sides.placed b);
+      lines = λ b. AreByLine-like b nic apps now (λ test. refl) (λ test app. refl) (rule.sides.lines b);
       by_one = λ b. IsFilledByOne-swept b nic apps j found (rule.sides.by_one b);
       fit = FillingsFit-nic nic v apps refl refl rule.sides.fit;
       made = IsMadeLast-nic nic v apps refl refl refl rule.sides.made;

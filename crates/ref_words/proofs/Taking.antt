@@ -8,7 +8,7 @@ use Rattle.board_face.proofs.{FreeLemmas.{free_places-took, IsFreeOnce-cached}, 
 use Rattle.board_face.proofs.{IsFilledByOneLemmas.{IsFilledByOne-took}, FillingsFitLemmas.{FillingsFit-took}, Tallies.{weight}, Parts.{pool_count-parts}}
 use Rattle.board_face.proofs.Counting.{All-none, count-append, count-push, weight-other, weight-same, weight-swap}
 use Rattle.ref_words.{specs.{Words.{Words, pool_of, listed_in}, Rule.{RefRule}}, proofs.{RingSteps.{rings-card}, Frees.{AreFreeOnce-taken}, CardSteps.{SidesRule-card}}}
-use Rattle.ref_words.proofs.PoolSteps.{IsPoolStep}
+use Rattle.ref_words.proofs.{PoolSteps.{IsPoolStep}, LineLemmas.{AreByLine-like}}
 
 module _ (setting : Setting) (words : Words) (nic : NicSide) (apps : List AppSide) (b : ℕ) (rule : RefRule setting words nic apps)
     (last : nic.view.cache ≡ (took nic.view b).cache ++ b ∷ []) where
@@ -61,6 +61,7 @@ module _ (setting : Setting) (words : Words) (nic : NicSide) (apps : List AppSid
     there = there;
     sides = SidesRule-card setting nic now apps rule.sides (record {
       placed = λ x. ArePlaced-took x nic apps b unheld (rule.sides.placed x);
+      lines = λ x. AreByLine-like x nic apps now (λ test. refl) (λ test app. refl) (rule.sides.lines x);
       by_one = λ x. IsFilledByOne-took x nic apps b (let s = small in omega arith) unheld (rule.sides.by_one x);
       fit = FillingsFit-took nic apps b (rw rule.sides.set.card rule.layout) small rule.sides.fit;
       made = IsMadeLast-nic nic (took nic.view b) apps refl refl refl rule.sides.made;

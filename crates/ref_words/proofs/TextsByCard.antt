@@ -1,4 +1,4 @@
--- What the card's events leave of the texts, where no word of the area changes.
+-- What the card's events leave of the texts, where no line of the area changes.
 use Rattle.std.{proofs.Common.{◌≡◌, ℕ, ◌+◌, ◌<◌, ◌≤◌, Bool, List, refl, ap, ◌∙◌, subst, arith}, specs.Prelude.{◌==◌, IfSome}}
 use Rattle.std.proofs.lemmas.List.Elements.{All-weaker, All-contains}
 use Rattle.zr_kinds.specs.declared.ring.Rqe.{Rqe}
@@ -7,7 +7,7 @@ use Rattle.board_face.specs.{Holders.{ended_in, lowered_in_hand}, Shown.{AppIsSh
 use Rattle.board_face.specs.{Steps.{side_begun, side_shut, side_judged, side_user_lowered, side_both_lowered}, declared.views.parts.Setting.{Setting}}
 use Rattle.board_face.specs.declared.views.{parts.Filling.{Filling}, nic.{Judged.TheVariants.{Not, Owed, UserLowered}, NicSide.{NicSide}}, app.AppSide.{AppSide}}
 use Rattle.board_face.proofs.{TextsByEvent.{AppIsShown-ended}, FillingsFitLemmas.{FillingsFit-own}}
-use Rattle.ref_words.{specs.{Area.{byte_in}, Sides.{SidesRule}, TextRule.{IsInMaking, HasTexts, AreTexts}}, proofs.InHand.{in_hand, if-none}}
+use Rattle.ref_words.{specs.{Lines.{byte_in}, Sides.{SidesRule}, TextRule.{IsInMaking, HasTexts, AreTexts}}, proofs.InHand.{in_hand, if-none}}
 
 -- Neither pieces nor notes change, and no loan that was ended is owed again.
 pub record LeavesTexts (nic now : NicSide) : Type 0 where
@@ -21,8 +21,8 @@ pub ends-in-hand : (nic now : NicSide) → now.view.dealt ≡ nic.view.dealt
     → (b : ℕ) (app : AppSide) → ended_in b nic app ≤ ended_in b now app
 ends-in-hand nic now deals lowered b app = rw deals (omega (arith, lowered app.view.app b))
 
-module _ (setting : Setting) (area : List ℕ) (nic now : NicSide) (apps : List AppSide) (sides : SidesRule setting now apps) where
-  pub AreTexts-moved : LeavesTexts nic now → IfSome now.inside.making (IsInMaking setting.layout area) → AreTexts setting.layout area nic apps
+module _ (setting : Setting) (area : List (List ℕ)) (nic now : NicSide) (apps : List AppSide) (sides : SidesRule setting now apps) where
+  pub AreTexts-moved : LeavesTexts nic now → IfSome now.inside.making (IsInMaking setting.layout) → AreTexts setting.layout area nic apps
       → AreTexts setting.layout area now apps
   AreTexts-moved leaves made texts =
       let byte = byte_in setting.layout area in
@@ -45,7 +45,7 @@ module _ (setting : Setting) (area : List ℕ) (nic now : NicSide) (apps : List 
 
 -- ---- events
 
-module _ (setting : Setting) (area : List ℕ) (nic : NicSide) (apps : List AppSide) where
+module _ (setting : Setting) (area : List (List ℕ)) (nic : NicSide) (apps : List AppSide) where
   pub texts-took : (b : ℕ) → SidesRule setting (nic_at nic (took nic.view b)) apps → AreTexts setting.layout area nic apps
       → AreTexts setting.layout area (nic_at nic (took nic.view b)) apps
   texts-took b sides texts =
@@ -60,14 +60,8 @@ module _ (setting : Setting) (area : List ℕ) (nic : NicSide) (apps : List AppS
       let layouts : nic.view.setting.layout ≡ setting.layout = ap (λ (s : Setting). s.layout) was.set.card in
       let size : own.size ≡ size_of setting.layout own.buffer = fits.1 ∙ ap (λ (l : Shape). size_of l own.buffer) layouts in
       let few : own.buffer < pool_buffers setting.layout = subst (λ (l : Shape). own.buffer < pool_buffers l) layouts of_pool in
-      let aligned = fits.0.aligned in
       AreTexts-moved setting area nic _ apps sides (record { pieces = refl; sents = refl; ends = λ c app. omega arith })
-      (record {
-        lies = record { buffer = omega (arith, few); bytes = omega (arith, size, within) };
-        aligned = omega (arith, aligned);
-        more = some;
-        stand = λ k less. absurd (omega arith);
-      })
+      (record { hand = record { lies = record { buffer = omega (arith, few); bytes = omega (arith, size, within) }; some = some }; aligned = fits.0.aligned })
       texts
 
   pub texts-shut : (own : Filling) (last : Bool) → SidesRule setting (side_shut nic own last) apps → AreTexts setting.layout area nic apps

@@ -1,4 +1,4 @@
--- What the events at the slots of the rings leave of the texts: no word of the area changes.
+-- What the events at the slots of the rings leave of the texts: no line of the area changes.
 use Rattle.std.proofs.Common.{◌≡◌, ⊎_elim, ℕ, ◌<◌, ◌≤◌, Bool, true, false, List, [], ◌∷◌, ◌++◌, length, map, drop, get_or, set, refl, ap, sym, ◌∙◌, subst, arith}
 use Rattle.std.{specs.Prelude.{◌==◌, All, Contains, None}, proofs.lemmas.{List.{take-append-drop, Elements.{All-weaker, Contains-get_or}}, Bool.Decides.{eqb_tells}}}
 use Rattle.zr_kinds.specs.declared.{place.{Note.{Note}, Place.{Place}}, ring.Rqe.{Rqe}}
@@ -14,12 +14,13 @@ use Rattle.board_face.{specs.declared.views.app.{WrittenEntry.{WrittenEntry}, Ap
 use Rattle.board_face.proofs.{RelayLemmas.{Relayed-sent, Relayed-sent_other}, SideLemmas.{IsApp-at}, Tallies.{weight, tally-push}}
 use Rattle.board_face.proofs.TextsByEvent.{AppIsShown-same, AppIsShown-took_note, AppIsShown-took_linear, AppIsShown-ended}
 use Rattle.board_face.{proofs.{AreShownLemmas.{AppIsShown-gave, AreShown-sent, AreShown-sent_linear}, Counting.{weight-and}}, specs.Laws.{IsNextNote}}
-use Rattle.ref_words.specs.{Words.{Words}, Area.{byte_in}, Sides.{SidesRule, IsTakenInOrder, IsDealtInOrder}, Rule.{RefRule}, TextRule.{AreTexts}}
-use Rattle.ref_words.proofs.{InHand.{in_hand, if-none}, TextsByCard.{ends-in-hand, AreTexts-card}, TextsByApp.{HasTexts-left, AreTexts-app, AppIsShown-inside}}
+use Rattle.ref_words.specs.{Words.{Words}, Lines.{byte_in}, Sides.{SidesRule, IsTakenInOrder, IsDealtInOrder}, Rule.{RefRule}, TextRule.{AreTexts}}
+use Rattle.ref_words.proofs.{InHand.{in_hand, if-none}, TextsByCard.{ends-in-hand, AreTexts-card}}
+use Rattle.ref_words.proofs.TextsByApp.{HasTexts-left, HasTexts-idle, AreTexts-app, AppIsShown-inside}
 
 -- ---- an application's slots
 
-module _ (setting : Setting) (area : List ℕ) (nic : NicSide) (apps : List AppSide) (a : ℕ) (app : AppSide) (here : IsApp apps a app)
+module _ (setting : Setting) (area : List (List ℕ)) (nic : NicSide) (apps : List AppSide) (a : ℕ) (app : AppSide) (here : IsApp apps a app)
     (texts : AreTexts setting.layout area nic apps) where
   abbrev byte : ℕ → ℕ → ℕ
   byte = byte_in setting.layout area
@@ -41,7 +42,7 @@ module _ (setting : Setting) (area : List ℕ) (nic : NicSide) (apps : List AppS
       (AreTexts-app setting area nic apps a app like here (subst (λ x. SidesRule setting nic (set apps a x)) same sides)
       (λ shown. AppIsShown-inside byte nic (app_at app v) inside (λ b. omega arith)
       (AppIsShown-same byte nic app v (record { app = refl; taken = refl; helds = refl; owns = refl; loans = refl; returned = refl }) shown))
-      (HasTexts-left setting.layout area nic app like (record { number = refl; making = refl; owns = refl; reads = refl })) texts)
+      (HasTexts-left setting.layout area nic app like (record { number = refl; making = refl; owns = refl; loans = refl; reads = refl })) texts)
 
   pub texts-refill_looked : (free : Bool) → SidesRule setting nic (set apps a (side_refill_looked app free))
       → AreTexts setting.layout area nic (set apps a (side_refill_looked app free))
@@ -61,14 +62,14 @@ module _ (setting : Setting) (area : List ℕ) (nic : NicSide) (apps : List AppS
       → AreTexts setting.layout area nic (set apps a (side_slot_loaded app n))
   texts-slot_loaded n sides = seen (side_slot_loaded app n) refl sides
 
-  pub texts-gave : (place : Place) → HasLoan app.view place → ((b : ℕ) → EndedWereReturned b nic app)
+  pub texts-gave : (place : Place) → HasLoan app.view place → ((b : ℕ) → EndedWereReturned b nic app) → app.inside.making ≡ None
       → SidesRule setting nic (set apps a (side_gave app place)) → AreTexts setting.layout area nic (set apps a (side_gave app place))
-  texts-gave place out ended sides =
+  texts-gave place out ended idle sides =
       let now = side_gave app place in
       AreTexts-app setting area nic apps a app now here sides
       (λ shown. AppIsShown-inside byte nic (app_at app (gave app.view place)) now.inside (λ b. omega arith)
       (AppIsShown-gave byte nic app place out ended shown))
-      (HasTexts-left setting.layout area nic app now (record { number = refl; making = refl; owns = refl; reads = refl })) texts
+      (HasTexts-idle setting.layout area nic app now refl idle refl refl) texts
 
   pub texts-pushed : (entry : Rqe) → SidesRule setting nic (set apps a (side_pushed app entry))
       → AreTexts setting.layout area nic (set apps a (side_pushed app entry))
@@ -78,7 +79,7 @@ module _ (setting : Setting) (area : List ℕ) (nic : NicSide) (apps : List AppS
       (λ shown. AppIsShown-inside byte nic (app_at app (pushed_raw app.view entry)) now.inside (λ b. omega arith)
       (AppIsShown-same byte nic app (pushed_raw app.view entry)
       (record { app = refl; taken = refl; helds = refl; owns = refl; loans = refl; returned = refl }) shown))
-      (HasTexts-left setting.layout area nic app now (record { number = refl; making = refl; owns = refl; reads = refl })) texts
+      (HasTexts-left setting.layout area nic app now (record { number = refl; making = refl; owns = refl; loans = refl; reads = refl })) texts
 
   pub texts-took_note : (note : Note) → IsNextNote nic app note → note.split ≡ true → SidesRule setting nic (set apps a (side_took_note app note))
       → AreTexts setting.layout area nic (set apps a (side_took_note app note))
@@ -87,7 +88,7 @@ module _ (setting : Setting) (area : List ℕ) (nic : NicSide) (apps : List AppS
       AreTexts-app setting area nic apps a app now here sides
       (λ shown. AppIsShown-inside byte nic (app_at app (took_note app.view note)) now.inside (λ b. omega arith)
       (AppIsShown-took_note byte nic app note next split shown))
-      (HasTexts-left setting.layout area nic app now (record { number = refl; making = refl; owns = refl; reads = refl })) texts
+      (HasTexts-left setting.layout area nic app now (record { number = refl; making = refl; owns = refl; loans = refl; reads = refl })) texts
 
   pub texts-took_linear : (note : Note) (bytes : List ℕ) → IsNextNote nic app note
       → SidesRule setting nic (set apps a (side_took_linear app note bytes))
@@ -97,11 +98,11 @@ module _ (setting : Setting) (area : List ℕ) (nic : NicSide) (apps : List AppS
       AreTexts-app setting area nic apps a app now here sides
       (λ shown. AppIsShown-inside byte nic (app_at app (took_linear app.view note bytes)) now.inside (λ b. omega arith)
       (AppIsShown-took_linear byte nic app note bytes next shown))
-      (HasTexts-left setting.layout area nic app now (record { number = refl; making = refl; owns = refl; reads = refl })) texts
+      (HasTexts-left setting.layout area nic app now (record { number = refl; making = refl; owns = refl; loans = refl; reads = refl })) texts
 
 -- ---- the card's slots
 
-module _ (setting : Setting) (area : List ℕ) (nic : NicSide) (apps : List AppSide) (a : ℕ) (texts : AreTexts setting.layout area nic apps) where
+module _ (setting : Setting) (area : List (List ℕ)) (nic : NicSide) (apps : List AppSide) (a : ℕ) (texts : AreTexts setting.layout area nic apps) where
   -- a look at a slot, or a word stored or loaded there
   card-seen : (now : NicSide) → now ≡ record {
     view = record nic.view { looks = now.view.looks };

@@ -2,7 +2,7 @@
 use Rattle.std.{specs.Prelude.{◌≡◌, ℕ, []}, proofs.lemmas.List.Elements.{All-nil}}
 use Rattle.board_face.specs.{NicCalls.{apps_of}, Holders.{sent_to}, Opened.{new_nic, new_app, new_apps}, Relay.{IsAsSent}, declared.views.parts.Setting.{Setting}}
 use Rattle.board_face.{specs.declared.views.app.SpareOwn.{SpareOwn}, proofs.OpenedLemmas.{news, All-new, AreShown-opened}}
-use Rattle.ref_words.specs.{Area.{byte_in}, Words.{opened_words}, TextRule.{HasTexts, TextRule}}
+use Rattle.ref_words.specs.{Lines.{byte_in}, Words.{opened_words}, TextRule.{HasTexts, TextRule}}
 
 module _ (setting : Setting) where
   has-none : (a : ℕ) → HasTexts setting.layout (opened_words setting).area (new_nic setting) (new_app setting a)

@@ -1,84 +1,21 @@
--- A word of a text is stored: no word is another's, so each text that is shown stays so, and each that is in the making.
-use Rattle.std.proofs.Common.{◌≡◌, ⊎_elim, ℕ, zero, suc, ◌+◌, ◌*◌, ◌<◌, ◌≤◌, Bool, true, false, cond, List, [], ◌∷◌, ◌++◌, length}
-use Rattle.std.{proofs.Common.{map, get_or, set, refl, ap, sym, ◌∙◌, subst, arith}, specs.Prelude.{◌≢◌, ◌&&◌, All, Option, Some, None, IfSome, nat_lt}}
-use Rattle.std.proofs.lemmas.{Bool.{cases_lt, Decides.{eqb_tells}}, List.{get_or-set_other, get_or-set_same, get_or_append_left, length_push, length-set}}
-use Rattle.std.proofs.{lemmas.List.Elements.{All-head, All-tail, All-map, All-contains}, Math.Seq.{get_or-append_seam}}
+-- A role stores a text in whole lines, of which no byte is another's: each text that is shown stays so, the new one is shown, and what is
+-- read stands in its lines.
+use Rattle.std.proofs.Common.{◌≡◌, ⊎_elim, ℕ, ◌+◌, ◌-◌, ◌*◌, ◌/◌, ◌%◌, ◌<◌, ◌≤◌, max, Bool, true, false, cond, List, [], ◌∷◌, length, map, get_or, set}
+use Rattle.std.{proofs.Common.{refl, ap, sym, ◌∙◌, subst, inl, inr, arith}, specs.Prelude.{◌⊎◌, ◌&&◌, All, IfSome, nat_lt}}
+use Rattle.std.proofs.lemmas.{Bool.{cases_lt, eq-eqb}, Option.{IfSome_then}, List.Elements.{All-head, All-tail, All-push, All-map, All-contains, All-weaker}}
 use Rattle.zr_kinds.specs.declared.place.Place.{Place}
-use Rattle.area_layout.specs.Layout.{Shape, IsLayout, size_of, area_words}
-use Rattle.board_face.specs.{Lists.{without}, Tokens.{same_filling}, AppEvents.{begin_place}, AppCalls.{HasSpare}, Counts.{pool_count}, Fillings.{IsFilledByOne}}
-use Rattle.board_face.specs.{Places.{places_of, ends_behind}, Sides.{IsApp}, declared.views.parts.{Setting.{Setting}, Filling.{Filling}, Making.{Making}}}
-use Rattle.board_face.{specs.declared.views.{nic.NicSide.{NicSide}, app.{SpareOwn.{SpareOwn}, AppSide.{AppSide}}}, proofs.ListLemmas.{eqb_same, same_filling-is}}
-use Rattle.board_face.proofs.{Tallies.{weight, tally}, Parts.{making_in, pool_count-parts, count-tally}, PlaceTallies.{in_buffer}, PlacesByEvent.{places-app}}
-use Rattle.board_face.proofs.{ArePlacedLemmas.{less_spare, spare-free, places-none}, SideLemmas.{IsApp-at}}
-use Rattle.board_face.proofs.{StoresAtLemmas.{texts_with, HasNoText, HasNoText-making, HasNoText-behind}, AreShownLemmas.{AreShown-stored_at}}
-use Rattle.ref_words.specs.{Area.{area_word, byte_in}, Sides.{SidesRule}, TextRule.{IsInMaking, IsOfSpare, HasTexts, AreTexts}}
-use Rattle.ref_words.proofs.{AreaWords.{same-word, within-area, stores-word}, SpareTaking.{own-none}}
-
--- ---- the words of a text in the making
-
-module _ (layout : Shape) (area : List ℕ) (good : IsLayout layout) (many : length area ≡ area_words layout) where
-  -- where a word k of it lies
-  abbrev at : Making → ℕ → ℕ
-  at making k = area_word layout making.place.buffer (making.place.offset + 8 * k)
-
-  -- a text in another buffer
-  pub other-stands : (making : Making) (b o n : ℕ) → making.place.buffer ≢ b → o < size_of layout b → IsInMaking layout area making
-      → IsInMaking layout (set area (area_word layout b o) n) making
-  other-stands making b o n other inside is = record {
-    lies = is.lies;
-    aligned = is.aligned;
-    more = is.more;
-    stand = λ k less.
-        let small = is.lies.bytes in
-        let more = is.more in
-        let there : making.place.offset + 8 * k < size_of layout making.place.buffer = omega arith in
-        get_or-set_other area (area_word layout b o) (at making k) n 0 (λ e. other (same-word layout good b o making.place.buffer _ inside there e).0)
-        ∙ is.stand k less;
-  }
-
-  module _ (making : Making) (n : ℕ) (is : IsInMaking layout area making) where
-    abbrev next : ℕ
-    next = at making (length making.words)
-
-    inside : making.place.offset + 8 * length making.words < size_of layout making.place.buffer
-    inside = let small = is.lies.bytes in let more = is.more in omega arith
-
-    stays-there : (k : ℕ) → k < length making.words → get_or (set area next n) (at making k) 0 ≡ get_or making.words k 0
-    stays-there k less =
-        let small = is.lies.bytes in
-        let more = is.more in
-        let aligned = is.aligned in
-        let there : making.place.offset + 8 * k < size_of layout making.place.buffer = omega arith in
-        get_or-set_other area next (at making k) n 0 (λ e.
-        let same = (same-word layout good making.place.buffer (making.place.offset + 8 * length making.words) making.place.buffer _ inside there e).1 in
-        omega (arith, same))
-        ∙ is.stand k less
-
-    -- what was stored before stays
-    pub still-stands : IsInMaking layout (set area next n) making
-    still-stands = record { lies = is.lies; aligned = is.aligned; more = is.more; stand = stays-there }
-
-    -- and the next word is there
-    pub stands-more : (k : ℕ) → k < length making.words + 1 → get_or (set area next n) (at making k) 0 ≡ get_or (making.words ++ n ∷ []) k 0
-    stands-more k less =
-        ⊎_elim
-        (λ before. stays-there k before ∙ sym (get_or_append_left making.words (n ∷ []) 0 k before))
-        (λ past.
-        let e : k ≡ length making.words = omega arith in
-        let there = within-area layout good making.place.buffer _ is.lies.buffer inside in
-        ap (λ j. get_or (set area next n) (at making j) 0) e
-        ∙ (get_or-set_same area next n 0 (omega (arith, there, many))
-        ∙ (sym (get_or-append_seam making.words n [] 0) ∙ ap (λ j. get_or (making.words ++ n ∷ []) j 0) (sym e))))
-        (cases_lt k (length making.words))
-
-    pub one-more : 8 * (length making.words + 1) < making.place.len
-        → IsInMaking layout (set area next n) (record { place = making.place; words = making.words ++ n ∷ [] })
-    one-more more = record {
-      lies = is.lies;
-      aligned = is.aligned;
-      more = let longer = length_push making.words n in omega (arith, more, longer);
-      stand = λ k less. let longer = length_push making.words n in stands-more k (omega (arith, less, longer));
-    }
+use Rattle.area_layout.{specs.Layout.{Shape, LiesIn, total, size_of}, proofs.Words.{words_apart}}
+use Rattle.board_face.specs.{FineSteps.{side_text_done}, Lists.{without}, Tokens.{next_place, filled_by, same_filling}, AppEvents.{begin_place, filled, owns_without}}
+use Rattle.board_face.specs.{AppCalls.{HasSpare, HasLoan}, Counts.{pool_count}, Fillings.{IsFilledByOne}, Places.{places_of, ends_behind, has_byte}}
+use Rattle.board_face.specs.{Sides.{IsApp, app_at}, declared.views.{parts.{Setting.{Setting}, Filling.{Filling}, Making.{Making}}, nic.NicSide.{NicSide}}}
+use Rattle.board_face.{specs.declared.views.app.{SpareOwn.{SpareOwn}, AppSide.{AppSide}}, proofs.ListLemmas.{same_filling-is, All-without}}
+use Rattle.board_face.proofs.{Tallies.{weight, tally}, Parts.{count-tally}, PlaceTallies.{in_buffer, app_places}}
+use Rattle.board_face.proofs.{ApartLemmas.{has-weight}, LiesLemmas.{total-at, loans-at}, PlacesByEvent.{places-app}, SideLemmas.{IsApp-at}}
+use Rattle.board_face.proofs.{ArePlacedLemmas.{less_spare, spare-free, places-none}, StoresAtLemmas.{HasNoText, HasNoText-making, HasNoText-behind}}
+use Rattle.board_face.proofs.{AreShownLemmas.{AreShown-stored_at, AreShown-text_done}, TextsByEvent.{AppIsShown-filled}}
+use Rattle.ref_words.specs.{Words.{Words}, Lines.{joined, first_line, line_at, byte_in, begin_line, lines_of, laid, HaveText}, Rule.{RefRule}, Sides.{SidesRule}}
+use Rattle.ref_words.specs.{AreaSteps.{at_hand, side_at_hand, side_spare_filled}, TextRule.{IsAtHand, IsInMaking, IsOfSpare, IsOfLoan, HasTexts, AreTexts}}
+use Rattle.ref_words.proofs.{AreaLines.{size-lines, lines_apart}, LaidLines.{lines_of-laid, stores-lines, shown-lines}, TextsByApp.{AreTexts-app, AppIsShown-inside}}
 
 -- ---- whose a buffer is
 
@@ -105,176 +42,198 @@ unfilled-tally b test own begin (s ∷ owns) all =
         omega (arith, ap (λ bs. weight (nat_lt 0 (length bs) && in_buffer b test (begin_place s.own.buffer (length bs)))) empty)
     first false e rest = omega (arith, rest)
 
-module _ (nic : NicSide) (apps : List AppSide) (a : ℕ) (app : AppSide) (own : Filling) (here : IsApp apps a app) (out : HasSpare app.view own)
-    (by_one : IsFilledByOne own.buffer nic apps) where
-  -- without it nobody has a spare's buffer
-  alone : pool_count own.buffer nic (set apps a (less_spare app own)) ≡ 0
-  alone = spare-free own.buffer nic apps a app own here out by_one refl
+-- no text lies in the buffer of a spare of which nothing is used
+HasNoText-unfilled : (nic : NicSide) (apps : List AppSide) (a : ℕ) (app : AppSide) (own : Filling) (len : ℕ) → IsApp apps a app
+    → HasSpare app.view own → IsFilledByOne own.buffer nic apps → own.start ≡ 0 → All (λ (s : SpareOwn). s.own.start ≡ 0 → s.bytes ≡ []) app.view.owns
+    → HasNoText nic apps (begin_place own.buffer len)
+HasNoText-unfilled nic apps a app own len here out by_one begin unfilled =
+    let b = own.buffer in
+    let less = less_spare app own in
+    HasNoText-behind nic apps (begin_place b len) (omega (
+      arith,
+      places-none b (ends_behind 0) nic (set apps a less) (spare-free b nic apps a app own here out by_one refl),
+      count-tally (ends_behind 0) (places_of b nic (set apps a less)),
+      count-tally (ends_behind 0) (places_of b nic apps),
+      places-app b (ends_behind 0) nic apps a app less here,
+      unfilled-tally b (ends_behind 0) own begin app.view.owns unfilled,
+    ))
 
-  -- no text lies in the buffer of a spare of which nothing is used
-  pub HasNoText-unfilled : (len : ℕ) → own.start ≡ 0 → All (λ (s : SpareOwn). s.own.start ≡ 0 → s.bytes ≡ []) app.view.owns
-      → HasNoText nic apps (begin_place own.buffer len)
-  HasNoText-unfilled len begin unfilled =
-      let b = own.buffer in
-      let less = less_spare app own in
-      HasNoText-behind nic apps (begin_place b len) (omega (
-        arith,
-        places-none b (ends_behind 0) nic (set apps a less) alone,
-        count-tally (ends_behind 0) (places_of b nic (set apps a less)),
-        count-tally (ends_behind 0) (places_of b nic apps),
-        places-app b (ends_behind 0) nic apps a app less here,
-        unfilled-tally b (ends_behind 0) own begin app.view.owns unfilled,
-      ))
+-- ---- the texts, with the lines of a place in which no text lies
 
-  -- the piece in the making lies in another buffer
-  pub apart-piece : (making : Making) → nic.inside.making ≡ Some making → making.place.buffer ≢ own.buffer
-  apart-piece making busy e =
-      let b = making.place.buffer in
-      let made : making_in b nic ≡ 1 = rw busy (omega (arith, ap weight (eqb_same b))) in
-      let free : pool_count b nic (set apps a (less_spare app own)) ≡ 0 =
-      subst (λ n. pool_count n nic (set apps a (less_spare app own)) ≡ 0) (sym e) alone in
-      omega (arith, free, made, pool_count-parts b nic (set apps a (less_spare app own)))
-
-  -- and so does the spare of another application
-  pub apart-spare : (k : ℕ) (x : AppSide) (other : Filling) → k ≢ a → IsApp apps k x → HasSpare x.view other → other.buffer ≢ own.buffer
-  apart-spare k x other ne is there =
-      let less = less_spare app own in
-      let still : IsApp (set apps a less) k x = record {
-        there = omega (arith, is.there, length-set apps a less);
-        is = get_or-set_other apps a k less x ne ∙ is.is;
-        number = is.number;
-      } in
-      let none = own-none own.buffer nic (set apps a less) k x still alone in
-      All-contains (λ (o : Filling). o.buffer ≢ own.buffer) (map (λ (s : SpareOwn). s.own) x.view.owns) other
-      (All-map (λ (o : Filling). o.buffer ≢ own.buffer) (λ (s : SpareOwn). s.own) x.view.owns none.spares) there
-
--- ---- the texts, with the new word
-
--- what is read within a list doesn't depend on what stands for nothing
-default-is : (apps : List AppSide) (a : ℕ) (d app : AppSide) → a < length apps → get_or apps a app ≡ app → get_or apps a d ≡ app
-default-is [] a d app less is = absurd (omega arith)
-default-is (x ∷ apps) zero d app less is = is
-default-is (x ∷ apps) (suc a) d app less is = default-is apps a d app (omega arith) is
-
-module _ (setting : Setting) (area : List ℕ) (nic : NicSide) (apps : List AppSide) (sides : SidesRule setting nic apps) (good : IsLayout setting.layout)
-    (many : length area ≡ area_words setting.layout) (texts : AreTexts setting.layout area nic apps) where
+module _ (setting : Setting) (words : Words) (nic : NicSide) (apps : List AppSide) (refs : RefRule setting words nic apps)
+    (texts : AreTexts setting.layout words.area nic apps) where
   abbrev layout : Shape
   layout = setting.layout
 
-  -- an application of the list, by its place there
-  listed : (k : ℕ) (d : AppSide) → k < length apps → IsApp apps k (get_or apps k d)
-  listed k d small = IsApp-at apps k d sides.set.numbers small
+  module _ (p : Place) (lines : List (List ℕ)) (aligned : p.offset % 64 ≡ 0) (whole : p.len ≡ 64 * length lines) (few : p.buffer < total layout)
+      (within : p.offset + p.len ≤ size_of layout p.buffer) (none : HasNoText nic apps p) where
+    abbrev now : List (List ℕ)
+    now = laid words.area (begin_line layout p) lines
 
-  -- a word of a buffer that this application isn't filling
-  HasTexts-other : (b o n : ℕ) (app : AppSide) → o < size_of layout b
-      → ((making : Making) → app.inside.making ≡ Some making → IsOfSpare app making → making.place.buffer ≢ b) → HasTexts layout area nic app
-      → HasTexts layout (set area (area_word layout b o) n) nic app
-  HasTexts-other b o n app inside other has = record {
-    making = by app.inside.making refl has.making;
-    unfilled = has.unfilled;
-    reads = has.reads;
-  }
-    where
-      by : (m : Option Making) → app.inside.making ≡ m → IfSome m (λ making. IsInMaking layout area making × IsOfSpare app making)
-          → IfSome m (λ making. IsInMaking layout (set area (area_word layout b o) n) making × IsOfSpare app making)
-      by None e is = tt
-      by (Some making) e is = (other-stands layout area good many making b o n (other making e is.1) inside is.0, is.1)
+    -- no loan has a byte of the place
+    no-loan : (k : ℕ) (app : AppSide) (loan : Place) → IsApp apps k app → HasLoan app.view loan → loan.buffer ≡ p.buffer → (x : ℕ)
+        → p.offset ≤ x → x < p.offset + p.len → loan.offset ≤ x → x < loan.offset + loan.len → ⊥
+    no-loan k app loan here out same x from inside begins ends =
+        let test = in_buffer p.buffer (has_byte x) in
+        let one : weight (test loan) ≡ weight (has_byte x loan) = ap (λ c. weight (c && has_byte x loan)) (eq-eqb loan.buffer p.buffer same) in
+        let all = none x from inside in
+        omega (
+          arith,
+          all,
+          one,
+          has-weight x loan begins ends,
+          loans-at app.view.loans loan test out,
+          total-at (app_places p.buffer (has_byte x) nic) apps k app here.there here.is,
+        )
 
-  -- the next word of the card's piece is stored
-  module _ (making : Making) (n : ℕ) (busy : nic.inside.making ≡ Some making) where
-    pub made-is : IsInMaking layout area making
-    made-is = subst (λ m. IfSome m (IsInMaking layout area)) busy texts.making
+    -- what is read of a loan stands in its lines
+    still-read : (k : ℕ) (app : AppSide) (making : Making) → IsApp apps k app → IsAtHand layout making → IsOfLoan layout words.area app making
+        → lines_of layout now making.place ≡ lines_of layout words.area making.place
+    still-read k app making here hand is =
+        let q = making.place in
+        let some = hand.some in
+        let fits = hand.lies.bytes in
+        let begins = is.from in
+        let ends = is.within in
+        lines_of-laid layout words.area (begin_line layout p) lines q (λ j from until.
+        ⊎_elim
+        (λ (before : j < begin_line layout p). inl before)
+        (λ past.
+        ⊎_elim
+        (λ (inside : j < begin_line layout p + length lines).
+        -- a byte of it in this line, and one of the place
+        let x : ℕ = max q.offset (64 * (j - first_line layout q.buffer)) in
+        let y : ℕ = p.offset + 64 * (j - begin_line layout p) in
+        let there : x < q.offset + q.len = omega (arith, some, until, from) in
+        let at : line_at layout q.buffer x ≡ j = omega (arith, from) in
+        let at' : line_at layout p.buffer y ≡ j = omega (arith, past, aligned) in
+        let both = lines_apart layout refs.layout q.buffer p.buffer x y hand.lies.buffer few (omega (arith, there, fits))
+        (omega (arith, inside, past, whole, within)) (at ∙ sym at') in
+        let line : x / 64 ≡ y / 64 = both.1 in
+        absurd (no-loan k app is.loan here is.out (sym is.buffer ∙ both.0) x (omega (arith, line, aligned, past))
+        (omega (arith, line, aligned, past, inside, whole)) (omega (arith, begins)) (omega (arith, ends, there))))
+        (λ behind. inr behind)
+        (cases_lt j (begin_line layout p + length lines)))
+        (cases_lt j (begin_line layout p)))
 
-    abbrev o : ℕ
-    o = making.place.offset + 8 * length making.words
-
-    abbrev area' : List ℕ
-    area' = set area (area_word layout making.place.buffer o) n
-
-    room : o < size_of layout making.place.buffer
-    room = let small = made-is.lies.bytes in let more = made-is.more in omega arith
-
-    pub texts-piece : AreTexts layout area' nic apps
-    texts-piece =
-        let p = making.place in
-        let aligned = made-is.aligned in
-        record {
-          shown = AreShown-stored_at (byte_in layout area) (byte_in layout area') nic apps (record { buffer = p.buffer; offset = o; len = 8 })
-              (stores-word layout area good p.buffer o n (omega arith) room)
-              (λ x from to. ⊎_elim
-              (λ (within : x < p.offset + p.len). HasNoText-making nic apps making busy (texts.shown.places p.buffer) x (omega arith) within)
-              (λ (past : p.offset + p.len ≤ x). HasNoText-behind nic apps (record { buffer = p.buffer; offset = p.offset + p.len; len = 8 })
-              (sides.made.last making busy) x past (let more = made-is.more in omega arith))
-              (cases_lt x (p.offset + p.len)))
-              texts.shown;
-          making = subst (λ m. IfSome m (IsInMaking layout area')) (sym busy) (still-stands layout area good many making n made-is);
-          others = λ k d small.
-              let app = get_or apps k d in
-              HasTexts-other p.buffer o n app room (λ it e of. λ same.
-              apart-piece nic apps k app of.own (listed k d small) of.out (sides.by_one of.own.buffer) making busy
-              (sym same ∙ ap (λ (q : Place). q.buffer) of.place))
-              (texts.others k d small);
-        }
-
-  -- the next word of a spare is stored
-  module _ (a : ℕ) (app : AppSide) (own : Filling) (here : IsApp apps a app) (out : HasSpare app.view own) (begin : own.start ≡ 0)
-      (making : Making) (n : ℕ) (place : making.place ≡ begin_place own.buffer making.place.len) (is : IsInMaking layout area making)
-      (so_far : IfSome app.inside.making (λ m. m ≡ making)) where
-    abbrev so : ℕ
-    so = making.place.offset + 8 * length making.words
-
-    abbrev area'' : List ℕ
-    area'' = set area (area_word layout making.place.buffer so) n
-
-    at-buffer : making.place.buffer ≡ own.buffer
-    at-buffer = ap (λ (q : Place). q.buffer) place
-
-    at-begin : making.place.offset ≡ 0
-    at-begin = ap (λ (q : Place). q.offset) place
-
-    roomy : so < size_of layout making.place.buffer
-    roomy = let small = is.lies.bytes in let more = is.more in omega arith
-
-    mine-has : HasTexts layout area nic app
-    mine-has = subst (HasTexts layout area nic) here.is (texts.others a app here.there)
-
-    kept : HasTexts layout area'' nic app
-    kept = record {
-      making = by app.inside.making so_far mine-has.making;
-      unfilled = mine-has.unfilled;
-      reads = mine-has.reads;
+    HasTexts-laid : (k : ℕ) (app : AppSide) → IsApp apps k app → HasTexts layout words.area nic app → HasTexts layout now nic app
+    HasTexts-laid k app here has = record {
+      making = IfSome_then app.inside.making has.making (λ making is. (is.0, of making is.0 is.1));
+      unfilled = has.unfilled;
+      reads = has.reads;
     }
       where
-        by : (m : Option Making) → IfSome m (λ it. it ≡ making) → IfSome m (λ it. IsInMaking layout area it × IsOfSpare app it)
-            → IfSome m (λ it. IsInMaking layout area'' it × IsOfSpare app it)
-        by None e has = tt
-        by (Some it) e has = (subst (IsInMaking layout area'') (sym e) (still-stands layout area good many making n is), has.1)
+        of : (making : Making) → IsAtHand layout making → IsOfSpare app making ⊎ IsOfLoan layout words.area app making
+            → IsOfSpare app making ⊎ IsOfLoan layout now app making
+        of making hand (inl spare) = inl spare
+        of making hand (inr is) = inr (record {
+          loan = is.loan;
+          out = is.out;
+          buffer = is.buffer;
+          from = is.from;
+          within = is.within;
+          stand = ap joined (still-read k app making here hand is) ∙ is.stand;
+        })
 
-    pub texts-spare : AreTexts layout area'' nic apps
-    texts-spare =
-        let b = making.place.buffer in
+    AreTexts-laid : AreTexts layout now nic apps
+    AreTexts-laid = record {
+      shown = AreShown-stored_at (byte_in layout words.area) (byte_in layout now) nic apps p
+          (stores-lines layout words.area refs.layout p lines aligned whole within) none texts.shown;
+      making = texts.making;
+      others = λ k d small. HasTexts-laid k (get_or apps k d) (IsApp-at apps k d refs.sides.set.numbers small) (texts.others k d small);
+    }
+
+  -- ---- the card
+
+  -- the piece in the making is the last of its buffer, and shares no byte with others
+  pub placed : (own : Filling) (bytes : List ℕ) (lines : List (List ℕ)) → nic.inside.making ≡ at_hand (next_place own (length bytes)) []
+      → HaveText lines bytes
+      → AreTexts layout (laid words.area (begin_line layout (next_place own (length bytes))) lines) (side_text_done nic own bytes) apps
+  placed own bytes lines busy have =
+      let p = next_place own (length bytes) in
+      let it : Making = record { place = p; bytes = [] } in
+      let is : IsInMaking layout it = subst (λ m. IfSome m (IsInMaking layout)) busy texts.making in
+      let aligned = is.aligned in
+      let fits = is.hand.lies.bytes in
+      let many = have.many in
+      let area = laid words.area (begin_line layout p) lines in
+      let stored : Place = record { buffer = own.buffer; offset = own.start; len = 64 * length lines } in
+      let none : HasNoText nic apps stored = λ x from to.
+      ⊎_elim
+      (λ (inside : x < p.offset + p.len). HasNoText-making nic apps it busy (texts.shown.places own.buffer) x from inside)
+      (λ (past : p.offset + p.len ≤ x). HasNoText-behind nic apps (record { buffer = own.buffer; offset = p.offset + p.len; len = 64 * length lines })
+      (refs.sides.made.last it busy) x past (omega (arith, to)))
+      (cases_lt x (p.offset + p.len)) in
+      let was = AreTexts-laid stored lines aligned refl is.hand.lies.buffer
+      (omega (arith, aligned, fits, many, size-lines layout own.buffer refs.layout)) none in
+      let new = shown-lines layout words.area refs.layout refs.sizes.area p is.hand.lies aligned lines bytes refl have in
+      record {
+        shown = AreShown-text_done (byte_in layout area) nic apps own bytes it busy refl new was.shown;
+        making = tt;
+        others = All-weaker (HasTexts layout area nic) (HasTexts layout area (side_text_done nic own bytes)) (λ app has. assumption has) apps was.others;
+      }
+
+  -- ---- an application
+
+  module _ (a : ℕ) (app : AppSide) (own : Filling) (len : ℕ) (here : IsApp apps a app) (out : HasSpare app.view own) (few : len ≤ 256) where
+    mine : HasTexts layout words.area nic app
+    mine = subst (HasTexts layout words.area nic) here.is (texts.others a app here.there)
+
+    -- the text of a spare lies in the area
+    lies : LiesIn layout (begin_place own.buffer len)
+    lies =
+        let by_one = refs.sides.by_one own.buffer in
+        let spares = subst (λ (x : AppSide). All (λ (s : SpareOwn). s.own.buffer ≡ own.buffer → pool_count own.buffer nic apps ≡ 1) x.view.owns) here.is
+        (by_one.alone a app here.there) in
+        let held : pool_count own.buffer nic apps ≡ 1 =
+        All-contains (λ (o : Filling). o.buffer ≡ own.buffer → pool_count own.buffer nic apps ≡ 1) (map (λ (s : SpareOwn). s.own) app.view.owns) own
+        (All-map (λ (o : Filling). o.buffer ≡ own.buffer → pool_count own.buffer nic apps ≡ 1) (λ (s : SpareOwn). s.own) app.view.owns
+        spares) out refl in
+        let layouts : total nic.view.setting.layout ≡ total layout = ap (λ (s : Setting). total s.layout) refs.sides.set.card in
         record {
-          shown = AreShown-stored_at (byte_in layout area) (byte_in layout area'') nic apps (record { buffer = b; offset = so; len = 8 })
-              (stores-word layout area good b so n (omega (arith, at-begin)) roomy)
-              (λ x from to. subst (λ c. texts_with c x nic apps ≡ 0) (sym at-buffer)
-              (HasNoText-unfilled nic apps a app own here out (sides.by_one own.buffer) (so + 8) begin mine-has.unfilled x (omega arith) (omega (arith, to))))
-              texts.shown;
-          making = by nic.inside.making refl texts.making;
-          others = λ k d small.
-              let x = get_or apps k d in
-              let there = listed k d small in
-              ⊎_elim
-              (λ t. let e : k ≡ a = t.1 in
-              let same : x ≡ app = sym there.is ∙ (ap (λ j. get_or apps j x) e ∙ default-is apps a x app here.there here.is) in
-              subst (HasTexts layout area'' nic) (sym same) kept)
-              (λ t. HasTexts-other b so n x roomy (λ it e of. λ same.
-              apart-spare nic apps a app own here out (sides.by_one own.buffer) k x of.own t.1 there of.out
-              (sym (ap (λ (q : Place). q.buffer) of.place) ∙ (same ∙ at-buffer)))
-              (texts.others k d small))
-              (eqb_tells k a);
+          buffer = ⊎_elim (λ within. omega (arith, within, layouts)) (λ past. absurd (omega (arith, by_one.inside past, held)))
+              (cases_lt own.buffer (total nic.view.setting.layout));
+          bytes = let least = ((words_apart layout refs.layout).size own.buffer).least in omega arith;
         }
-      where
-        by : (m : Option Making) → nic.inside.making ≡ m → IfSome m (IsInMaking layout area) → IfSome m (IsInMaking layout area'')
-        by None e has = tt
-        by (Some it) e has = other-stands layout area good many it making.place.buffer so n
-            (λ same. apart-piece nic apps a app own here out (sides.by_one own.buffer) it e (same ∙ at-buffer)) roomy has
+
+  pub taken : (a : ℕ) (app : AppSide) (own : Filling) (len : ℕ) → IsApp apps a app → HasSpare app.view own → own.start ≡ 0 → 0 < len → len ≤ 256
+      → SidesRule setting nic (set apps a (side_at_hand app (at_hand (begin_place own.buffer len) [])))
+      → AreTexts layout words.area nic (set apps a (side_at_hand app (at_hand (begin_place own.buffer len) [])))
+  taken a app own len here out begin some few sides =
+      let now = side_at_hand app (at_hand (begin_place own.buffer len) []) in
+      AreTexts-app setting words.area nic apps a app now here sides (AppIsShown-inside (byte_in layout words.area) nic app now.inside (λ b. omega arith))
+      (λ has. record {
+        making = (
+          record { lies = lies a app own len here out few; some = some },
+          inl (record { own = own; out = out; begin = begin; place = refl; unknown = refl }),
+        );
+        unfilled = has.unfilled;
+        reads = has.reads;
+      }) texts
+
+  -- nothing else lies in a spare's buffer
+  pub fills : (a : ℕ) (app : AppSide) (own : Filling) (bytes : List ℕ) (lines : List (List ℕ)) → IsApp apps a app → HasSpare app.view own
+      → own.start ≡ 0 → 0 < length bytes → length bytes ≤ 256 → HaveText lines bytes → SidesRule setting nic (set apps a (side_spare_filled app own bytes))
+      → AreTexts layout (laid words.area (begin_line layout (begin_place own.buffer (length bytes))) lines) nic (set apps a (side_spare_filled app own bytes))
+  fills a app own bytes lines here out begin some few have sides =
+      let p = begin_place own.buffer (length bytes) in
+      let in_area = lies a app own (length bytes) here out few in
+      let least = ((words_apart layout refs.layout).size own.buffer).least in
+      let many = have.many in
+      let none = HasNoText-unfilled nic apps a app own (64 * length lines) here out (refs.sides.by_one own.buffer) begin
+      (mine a app own (length bytes) here out few).unfilled in
+      let area = laid words.area (begin_line layout p) lines in
+      let was = AreTexts-laid (begin_place own.buffer (64 * length lines)) lines refl refl in_area.buffer (omega (arith, many, few, least)) none in
+      let new = shown-lines layout words.area refs.layout refs.sizes.area p in_area refl lines bytes refl have in
+      let now = side_spare_filled app own bytes in
+      let one : SpareOwn = record { own = filled_by own (length bytes); bytes = bytes } in
+      AreTexts-app setting area nic apps a app now here sides
+      (λ shown. AppIsShown-inside (byte_in layout area) nic (app_at app (filled app.view own bytes)) now.inside (λ b. omega arith)
+      (AppIsShown-filled (byte_in layout area) nic app own bytes new shown))
+      (λ has. record {
+        making = tt;
+        unfilled = All-push (λ (s : SpareOwn). s.own.start ≡ 0 → s.bytes ≡ []) (owns_without app.view own) one
+            (All-without (λ (s : SpareOwn). s.own.start ≡ 0 → s.bytes ≡ []) (λ s. same_filling own s.own) app.view.owns has.unfilled)
+            (λ e. absurd (omega (arith, e)));
+        reads = has.reads;
+      }) was

@@ -10,7 +10,7 @@ use Rattle.board_face.proofs.{MadeLastLemmas.{IsMadeLast-app}, Parts.{app_count,
 use Rattle.ref_words.specs.{Words.{Words, listed_in, with_refill}, Rings.{AreRings, EntryFits, IsLastRaw, words_of_entry, writes_entry_at}}
 use Rattle.ref_words.{specs.{Sides.{IsFirst, IsFirstRaw, IsDealtInOrder}, Rule.{RefRule}}, proofs.RingSteps.{AllRings, rings-others}}
 use Rattle.ref_words.proofs.{SlotWords.{ring-here, ring-other, differ-refill}, SlotSteps.{DifferInSlots, RefRule-slot}, SideSteps.{SidesRule-app, own-was, is-app}}
-use Rattle.ref_words.proofs.Frees.{AreKept-app, free_places-hands}
+use Rattle.ref_words.proofs.{Frees.{AreKept-app, free_places-hands}, LineLemmas.{AreByLine-app}}
 use Rattle.ref_words.proofs.Ringing as ringing
 
 pub take-mapped : {A B : Type 0} (f : A → B) (n : ℕ) (xs : List A) (x : A) → n ≤ length xs → take n (map f (xs ++ x ∷ [])) ≡ take n (map f xs)
@@ -136,6 +136,7 @@ module _ (setting : Setting) (words : Words) (nic : NicSide) (apps : List AppSid
         (RefRule-slot setting words words' nic nic apps apps' rule differ (record {
           sides = SidesRule-app setting nic apps a app rule.sides here like (record {
             placed = λ b. ArePlaced-app b nic apps a app like here (is.places b) (rule.sides.placed b);
+            lines = λ b. AreByLine-app b nic apps a app like here refl (is.places b) (rule.sides.lines b);
             by_one = λ b. IsFilledByOne-app b nic apps a app like here (omega arith) (omega (arith, is.counts b)) (rule.sides.by_one b);
             fit = FillingsFit-same nic apps a app like here refl rule.sides.fit;
             made = IsMadeLast-app nic apps a app like here is.places rule.sides.made;

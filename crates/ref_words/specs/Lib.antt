@@ -1,3 +1,4 @@
+pub mod Lines
 pub mod Words
 pub mod Seated
 pub mod Sides
@@ -7,6 +8,7 @@ pub mod AreaSteps
 pub mod TextRule
 pub mod PhaseRule
 pub mod Rule
+pub mod Homes
 pub mod Laws
 pub mod PhaseSteps
 pub mod FreeSteps

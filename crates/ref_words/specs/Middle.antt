@@ -24,7 +24,7 @@ pub record IsInhabited : Type 0 where
   pub layout : IsLayout small.layout
   pub may : MayRun small (opened_state small) steps
   pub keeps : Keeps small middle
-  pub card : middle.nic.inside.making ≡ Some (record { place = record { buffer = 0; offset = 0; len = 5 }; words = [] })
+  pub card : middle.nic.inside.making ≡ Some (record { place = record { buffer = 0; offset = 0; len = 5 }; bytes = [] })
   pub count : pool_of middle.words 0 ≡ 2
   pub first : (side_at small middle.apps 0).inside.end_unseen ≡ true
   pub second : (side_at small middle.apps 1).inside.free_slots ≡ 0 ∷ []

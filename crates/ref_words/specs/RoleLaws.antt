@@ -1,13 +1,14 @@
 -- The laws of the steps of each role: for all words and sides that meet the rule, and each step that the role may make, what it
--- finds, and that the words and sides behind it meet the rule again.
-use Rattle.std.specs.Prelude.{◌≡◌, ◌+◌, ◌^◌, ◌%◌, ◌<◌, ◌≤◌, ◌++◌, true, false, List, length, slice_index, slice_set}
+-- finds, that the lines which it takes are at home, and that the words and sides behind it meet the rule again.
+use Rattle.std.specs.Prelude.{◌≡◌, ◌+◌, ◌^◌, ◌<◌, ◌≤◌, true, false, List, slice_index, slice_set}
 use Rattle.area_layout.specs.Layout.{pool_buffers}
-use Rattle.board_face.specs.{NicCalls.{HasNothingIn}, AppCalls.{HasNoneIn, ShowsCopy, TookNote}, AppEvents.{loan_origin, reserve_of}, Sides.{IsApp}}
+use Rattle.board_face.specs.{NicCalls.{HasNothingIn}, AppCalls.{HasNoneIn, ShowsCopy, TookNote}, Sides.{IsApp}, Tokens.{next_place}}
+use Rattle.board_face.specs.AppEvents.{begin_place, loan_origin, reserve_of}
 use Rattle.board_face.specs.{Texts.{IsLinearNote}, SlotSteps.{side_took_note}, declared.views.{parts.Setting.{Setting}, nic.NicSide.{NicSide}, app.AppSide.{AppSide}}}
-use Rattle.ref_words.specs.{Words.{Words, pool_of, user_of, listed_in, free_of}, Rings.{loaded_note}, Area.{area_word}, AreaSteps.{part_of}}
-use Rattle.ref_words.specs.{FreeSteps.{IsSwept}, Rule.{BoardRule}, Runs.{CardStep, CardMay, card_words, card_after, AppStep, AppMay, app_words, app_after}}
+use Rattle.ref_words.specs.{Words.{Words, pool_of, user_of, listed_in, free_of}, Rings.{loaded_note}, Lines.{text_in, lines_of}, AreaSteps.{part_of}}
+use Rattle.ref_words.specs.{FreeSteps.{IsSwept}, Rule.{BoardRule}, Homes.{AreHome}, Runs.{CardStep, CardMay, card_words, card_after, AppStep, AppMay, app_words, app_after}}
 use Rattle.ref_words.specs.Runs.{takes, begins, shuts, lowers_pool, lowers_user, sweeps, lists, takes_picked, takes_reserve, cuts, releases, lowers_scrubbed}
-use Rattle.ref_words.specs.Runs.{lends, lends_spare, takes_note, takes_linear, clears_bit, relists, looks_end, loads_text}
+use Rattle.ref_words.specs.Runs.{lends, lends_spare, takes_note, takes_linear, clears_bit, relists, looks_end, takes_lines, reads_text, gives_lines}
 
 -- What the card finds: a buffer that it takes has no holder and nothing of the card's, no count wraps, what is taken from a count is
 -- there, and a buffer that is listed wasn't before.
@@ -21,8 +22,14 @@ FoundByCard setting words nic (sweeps j) = IsSwept nic j (free_of words j)
 FoundByCard setting words nic (lists b) = listed_in words b ≡ false
 FoundByCard setting words nic _ = Unit {0}
 
+-- the lines that the card takes by a step are at home
+abbrev pub CardTakes : Setting → NicSide → List AppSide → CardStep → Type 0
+CardTakes setting nic apps (begins own n) = AreHome setting nic apps (next_place own n)
+CardTakes setting nic apps _ = Unit {0}
+
 pub record CardStands (setting : Setting) (words : Words) (nic : NicSide) (apps : List AppSide) (step : CardStep) : Type 0 where
   pub finds : FoundByCard setting words nic step
+  pub lines : CardTakes setting nic apps step
   pub rule : BoardRule setting (card_words setting words nic step) (card_after setting words nic step) apps
 
 abbrev pub CardLaw : Type 0
@@ -31,7 +38,8 @@ CardLaw =
     → BoardRule setting words nic apps → CardMay setting words nic step → CardStands setting words nic apps step
 
 -- What an application finds: of counts and the free list the same. A note that it takes is split, and its piece lies where nothing of
--- the application's lay, or it has its bytes; once the card's end was seen it is seen again; and what is read of a copied text is the copy.
+-- the application's lay, or it has its bytes; once the card's end was seen it is seen again; what is read of a copied text is the copy, and
+-- lines that were read stand in the area as they are given back.
 abbrev pub FoundByApp : Setting → Words → AppSide → AppStep → Type 0
 FoundByApp setting words app (takes_picked b) = HasNoneIn app.view b × (pool_of words b ≡ 0)
 FoundByApp setting words app takes_reserve = HasNoneIn app.view (reserve_of app.view) × (pool_of words (reserve_of app.view) ≡ 0)
@@ -45,14 +53,19 @@ FoundByApp setting words app takes_linear = IsLinearNote (loaded_note app)
 FoundByApp setting words app (clears_bit b) = listed_in words b ≡ true → b < pool_buffers setting.layout
 FoundByApp setting words app (relists b) = listed_in words b ≡ false
 FoundByApp setting words app looks_end = app.inside.end_seen ≡ true → slice_index words.phases 0 ≡ 1
-FoundByApp setting words app (loads_text place from reads so_far more) =
-    ShowsCopy (loan_origin app.view place) from (so_far
-    ++ part_of (slice_index words.area (area_word setting.layout place.buffer (place.offset + (from + length so_far))))
-    ((place.offset + (from + length so_far)) % 8) more)
+FoundByApp setting words app (reads_text place from n) =
+    ShowsCopy (loan_origin app.view place) from (text_in (part_of place from n) (lines_of setting.layout words.area (part_of place from n)))
+FoundByApp setting words app (gives_lines place lines) = lines_of setting.layout words.area place ≡ lines
 FoundByApp setting words app _ = Unit {0}
+
+abbrev pub AppTakes : Setting → NicSide → List AppSide → AppStep → Type 0
+AppTakes setting nic apps (takes_lines own len) = AreHome setting nic apps (begin_place own.buffer len)
+AppTakes setting nic apps (reads_text place from n) = AreHome setting nic apps (part_of place from n)
+AppTakes setting nic apps _ = Unit {0}
 
 pub record AppStands (setting : Setting) (words : Words) (nic : NicSide) (apps : List AppSide) (app : AppSide) (step : AppStep) : Type 0 where
   pub finds : FoundByApp setting words app step
+  pub lines : AppTakes setting nic apps step
   pub rule : BoardRule setting (app_words setting words app step) nic (slice_set apps app.view.app (app_after setting words app step))
 
 abbrev pub AppLaw : Type 0

@@ -1,12 +1,12 @@
 -- Runs of a board: what stands between two steps, the steps as plain data, and what holds after any list of them.
-use Rattle.std.specs.Prelude.{◌≡◌, ◌≢◌, ◌≤◌, ◌<◌, ◌+◌, ◌-◌, ◌*◌, ◌/◌, ◌%◌, ◌∷◌, ◌++◌, [], ℕ, true, false, List, ◌==◌, Contains}
+use Rattle.std.specs.Prelude.{◌≡◌, ◌≢◌, ◌≤◌, ◌<◌, ◌+◌, ◌-◌, ◌/◌, ◌∷◌, ◌++◌, [], ℕ, true, false, List, ◌==◌, Contains}
 use Rattle.std.specs.Prelude.{None, Some, All, length, slice_index, slice_index_or, slice_set}
 use mathlib.Core.Option.{some}
 use lib.ListN.{get_elem?}
 use Rattle.zr_kinds.specs.declared.{place.{Place.{Place}, Note.{Note}}, ring.Rqe.{Rqe}}
 use Rattle.area_layout.specs.Layout.{area_of_buffer, IsLayout, total, judged}
-use Rattle.board_face.specs.{NicEvents.{took, text_at, word_bits}, NicCalls.{HasOwn, HasPiece, HasNoToken, IsOpen, apps_of, free_words_of}}
-use Rattle.board_face.specs.AppEvents.{cut, lent, lent_own, reserve_of, begin_place, loan_origin, reads_with, entry_of as loan_entry}
+use Rattle.board_face.specs.{FineSteps.{side_text_done}, NicEvents.{took, text_at, word_bits}, NicCalls.{HasOwn, HasPiece, HasNoToken, IsOpen, apps_of, free_words_of}}
+use Rattle.board_face.specs.AppEvents.{cut, lent, lent_own, reserve_of, begin_place, entry_of as loan_entry}
 use Rattle.board_face.specs.{AppCalls.{IsHere, HasHeld, HasLoan, HasSpare, IsFilled, CanLend, CanLeave, MaySpare, NamesNoLoan}, Counts.{pool_count, user_count}}
 use Rattle.board_face.specs.{FreeOnce.{AreFreeOnce}, Holders.{sent_to}, Shown.{AreShown}, Relay.{IsAsSent}, Opened.{new_nic, new_app, new_apps}, Sides.{nic_at, app_at}}
 use Rattle.board_face.specs.Steps.{side_begun, side_shut, side_judged, side_user_lowered, side_both_lowered}
@@ -14,17 +14,17 @@ use Rattle.board_face.specs.Steps.{HasSearched, side_released, side_spare_begun,
 use Rattle.board_face.specs.SlotSteps.{next_slot, side_refill_looked, side_refill_stored, side_note_looked, side_note_stored}
 use Rattle.board_face.specs.SlotSteps.{side_entry_looked, side_entry_loaded, side_in_hand, side_slot_looked, side_slot_loaded}
 use Rattle.board_face.specs.SlotSteps.{side_gave, side_pushed, side_dealt, side_sent, side_sent_linear, side_took_note, side_took_linear}
-use Rattle.board_face.specs.{Texts.{IsSplitNote, IsLinearNote, further}, Tokens.{filled_by, next_place}, Used.{PicksAreGiven}, declared.views.parts.Setting.{Setting}}
-use Rattle.board_face.specs.declared.views.{parts.Filling.{Filling}, nic.Fate.TheVariants.{Honoured, Stray}, app.{Reading.{Reading}, AppSide.{AppSide}}}
+use Rattle.board_face.specs.{Texts.{IsSplitNote, IsLinearNote}, Tokens.{filled_by, next_place}, Used.{PicksAreGiven}, declared.views.parts.Setting.{Setting}}
+use Rattle.board_face.specs.declared.views.{parts.Filling.{Filling}, nic.Fate.TheVariants.{Honoured, Stray}, app.AppSide.{AppSide}}
 use Rattle.board_face.specs.declared.views.nic.{Judged.TheVariants.{Not, Stray as judged_stray, Owed, UserLowered, BothLowered}, NicSide.{NicSide}}
 use Rattle.word_rings.specs.Slots.{note_width, refill_width, entry_of, entry_body, note_body}
 use Rattle.ref_words.specs.{declared.view.View.{View}, Words.{Words, opened_words, with_role, with_pool, pool_of, with_user, user_of, listed_in}}
 use Rattle.ref_words.specs.Words.{free_of, with_free, with_listed, with_unlisted, slot_word, with_refill, with_note}
 use Rattle.ref_words.specs.Seated.{Seated, times_in, due_view, card_view, app_view, dealt_out, both_sides, no_role, side_at}
 use Rattle.ref_words.specs.Rings.{EntryFits, NoteFits, note_so_far, writes_entry_at, takes_entry_at, writes_note_at, takes_note_at}
-use Rattle.ref_words.specs.{Rings.{refill_words_at, note_words_at, loaded_note, loaded_bytes, note_loads}, Area.{area_word, byte_in, with_area}}
-use Rattle.ref_words.specs.AreaSteps.{made_words, side_piece_stored, side_piece_placed, side_spare_stored, side_spare_filled, side_loaded}
-use Rattle.ref_words.specs.AreaSteps.{IsMadeAt, IsMadeThere, IsLastWord, next_word, part_of}
+use Rattle.ref_words.specs.{Rings.{refill_words_at, note_words_at, loaded_note, loaded_bytes, note_loads}, Area.{with_lines}}
+use Rattle.ref_words.specs.Lines.{joined, byte_in, begin_line, line_count, lines_of, HaveText}
+use Rattle.ref_words.specs.AreaSteps.{at_hand, part_of, side_at_hand, side_spare_filled, side_read}
 use Rattle.ref_words.specs.FreeSteps.{side_swept, side_nic_listed, side_app_listed, side_word_looked, side_bit_cleared}
 use Rattle.ref_words.specs.{RestSteps.{side_raw_looked, side_any_looked, side_last_looked}, PhaseRule.{with_phase}}
 use Rattle.ref_words.specs.PhaseSteps.{side_ended, side_leave_looked, side_left, side_end_looked, side_note_sought, side_reserve_looked, side_abandoned}
@@ -60,9 +60,8 @@ pub data CardStep : Type 0 where
   -- at the phase words: it ends, or looks whether an application has left
   ends : CardStep
   looks_left : ℕ → CardStep
-  -- at the area: the next word of the piece in the making is stored, or the last one
-  stores_piece : Place → ℕ → CardStep
-  places_piece : Filling → List ℕ → ℕ → CardStep
+  -- at the area: the lines of the piece in the making, which were taken when it was begun, are given back with its text
+  places_piece : Filling → List ℕ → List (List ℕ) → CardStep
 
 -- what the card must know for it, and for the numbers that it stores
 abbrev pub CardMay : Setting → Words → NicSide → CardStep → Type 0
@@ -103,11 +102,8 @@ CardMay setting words nic (sweeps j) = (j < free_words_of setting) × (length ni
 CardMay setting words nic (lists b) = Contains nic.inside.hands b
 CardMay setting words nic ends = HasNoToken nic.view × (nic.inside.making ≡ None)
 CardMay setting words nic (looks_left a) = a < apps_of setting
-CardMay setting words nic (stores_piece place n) =
-    IsMadeAt nic.inside.making place × (8 * (length (made_words nic.inside.making) + 1) < place.len)
-CardMay setting words nic (places_piece own bytes n) =
-    HasOwn nic.view (filled_by own (length bytes)) × IsMadeAt nic.inside.making (next_place own (length bytes)) × IsLastWord nic.inside.making n bytes
-    × All (λ byte. byte < 256) bytes
+CardMay setting words nic (places_piece own bytes lines) =
+    HasOwn nic.view (filled_by own (length bytes)) × (nic.inside.making ≡ at_hand (next_place own (length bytes)) []) × HaveText lines bytes
 
 -- the words after it
 abbrev pub card_words : Setting → Words → NicSide → CardStep → Words
@@ -131,9 +127,7 @@ card_words setting words nic (sweeps j) = with_free words j 0
 card_words setting words nic (lists b) = with_listed words b
 card_words setting words nic ends = with_phase words 0
 card_words setting words nic (looks_left a) = words
-card_words setting words nic (stores_piece place n) = with_area words (next_word setting.layout nic.inside.making place) n
-card_words setting words nic (places_piece own bytes n) =
-    with_area words (next_word setting.layout nic.inside.making (next_place own (length bytes))) n
+card_words setting words nic (places_piece own bytes lines) = with_lines words (begin_line setting.layout (next_place own (length bytes))) lines
 
 -- and the card's side
 abbrev pub card_after : Setting → Words → NicSide → CardStep → NicSide
@@ -158,8 +152,7 @@ card_after setting words nic (sweeps j) = side_swept nic j (free_of words j)
 card_after setting words nic (lists b) = side_nic_listed nic b
 card_after setting words nic ends = side_ended nic
 card_after setting words nic (looks_left a) = side_leave_looked nic a (slice_index words.phases (1 + a) == 1)
-card_after setting words nic (stores_piece place n) = side_piece_stored nic place n
-card_after setting words nic (places_piece own bytes n) = side_piece_placed nic own bytes
+card_after setting words nic (places_piece own bytes lines) = side_text_done nic own bytes
 
 -- ---- a step of an application
 
@@ -200,11 +193,12 @@ pub data AppStep : Type 0 where
   -- at the pool count of its reserve, which is loaded, or a loan is abandoned
   looks_reserve : AppStep
   abandons : Place → AppStep
-  -- at the area: the next word of a spare's text is stored, or the last one; or a word is loaded for a read from a loan's byte on, of
-  -- which some bytes were read before
-  stores_spare : Filling → ℕ → ℕ → AppStep
-  fills_spare : Filling → List ℕ → ℕ → AppStep
-  loads_text : Place → ℕ → List Reading → List ℕ → ℕ → AppStep
+  -- at the area: the lines of so many bytes of a spare are taken, and given back with a text; or those of a loan are taken, of which so many
+  -- bytes are read from one on, and these lines are given back
+  takes_lines : Filling → ℕ → AppStep
+  fills_spare : Filling → List ℕ → List (List ℕ) → AppStep
+  reads_text : Place → ℕ → ℕ → AppStep
+  gives_lines : Place → List (List ℕ) → AppStep
 
 -- what the application must know for it, and for the numbers that it stores
 abbrev pub AppMay : Setting → Words → AppSide → AppStep → Type 0
@@ -221,7 +215,7 @@ AppMay setting words app looks_refill = Unit {0}
 AppMay setting words app (stores_entry n) = (app.inside.refill_slot.seen ≡ true) × (1 + length app.inside.refill_slot.words < refill_width)
 AppMay setting words app (gives place) =
     HasLoan app.view place × (app.inside.refill_slot.seen ≡ true) × (app.inside.refill_slot.words ≡ entry_body (loan_entry app.view.setting.layout place))
-    × EntryFits (record { entry = loan_entry app.view.setting.layout place; of_loan = true })
+    × EntryFits (record { entry = loan_entry app.view.setting.layout place; of_loan = true }) × (app.inside.making ≡ None)
 AppMay setting words app (pushes entry) =
     NamesNoLoan app.view entry × (app.view.scrubbed ≡ false) × (app.inside.scrub_mark ≡ 0) × (app.inside.refill_slot.seen ≡ true)
     × (app.inside.refill_slot.words ≡ entry_body entry) × EntryFits (record { entry = entry; of_loan = false })
@@ -241,16 +235,16 @@ AppMay setting words app leaves = CanLeave app.view
 AppMay setting words app looks_end = Unit {0}
 AppMay setting words app seeks_note = Unit {0}
 AppMay setting words app looks_reserve = HasSearched app
-AppMay setting words app (abandons place) = HasLoan app.view place
-AppMay setting words app (stores_spare own len n) =
-    HasSpare app.view own × (own.start ≡ 0) × (len ≤ 256) × IsMadeThere app.inside.making (begin_place own.buffer len)
-    × (8 * (length (made_words app.inside.making) + 1) < len)
-AppMay setting words app (fills_spare own bytes n) =
+AppMay setting words app (abandons place) = HasLoan app.view place × (app.inside.making ≡ None)
+AppMay setting words app (takes_lines own len) =
+    HasSpare app.view own × (own.start ≡ 0) × (0 < len) × (len ≤ 256) × (app.inside.making ≡ None)
+AppMay setting words app (fills_spare own bytes lines) =
     HasSpare app.view own × (own.start ≡ 0) × (0 < length bytes) × (length bytes ≤ 256)
-    × IsMadeThere app.inside.making (begin_place own.buffer (length bytes)) × IsLastWord app.inside.making n bytes × All (λ byte. byte < 256) bytes
-AppMay setting words app (loads_text place from reads so_far more) =
-    HasLoan app.view place × (app.view.reads ≡ reads_with reads (further (loan_origin app.view place) from) so_far)
-    × (from + length so_far + more ≤ place.len) × ((place.offset + (from + length so_far)) % 8 + more ≤ 8)
+    × (app.inside.making ≡ at_hand (begin_place own.buffer (length bytes)) []) × HaveText lines bytes
+AppMay setting words app (reads_text place from n) =
+    HasLoan app.view place × (0 < n) × (from + n ≤ place.len) × (app.inside.making ≡ None)
+AppMay setting words app (gives_lines place lines) =
+    (app.inside.making ≡ at_hand place (joined lines)) × (0 < length lines) × (length lines ≡ line_count place) × All (λ line. length line ≡ 64) lines
 
 -- the words after it
 abbrev pub app_words : Setting → Words → AppSide → AppStep → Words
@@ -282,10 +276,10 @@ app_words setting words app looks_end = words
 app_words setting words app seeks_note = words
 app_words setting words app looks_reserve = words
 app_words setting words app (abandons place) = words
-app_words setting words app (stores_spare own len n) = with_area words (next_word setting.layout app.inside.making (begin_place own.buffer len)) n
-app_words setting words app (fills_spare own bytes n) =
-    with_area words (next_word setting.layout app.inside.making (begin_place own.buffer (length bytes))) n
-app_words setting words app (loads_text place from reads so_far more) = words
+app_words setting words app (takes_lines own len) = words
+app_words setting words app (fills_spare own bytes lines) = with_lines words (begin_line setting.layout (begin_place own.buffer (length bytes))) lines
+app_words setting words app (reads_text place from n) = words
+app_words setting words app (gives_lines place lines) = words
 
 -- and the application's side
 abbrev pub app_after : Setting → Words → AppSide → AppStep → AppSide
@@ -318,12 +312,10 @@ app_after setting words app looks_end = side_end_looked app (slice_index words.p
 app_after setting words app seeks_note = side_note_sought app (slot_word words.notes app.view.app (takes_note_at setting app) 0 == 1)
 app_after setting words app looks_reserve = side_reserve_looked app (pool_of words (reserve_of app.view) == 0)
 app_after setting words app (abandons place) = side_abandoned app place
-app_after setting words app (stores_spare own len n) = side_spare_stored app (begin_place own.buffer len) n
-app_after setting words app (fills_spare own bytes n) = side_spare_filled app own bytes
-app_after setting words app (loads_text place from reads so_far more) =
-    side_loaded app place from (length so_far)
-    (part_of (slice_index words.area (area_word setting.layout place.buffer (place.offset + (from + length so_far))))
-    ((place.offset + (from + length so_far)) % 8) more)
+app_after setting words app (takes_lines own len) = side_at_hand app (at_hand (begin_place own.buffer len) [])
+app_after setting words app (fills_spare own bytes lines) = side_spare_filled app own bytes
+app_after setting words app (reads_text place from n) = side_read app place from n (lines_of setting.layout words.area (part_of place from n))
+app_after setting words app (gives_lines place lines) = side_at_hand app None
 
 -- ---- any step
 

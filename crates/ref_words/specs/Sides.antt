@@ -1,14 +1,14 @@
 -- What holds of the sides of all roles between any two steps, whatever the words are.
-use Rattle.std.specs.Prelude.{◌≡◌, ℕ, ◌<◌, ◌≤◌, true, false, List, [], ◌∷◌, length, map, take, All, Option, Some, None, slice_index}
-use Rattle.zr_kinds.specs.declared.ring.Rqe.{Rqe}
+use Rattle.std.specs.{Prelude.{◌≡◌, ℕ, ◌<◌, ◌≤◌, ◌⊎◌, ◌++◌, true, false, List, [], ◌∷◌, length, map, take, count_by, All, Option, Some, None, slice_index}, List.{flat_map}}
+use Rattle.zr_kinds.specs.declared.{place.Place.{Place}, ring.Rqe.{Rqe}}
 use Rattle.area_layout.specs.Layout.{total, judged}
-use Rattle.board_face.specs.{NicCalls.{apps_of}, AppEvents.{reserve_of}, Counts.{pool_count, EndedWereReturned}, Places.{ArePlaced, IsMadeLast}}
+use Rattle.board_face.specs.{NicCalls.{apps_of}, AppEvents.{reserve_of}, Counts.{pool_count, EndedWereReturned}, Places.{ArePlaced, IsMadeLast, places_of, filled_places, kind_place}}
 use Rattle.board_face.specs.{Fillings.{IsFilledByOne, FillingsFit}, Used.{HasFewPicks}, Relay.{dealt_entries, as_taken, IsProper}, Returns.{AreReturns, entries_on_way}}
-use Rattle.board_face.specs.{Sides.{AreNumbered, IsApp}, Judged.{IsHonouredAsNamed}, Holders.{ended_in, returned_in, owed_in, sent_to}}
+use Rattle.board_face.specs.{Sides.{AreNumbered, IsApp}, Judged.{IsHonouredAsNamed}, Holders.{app_holders, ended_in, returned_in, owed_in, sent_to}}
 use Rattle.board_face.specs.declared.views.{parts.Setting.{Setting}, nic.{EntryInHand.{EntryInHand}, Judged.{Judged}}}
 use Rattle.board_face.specs.declared.views.{nic.{Judged.TheVariants.{Not, Stray, Owed, UserLowered, BothLowered}, NicSide.{NicSide}}, app.WrittenEntry.{WrittenEntry}}
 use Rattle.board_face.specs.declared.views.app.AppSide.{AppSide}
-use Rattle.ref_words.specs.Rings.{EntryFits, NoteFits}
+use Rattle.ref_words.specs.{Lines.{touches}, Rings.{EntryFits, NoteFits}}
 
 -- all sides are of one board
 pub record AreOf (setting : Setting) (nic : NicSide) (apps : List AppSide) : Type 0 where
@@ -16,6 +16,22 @@ pub record AreOf (setting : Setting) (nic : NicSide) (apps : List AppSide) : Typ
   pub many : length apps ≡ apps_of setting
   pub numbers : AreNumbered 0 apps
   pub others : All (λ app. app.view.setting ≡ setting) apps
+
+-- where an application's holdings in a buffer lie
+abbrev pub app_places_of : ℕ → NicSide → AppSide → List Place
+app_places_of b nic app = flat_map kind_place (app_holders b nic app) ++ filled_places b app
+
+-- all that lies in this line of a buffer is one application's
+pub record IsOneApps (b x : ℕ) (nic : NicSide) (apps : List AppSide) : Type 0 where
+  pub a : ℕ
+  pub app : AppSide
+  pub here : IsApp apps a app
+  pub all : count_by (touches x) (app_places_of b nic app) ≡ count_by (touches x) (places_of b nic apps)
+
+-- A line has bytes of one place at most, or all that lies in it is one application's: a piece begins with a line, and the parts of what is
+-- cut stay with the application.
+abbrev pub AreByLine : ℕ → NicSide → List AppSide → Type 0
+AreByLine b nic apps = (x : ℕ) → (count_by (touches x) (places_of b nic apps) ≤ 1) ⊎ IsOneApps b x nic apps
 
 -- what a scrub takes and owes is told for each buffer
 pub record HasScrubLists (setting : Setting) (app : AppSide) : Type 0 where
@@ -96,6 +112,8 @@ pub record SidesRule (setting : Setting) (nic : NicSide) (apps : List AppSide) :
   pub by_one : (b : ℕ) → IsFilledByOne b nic apps
   pub fit : FillingsFit nic apps
   pub made : IsMadeLast nic apps
+  -- nor do those of two applications share a line
+  pub lines : (b : ℕ) → AreByLine b nic apps
   -- no more was honoured or scrubbed than was given back or abandoned
   pub returned : (b : ℕ) → All (EndedWereReturned b nic) apps
   -- reserves, and picks from the free list

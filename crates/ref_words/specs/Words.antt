@@ -1,10 +1,11 @@
--- The words of a board that threads share, group by group, and how they lie in one table. Counts, bits and slots are those of
--- docs/BOARDS.md; each group is a list, so that a store in one group leaves the others as they are.
+-- The words of a board that threads share, group by group, and how they lie in one table, whose slots are the lines of the area. Counts,
+-- bits and slots of rings are those of docs/BOARDS.md; each group is a list, so that a store in one leaves the others as they are.
 use Rattle.std.specs.Prelude.{◌≡◌, ℕ, zero, suc, ◌+◌, ◌-◌, ◌*◌, ◌/◌, ◌%◌, ◌^◌, ◌<◌, ◌≤◌, Bool, List, [], ◌∷◌, ◌++◌, length, min, replicate, slice_index}
 use Rattle.std.specs.{Prelude.{slice_index_or, slice_set, ◌==◌, All, bit_and, bit_or}, List.{flat_map}, Int.{bit_at, bit_not, w64}}
-use Rattle.area_layout.specs.Layout.{IsLayout, pool_buffers, total, area_words}
+use Rattle.area_layout.specs.Layout.{IsLayout, pool_buffers, total}
 use Rattle.word_rings.specs.Slots.{note_width, refill_width}
 use Rattle.board_face.specs.{NicCalls.{apps_of, free_words_of}, NicEvents.{word_bits}, declared.views.parts.Setting.{Setting}}
+use Rattle.ref_words.specs.Lines.{joined, area_lines}
 
 pub record Words : Type 0 where
   -- 1 where a role was taken: the card's, then the applications'
@@ -17,20 +18,17 @@ pub record Words : Type 0 where
   pub users : List (List ℕ)
   -- the free list, a bit for each pool buffer
   pub free : List ℕ
-  -- the area, 8 bytes to a word
-  pub area : List ℕ
+  -- the lines of the area, in slots of their own
+  pub area : List (List ℕ)
   -- the note slots and the refill slots of each application, each slot a list of words
   pub notes : List (List (List ℕ))
   pub refills : List (List (List ℕ))
 
 -- ---- the table
 
-abbrev pub joined : List (List ℕ) → List ℕ
-joined rows = flat_map (λ row. row) rows
-
 -- the groups in their order
 abbrev pub groups : Words → List (List ℕ)
-groups w = w.roles ∷ w.phases ∷ w.pool ∷ joined w.users ∷ w.free ∷ w.area ∷ flat_map joined w.notes ∷ flat_map joined w.refills ∷ []
+groups w = w.roles ∷ w.phases ∷ w.pool ∷ joined w.users ∷ w.free ∷ flat_map joined w.notes ∷ flat_map joined w.refills ∷ []
 
 -- the table's words
 abbrev pub table_of : Words → List ℕ
@@ -46,7 +44,7 @@ roles_of setting = 1 + apps_of setting
 abbrev pub group_sizes : Setting → List ℕ
 group_sizes setting =
     roles_of setting ∷ roles_of setting ∷ total setting.layout ∷ apps_of setting * total setting.layout ∷ free_words_of setting
-    ∷ area_words setting.layout ∷ apps_of setting * (setting.places * note_width) ∷ apps_of setting * (setting.places * refill_width) ∷ []
+    ∷ apps_of setting * (setting.places * note_width) ∷ apps_of setting * (setting.places * refill_width) ∷ []
 
 -- how many the first ones have
 abbrev pub begins : List ℕ → ℕ → ℕ
@@ -59,7 +57,7 @@ abbrev pub begin_at : Setting → ℕ → ℕ
 begin_at setting group = begins (group_sizes setting) group
 
 abbrev pub table_words : Setting → ℕ
-table_words setting = begin_at setting 8
+table_words setting = begin_at setting 7
 
 -- the word of a role, of a role's phase, of a buffer's pool count, of an application's user count for a buffer,
 abbrev pub role_at : Setting → ℕ → ℕ
@@ -74,28 +72,24 @@ pool_at setting b = begin_at setting 2 + b
 abbrev pub user_at : Setting → ℕ → ℕ → ℕ
 user_at setting a b = begin_at setting 3 + (a * total setting.layout + b)
 
--- of the free list, of the area, and of a slot of an application's rings
+-- of the free list, and of a slot of an application's rings
 abbrev pub free_at : Setting → ℕ → ℕ
 free_at setting j = begin_at setting 4 + j
 
-abbrev pub area_at : Setting → ℕ → ℕ
-area_at setting x = begin_at setting 5 + x
-
 abbrev pub note_at : Setting → ℕ → ℕ → ℕ → ℕ
-note_at setting a s i = begin_at setting 6 + (a * (setting.places * note_width) + (s * note_width + i))
+note_at setting a s i = begin_at setting 5 + (a * (setting.places * note_width) + (s * note_width + i))
 
 abbrev pub refill_at : Setting → ℕ → ℕ → ℕ → ℕ
-refill_at setting a s i = begin_at setting 7 + (a * (setting.places * refill_width) + (s * refill_width + i))
+refill_at setting a s i = begin_at setting 6 + (a * (setting.places * refill_width) + (s * refill_width + i))
 
 -- what a word map keeps: where the groups begin behind the pool counts, and where the table ends
-pub record IsMap (setting : Setting) (users free area notes refills end : ℕ) : Type 0 where
+pub record IsMap (setting : Setting) (users free notes refills end : ℕ) : Type 0 where
   pub layout : IsLayout setting.layout
   pub places : (1 ≤ setting.places) × (setting.places ≤ 256)
   pub users_at : users ≡ begin_at setting 3
   pub free_at : free ≡ begin_at setting 4
-  pub area_at : area ≡ begin_at setting 5
-  pub notes_at : notes ≡ begin_at setting 6
-  pub refills_at : refills ≡ begin_at setting 7
+  pub notes_at : notes ≡ begin_at setting 5
+  pub refills_at : refills ≡ begin_at setting 6
   pub end_at : end ≡ table_words setting
   pub few : end < 2 ^ 32
 
@@ -119,7 +113,8 @@ pub record HasSizes (setting : Setting) (w : Words) : Type 0 where
   pub users : length w.users ≡ apps_of setting
   pub rows : All (λ row. length row ≡ total setting.layout) w.users
   pub free : length w.free ≡ free_words_of setting
-  pub area : length w.area ≡ area_words setting.layout
+  pub area : length w.area ≡ area_lines setting.layout
+  pub lines : All (λ line. length line ≡ 64) w.area
   pub notes : length w.notes ≡ apps_of setting
   pub note_slots : All (AreSlots setting.places note_width) w.notes
   pub refills : length w.refills ≡ apps_of setting
@@ -198,7 +193,7 @@ abbrev pub free_list : ℕ → ℕ → List ℕ
 free_list buffers zero = []
 free_list buffers (suc n) = free_list buffers n ++ free_word buffers n ∷ []
 
--- The words at the opening: each pool buffer is listed, and all else is 0.
+-- The words and the lines at the opening: each pool buffer is listed, and all else is 0.
 abbrev pub opened_words : Setting → Words
 opened_words setting = record {
   roles = replicate (roles_of setting) 0;
@@ -206,7 +201,7 @@ opened_words setting = record {
   pool = replicate (total setting.layout) 0;
   users = replicate (apps_of setting) (replicate (total setting.layout) 0);
   free = free_list (pool_buffers setting.layout) (free_words_of setting);
-  area = replicate (area_words setting.layout) 0;
+  area = replicate (area_lines setting.layout) (replicate 64 0);
   notes = replicate (apps_of setting) (replicate setting.places (replicate note_width 0));
   refills = replicate (apps_of setting) (replicate setting.places (replicate refill_width 0));
 }

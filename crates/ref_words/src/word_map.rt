@@ -1,7 +1,7 @@
-ghost use Rattle.std.specs.Prelude.{◌≡◌, ◌+◌, ◌<◌, ◌≤◌};
-ghost use Rattle.area_layout.specs.Layout.{IsLayout, total, area_words, size_of, first_word};
+ghost use Rattle.std.specs.Prelude.{◌≡◌, ◌+◌, ◌^◌, ◌<◌, ◌≤◌};
+ghost use Rattle.area_layout.specs.Layout.{IsLayout, total, size_of};
 ghost use Rattle.board_face.specs.NicCalls.{apps_of, free_words_of};
-ghost use Rattle.ref_words.specs.{Words.{roles_of, table_words, role_at, phase_at, pool_at, user_at, free_at, area_at, note_at, refill_at}, Area.{area_word}};
+ghost use Rattle.ref_words.specs.{Words.{roles_of, table_words, role_at, phase_at, pool_at, user_at, free_at, note_at, refill_at}, Lines.{area_lines, line_at}};
 ghost use Rattle.word_rings.specs.Slots.{note_width, refill_width};
 
 use area_layout::Layout;
@@ -11,15 +11,20 @@ use word_rings::{NOTE_WORDS, REFILL_WORDS};
 /// How many pool buffers a word of the free list tells of.
 const WORD_BITS: usize = 64;
 
-/// Where each word of a board lies in its table. The groups follow each other in the order of its calls; the first call's
-/// words begin at 0.
+/// How many bytes a line of the area has.
+const LINE_BYTES: u32 = 64;
+
+/// How many words of 8 bytes it would have.
+const LINE_WORDS: u64 = 8;
+
+/// Where each word of a board lies in its table, and each line of its area among the slots. The groups of words follow each
+/// other in the order of its calls; the first call's words begin at 0.
 #[derive(Debug, Drop)]
 pub struct WordMap {
     layout: Layout,
     places: u32,
     users: usize,
     free: usize,
-    area: usize,
     notes: usize,
     refills: usize,
     end: usize,
@@ -33,7 +38,7 @@ impl Model for WordMap {
 
     ghost view = { λ m. record { layout = m.layout; places = m.places } };
 
-    ghost invariant = { λ m. IsMap (record { layout = m.layout; places = m.places }) m.users m.free m.area m.notes m.refills m.end };
+    ghost invariant = { λ m. IsMap (record { layout = m.layout; places = m.places }) m.users m.free m.notes m.refills m.end };
 }
 
 impl WordMap {
@@ -48,8 +53,7 @@ impl WordMap {
         let apps = total - buffers;
         let users = 2 * (1 + apps) + total;
         let free = users + apps * total;
-        let area = free + (buffers + WORD_BITS - 1) / WORD_BITS;
-        let notes = area + layout.words() as usize;
+        let notes = free + (buffers + WORD_BITS - 1) / WORD_BITS;
         let refills = notes + apps * (places as usize * NOTE_WORDS);
         let end = refills + apps * (places as usize * REFILL_WORDS);
         WordMap {
@@ -57,7 +61,6 @@ impl WordMap {
             places,
             users,
             free,
-            area,
             notes,
             refills,
             end,
@@ -134,27 +137,6 @@ impl WordMap {
         self.free + word as usize
     }
 
-    /// A word of the area.
-    pub fn area(&self, word: u64) -> usize
-        requires { word < area_words self.now.layout }
-        ensures value { result ≡ area_at self.now word }
-        ensures within { result < table_words self.now }
-    {
-        self.area + word as usize
-    }
-
-    /// The word of the area that has a buffer's byte `further` bytes behind an offset; `first` is the buffer's first word.
-    pub fn text(&self, buffer: u32, first: u64, offset: u32, further: u32) -> usize
-        requires buffer { buffer < total self.now.layout }
-        requires first { first ≡ first_word self.now.layout buffer }
-        requires offset { offset + further < size_of self.now.layout buffer }
-        ensures value { result ≡ area_at self.now (area_word self.now.layout buffer (offset + further)) }
-        ensures within { result < table_words self.now }
-    {
-        let _ = buffer;
-        self.area + (first + u64::from(offset + further) / 8) as usize
-    }
-
     /// A word of a note slot of an application; word 0 is the flag.
     pub fn note(&self, app: u32, slot: u32, word: u32) -> usize
         requires app { app < apps_of self.now }
@@ -179,6 +161,24 @@ impl WordMap {
         self.refills
             + (app as usize * (self.places as usize * REFILL_WORDS)
                 + (slot as usize * REFILL_WORDS + word as usize))
+    }
+
+    /// How many lines the area has.
+    pub fn lines(&self) -> usize
+        ensures { result ≡ area_lines self.now.layout }
+    {
+        (self.layout.words() / LINE_WORDS) as usize
+    }
+
+    /// The line of the area that has a buffer's byte at an offset.
+    pub fn line(&self, buffer: u32, offset: u32) -> usize
+        requires buffer { buffer < total self.now.layout }
+        requires offset { offset < size_of self.now.layout buffer }
+        ensures value { result ≡ line_at self.now.layout buffer offset }
+        ensures within { result < area_lines self.now.layout }
+        ensures few { result < 2 ^ 32 }
+    {
+        (self.layout.first_word(buffer) / LINE_WORDS) as usize + (offset / LINE_BYTES) as usize
     }
 
     /// How many roles there are.

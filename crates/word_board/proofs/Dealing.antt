@@ -17,6 +17,7 @@ deals law setting r v fresh s board at = record {
   nic = board.nic;
   apps = board.apps;
   laid = board.laid;
+  lines = board.lines;
   seated = law setting board.words.roles s.views board.nic board.apps r v board.seated at fresh;
   rule = board.rule;
 }
@@ -28,6 +29,7 @@ together law setting id other v w none out s board at ne at' = record {
   nic = board.nic;
   apps = board.apps;
   laid = board.laid;
+  lines = board.lines;
   seated = law setting board.words.roles s.views board.nic board.apps id other v w board.seated at ne
       (sym (set_else s.views id other (both_sides v w) ne) ∙ at') none out;
   rule = board.rule;
@@ -37,9 +39,9 @@ together law setting id other v w none out s board at ne at' = record {
 pub takes : (setting : Setting) (slots id i r : ℕ) (w : View) → i ≡ role_at setting r → r < roles_of setting
     → ((words : Words) (views : List View) (nic : NicSide) (apps : List AppSide) → Seated setting words.roles views nic apps
     → BoardRule setting words nic apps → get_elem? views id ≡ some (due_view r) → TakesRole setting words (set views id w) nic apps r)
-    → (me : Me (Unit {0}) View) → me ≡ (due_view r, []) → Allows (IsBoard setting) slots id me i (λ _. 1) (λ n x. (x ≡ (w, me.1)) × (n ≡ 0))
+    → (me : Me (List ℕ) View) → me ≡ (due_view r, []) → Allows (IsBoard setting) slots id me i (λ _. 1) (λ n x. (x ≡ (w, me.1)) × (n ≡ 0))
 takes setting slots id i r w is small law me due =
-    subst (λ (x : Me (Unit {0}) View). Allows (IsBoard setting) slots id x i (λ _. 1) (λ n y. (y ≡ (w, x.1)) × (n ≡ 0))) (sym due)
+    subst (λ (x : Me (List ℕ) View). Allows (IsBoard setting) slots id x i (λ _. 1) (λ n y. (y ≡ (w, x.1)) × (n ≡ 0))) (sym due)
     (λ s board deep at few.
     let made = law board.words s.views board.nic board.apps board.seated board.rule at in
     let there : r < length board.words.roles = omega (arith, small, board.rule.refs.sizes.roles) in (
@@ -52,6 +54,7 @@ takes setting slots id i r w is small law me due =
         apps = board.apps;
         laid = ap (λ ws. set ws i 1) board.laid
             ∙ (ap (λ x. set (table_of board.words) x 1) is ∙ role-set setting board.words board.rule.refs.sizes r there);
+        lines = board.lines;
         seated = made.seated;
         rule = made.rule;
       },

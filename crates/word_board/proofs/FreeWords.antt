@@ -17,6 +17,7 @@ module _ (setting : Setting) (words : Words) (j i : ℕ) (at : i ≡ free_at set
     laid = ap (λ x. set (table_of words) x m) at ∙ (ap (λ x. set (table_of words) (free_at setting j) x) is
         ∙ free-set setting words rule.refs.sizes j n (omega (arith, within, rule.refs.sizes.free)));
     roles = refl;
+    area = refl;
     rule = after;
   }
 

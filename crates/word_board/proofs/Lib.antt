@@ -1,4 +1,8 @@
+mod Standing
+mod LinesOut
 mod Stepping
+mod Acts
+mod Taking
 mod Telling
 mod Implied
 mod LoansCounted
@@ -17,7 +21,6 @@ mod PhaseSteps
 mod FreeWords
 mod Quieting
 mod Searching
-mod TextPlaced
 mod LoansOut
 mod AppKept
 mod HeldPlaces

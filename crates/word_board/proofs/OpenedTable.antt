@@ -1,10 +1,14 @@
--- The words of a board that was just opened are zeros, the free list, and zeros.
-use Rattle.std.proofs.Common.{◌≡◌, ℕ, zero, suc, ◌+◌, ◌-◌, ◌*◌, ◌≤◌, List, [], ◌∷◌, ◌++◌, length, replicate, take, refl, ap, sym, ◌∙◌, arith, suc-mul, length-append}
-use Rattle.std.{specs.List.{flat_map}, proofs.lemmas.List.{append_assoc, append-nil, replicate-append-replicate, length-replicate, take_all}}
-use Rattle.area_layout.specs.Layout.{total, pool_buffers, area_words}
-use Rattle.board_face.specs.{NicCalls.{apps_of, free_words_of}, declared.views.parts.Setting.{Setting}}
-use Rattle.ref_words.specs.Words.{joined, table_of, opened_words, begin_at, table_words, free_list, free_word, roles_of}
+-- The words of a board that was just opened are zeros, the free list, and zeros, and each line is at home.
+use Rattle.std.proofs.Common.{◌≡◌, ℕ, zero, suc, ◌+◌, ◌-◌, ◌*◌, ◌≤◌, List, [], ◌∷◌, ◌++◌, length, map, replicate, take, get_or, refl, ap, sym, ◌∙◌, subst, arith, suc-mul, length-append}
+use Rattle.std.{specs.List.{flat_map}, proofs.lemmas.List.{append_assoc, append-nil, replicate-append-replicate, length-map, length-replicate, take_all, get_or_default}}
+use mathlib.Core.Option.{some}
+use Rattle.atomic_table.{specs.Table.{opening}, proofs.Lists.{at_index, at_map}}
+use Rattle.area_layout.specs.Layout.{total, pool_buffers}
+use Rattle.board_face.specs.{NicCalls.{apps_of, free_words_of}, Opened.{new_nic, new_apps}, declared.views.{parts.Setting.{Setting}, nic.NicSide.{NicSide}, app.AppSide.{AppSide}}}
+use Rattle.ref_words.specs.{Lines.{joined}, Homes.{StandInSlots}, Laws.{IsOpened}, Seated.{no_role}}
+use Rattle.ref_words.specs.Words.{table_of, opened_words, begin_at, table_words, free_list, free_word, roles_of}
 use Rattle.word_rings.specs.Slots.{note_width, refill_width}
+use Rattle.word_board.specs.Board.{IsBoard}
 
 zeros : ℕ → List ℕ
 zeros n = replicate n 0
@@ -48,24 +52,44 @@ module _ (setting : Setting) where
       let r = roles_of setting in
       let t = total setting.layout in
       let u = apps_of setting * t in
-      let a = area_words setting.layout in
       let n = apps_of setting * (setting.places * note_width) in
       let x = apps_of setting * (setting.places * refill_width) in
       let frees = free_list (pool_buffers setting.layout) (free_words_of setting) in
-      let rest : table_words setting - begin_at setting 5 ≡ a + (n + x) = omega arith in
-      let back : ◌≡◌ {A = List ℕ} (replicate a 0 ++ (replicate n 0 ++ (replicate x 0 ++ []))) (replicate (a + (n + x)) 0) =
-      ap (λ zs. replicate a 0 ++ (replicate n 0 ++ zs)) (append-nil (replicate x 0))
-      ∙ (ap (λ zs. replicate a 0 ++ zs) (replicate-append-replicate n x 0) ∙ replicate-append-replicate a (n + x) 0) in
+      let rest : table_words setting - begin_at setting 5 ≡ n + x = omega arith in
+      let back : ◌≡◌ {A = List ℕ} (replicate n 0 ++ (replicate x 0 ++ [])) (replicate (n + x) 0) =
+      ap (λ zs. replicate n 0 ++ zs) (append-nil (replicate x 0)) ∙ replicate-append-replicate n x 0 in
       let begin : begin_at setting 4 ≡ r + (r + (t + u)) = omega arith in
-      let all = frees ++ replicate (a + (n + x)) 0 in
+      let all = frees ++ replicate (n + x) 0 in
       let before : replicate r 0 ++ (replicate r 0 ++ (replicate t 0 ++ (replicate u 0 ++ all))) ≡ replicate (r + (r + (t + u))) 0 ++ all =
       ap (λ zs. replicate r 0 ++ (replicate r 0 ++ zs)) (more-zeros t u all)
       ∙ (ap (λ zs. replicate r 0 ++ zs) (more-zeros r (t + u) all) ∙ more-zeros r (r + (t + u)) all) in
       rw (joined-zeros (apps_of setting) t, slots-zeros (apps_of setting) setting.places note_width, slots-zeros (apps_of setting) setting.places refill_width)
       (ap (λ k. front ++ replicate k 0) rest
-      ∙ (ap (λ k. (replicate k 0 ++ frees) ++ replicate (a + (n + x)) 0) begin
-      ∙ (append_assoc (replicate (r + (r + (t + u))) 0) frees (replicate (a + (n + x)) 0)
+      ∙ (ap (λ k. (replicate k 0 ++ frees) ++ replicate (n + x) 0) begin
+      ∙ (append_assoc (replicate (r + (r + (t + u))) 0) frees (replicate (n + x) 0)
       ∙ (sym before ∙ ap (λ zs. replicate r 0 ++ (replicate r 0 ++ (replicate t 0 ++ (replicate u 0 ++ (frees ++ zs))))) (sym back)))))
+
+-- ---- the lines
+
+all-home : (setting : Setting) (area : List (List ℕ)) (nic : NicSide) (apps : List AppSide) → StandInSlots setting area nic apps (map some area)
+all-home setting area nic apps = record {
+  many = length-map area some;
+  stand = λ k less home. let line = get_or area k [] in at_map some area k line (at_index area k line less (get_or_default area k [] line less));
+}
+
+pub opened-board : (setting : Setting) (words : List ℕ) (lines : List (List ℕ)) → IsOpened setting → words ≡ table_of (opened_words setting)
+    → lines ≡ (opened_words setting).area → IsBoard setting (opening words lines no_role)
+opened-board setting words lines opened laid stand =
+    let apps = new_apps setting 0 (apps_of setting) in record {
+      words = opened_words setting;
+      nic = new_nic setting;
+      apps = apps;
+      laid = laid;
+      lines = subst (λ xs. StandInSlots setting (opened_words setting).area (new_nic setting) apps (map some xs)) (sym stand)
+          (all-home setting (opened_words setting).area (new_nic setting) apps);
+      seated = opened.seated;
+      rule = opened.rule;
+    }
 
 -- ---- how the table is filled
 

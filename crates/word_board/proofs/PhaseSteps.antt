@@ -16,5 +16,6 @@ module _ (setting : Setting) (words : Words) (r x : ℕ) (at : x ≡ phase_at se
     words' = with_phase words r;
     laid = ap (λ y. set (table_of words) y 1) at ∙ phase-set setting words rule.refs.sizes r (omega (arith, few, rule.refs.sizes.phases));
     roles = refl;
+    area = refl;
     rule = after;
   }

@@ -13,8 +13,8 @@ use Rattle.ref_words.proofs.{Seating.{taken-at}, Laying.{pool-word, user-word}}
 use Rattle.word_board.specs.{Board.{IsBoard, card_of, first_nic}, Desk.{AreOver, AreOfBoard, AreServed, AllAreBack, HasNoHolders, HaveNoCounts}}
 
 -- A load that changes nothing tells what the rule says of each table under it.
-pub lesson : (setting : Setting) (slots id i : ℕ) (told : ℕ → Type 0) (me : Me (Unit {0}) View)
-    → ((s : State (Unit {0}) View) (board : IsBoard setting s) → get_elem? s.views id ≡ some me.0 → told (get_or s.words i 0))
+pub lesson : (setting : Setting) (slots id i : ℕ) (told : ℕ → Type 0) (me : Me (List ℕ) View)
+    → ((s : State (List ℕ) View) (board : IsBoard setting s) → get_elem? s.views id ≡ some me.0 → told (get_or s.words i 0))
     → Allows (IsBoard setting) slots id me i (λ n. n) (λ n w. (w ≡ (me.0, me.1)) × told n)
 lesson setting slots id i told me known s board deep at small = (
   me.0,
@@ -25,6 +25,7 @@ lesson setting slots id i told me known s board deep at small = (
     nic = board.nic;
     apps = board.apps;
     laid = set-get_or s.words i 0 ∙ board.laid;
+    lines = board.lines;
     seated = subst (λ views. Seated setting board.words.roles views board.nic board.apps) (sym (set_again s.views id me.0 at)) board.seated;
     rule = board.rule;
   },
@@ -53,7 +54,7 @@ flat-none f [] none = refl
 flat-none f (x ∷ xs) none =
     ap (λ ys. ys ++ flat_map f xs) (All-head (λ x. f x ≡ []) x xs none) ∙ flat-none f xs (All-tail (λ x. f x ≡ []) x xs none)
 
-module _ (law : OverLaw) (setting : Setting) (s : State (Unit {0}) View) (board : IsBoard setting s) (id : ℕ) (v : View)
+module _ (law : OverLaw) (setting : Setting) (s : State (List ℕ) View) (board : IsBoard setting s) (id : ℕ) (v : View)
     (at : get_elem? s.views id ≡ some v) (over : AreOver v) where
   -- a side at the desk is the role's
   card-there : (k : ℕ) (nic : NicSide) → get_elem? v.nics k ≡ some nic → nic ≡ board.nic

@@ -1,25 +1,24 @@
 -- What a law says of words and sides is what the table asks of a step.
-use Rattle.std.proofs.{Common.{◌≡◌, ℕ, ◌+◌, ◌-◌, ◌%◌, ◌^◌, ◌<◌, ◌≤◌, List, [], set, get_or, refl, ap, sym, ◌∙◌, arith, subst}, lemmas.List.{set-get_or, get_or_default}}
-use Rattle.std.specs.Prelude.{slice_index, All}
+use Rattle.std.proofs.{Common.{◌≡◌, ℕ, ◌+◌, ◌-◌, ◌%◌, ◌^◌, ◌<◌, ◌≤◌, List, [], set, get_or, refl, ap, sym, ◌∙◌, arith, subst}, lemmas.List.{set-get_or}}
 use Rattle.atomic_table.specs.{Table.{Me, keeps, Allows}, Seated.{TableId}}
-use Rattle.area_layout.specs.Layout.{total, area_words}
+use Rattle.area_layout.specs.Layout.{total}
 use Rattle.board_face.specs.{NicCalls.{apps_of}, Sides.{IsApp}, declared.views.{parts.Setting.{Setting}, nic.NicSide.{NicSide}, app.AppSide.{AppSide}}}
 use Rattle.ref_words.specs.{declared.view.View.{View}, Words.{Words, table_of, table_words, pool_at, pool_of, with_pool, user_at, user_of, with_user}}
-use Rattle.ref_words.specs.{Words.{note_at, with_note, refill_at, slot_word, with_refill, area_at}, Area.{with_area}, Seated.{Seated, card_view, app_view}}
-use Rattle.ref_words.{specs.Rule.{BoardRule}, proofs.Roles.{card-is, card-moves, app-is, app-moves}}
-use Rattle.ref_words.proofs.{Laying.{pool-word, pool-set, user-word, user-set, note-word, note-set, refill-word, refill-set}, LayingArea.{area-is, area-set}}
+use Rattle.ref_words.specs.{Words.{note_at, with_note, refill_at, slot_word, with_refill}, Seated.{Seated, card_view, app_view}}
+use Rattle.ref_words.{specs.{Homes.{StandInSlots}, Rule.{BoardRule}}, proofs.Roles.{card-is, card-moves, app-is, app-moves}}
+use Rattle.ref_words.proofs.Laying.{pool-word, pool-set, user-word, user-set, note-word, note-set, refill-word, refill-set}
 use Rattle.word_rings.specs.Slots.{note_width, refill_width}
-use Rattle.word_board.specs.{Board.{IsBoard, TheSeat, TheNic, TheApp}, Steps.{MakesWords, MayCard, MayApp, MayStep}}
+use Rattle.word_board.{specs.{Board.{IsBoard, TheSeat, TheNic, TheApp}, Steps.{MakesWords, MayApp, MayStep, word_in}}, proofs.Standing.{stand-card, stand-app}}
 
 module _ (setting : Setting) (slots id i : ℕ) (f : ℕ → ℕ) (told : ℕ → Type 0) where
   -- A step of the card's seat is allowed where its law holds for all words and applications.
-  pub card-step : (mine : NicSide) (next : ℕ → NicSide)
+  pub card-step : (mine : NicSide) (next : ℕ → NicSide) → ((n : ℕ) → (next n).inside.making ≡ mine.inside.making)
       → ((words : Words) (apps : List AppSide) → BoardRule setting words mine apps → get_or (table_of words) i 0 < 2 ^ 64
       → MakesWords setting words i (f (get_or (table_of words) i 0)) (next (get_or (table_of words) i 0)) apps × told (get_or (table_of words) i 0))
-      → (me : Me (Unit {0}) View) → me ≡ (card_view mine, [])
+      → (me : Me (List ℕ) View) → me ≡ (card_view mine, [])
       → Allows (IsBoard setting) slots id me i f (λ n w. (w ≡ (card_view (next n), me.1)) × told n)
-  card-step mine next law me sits =
-      subst (λ (x : Me (Unit {0}) View). Allows (IsBoard setting) slots id x i f (λ n w. (w ≡ (card_view (next n), x.1)) × told n)) (sym sits)
+  card-step mine next making law me sits =
+      subst (λ (x : Me (List ℕ) View). Allows (IsBoard setting) slots id x i f (λ n w. (w ≡ (card_view (next n), x.1)) × told n)) (sym sits)
       (λ s board deep at small.
       let is : mine ≡ board.nic = card-is setting board.words.roles s.views board.nic board.apps board.seated id mine at in
       let both = law board.words board.apps (subst (λ x. BoardRule setting board.words x board.apps) (sym is) board.rule) (subst
@@ -35,6 +34,8 @@ module _ (setting : Setting) (slots id i : ℕ) (f : ℕ → ℕ) (told : ℕ �
           nic = next n;
           apps = board.apps;
           laid = ap (λ ws. set ws i (f (get_or s.words i 0))) board.laid ∙ (ap (λ m. set (table_of board.words) i (f m)) (sym found) ∙ made.laid);
+          lines = stand-card setting made.words'.area board.nic (next n) board.apps s.homes (making n ∙ ap (λ x. x.inside.making) is)
+              (subst (λ area. StandInSlots setting area board.nic board.apps s.homes) (sym made.area) board.lines);
           seated = subst (λ roles. Seated setting roles (set s.views id (card_view (next n))) (next n) board.apps) (sym made.roles)
               (card-moves setting board.words.roles s.views board.nic board.apps board.seated id mine (next n) at);
           rule = subst (λ m. BoardRule setting made.words' (next m) board.apps) found made.rule;
@@ -44,14 +45,15 @@ module _ (setting : Setting) (slots id i : ℕ) (f : ℕ → ℕ) (told : ℕ �
 
   -- A step of an application's seat is allowed where its law holds for all words, cards and other applications.
   pub app-step : (mine : AppSide) (next : ℕ → AppSide) → ((n : ℕ) → (next n).view.app ≡ mine.view.app)
+      → ((n : ℕ) → (next n).inside.making ≡ mine.inside.making)
       → ((words : Words) (nic : NicSide) (apps : List AppSide) → BoardRule setting words nic apps → IsApp apps mine.view.app mine
       → get_or (table_of words) i 0 < 2 ^ 64
       → MakesWords setting words i (f (get_or (table_of words) i 0)) nic (set apps mine.view.app (next (get_or (table_of words) i 0))) × told (get_or
       (table_of words) i 0))
-      → (me : Me (Unit {0}) View) → me ≡ (app_view mine, [])
+      → (me : Me (List ℕ) View) → me ≡ (app_view mine, [])
       → Allows (IsBoard setting) slots id me i f (λ n w. (w ≡ (app_view (next n), me.1)) × told n)
-  app-step mine next number law me sits =
-      subst (λ (x : Me (Unit {0}) View). Allows (IsBoard setting) slots id x i f (λ n w. (w ≡ (app_view (next n), x.1)) × told n)) (sym sits)
+  app-step mine next number making law me sits =
+      subst (λ (x : Me (List ℕ) View). Allows (IsBoard setting) slots id x i f (λ n w. (w ≡ (app_view (next n), x.1)) × told n)) (sym sits)
       (λ s board deep at small.
       let here = app-is setting board.words.roles s.views board.nic board.apps board.seated id mine at board.rule.refs.sides.set.many in
       let both = law board.words board.nic board.apps board.rule here (subst (λ ws. get_or ws i 0 < 2 ^ 64) board.laid small) in
@@ -66,6 +68,8 @@ module _ (setting : Setting) (slots id i : ℕ) (f : ℕ → ℕ) (told : ℕ �
           nic = board.nic;
           apps = set board.apps mine.view.app (next n);
           laid = ap (λ ws. set ws i (f (get_or s.words i 0))) board.laid ∙ (ap (λ m. set (table_of board.words) i (f m)) (sym found) ∙ made.laid);
+          lines = stand-app setting made.words'.area board.nic board.apps s.homes mine.view.app mine (next n) here (making n)
+              (subst (λ area. StandInSlots setting area board.nic board.apps s.homes) (sym made.area) board.lines);
           seated = subst (λ roles. Seated setting roles (set s.views id (app_view (next n))) board.nic (set board.apps mine.view.app (next n)))
               (sym made.roles)
               (app-moves setting board.words.roles s.views board.nic board.apps board.seated id mine (next n) at (number n) board.rule.refs.sides.set.many);
@@ -75,25 +79,28 @@ module _ (setting : Setting) (slots id i : ℕ) (f : ℕ → ℕ) (told : ℕ �
       ))
 
 -- So the card may step where its law holds, and an application.
-pub card-may : {card : TheNic} {i : ℕ} {f : ℕ → ℕ} {next : ℕ → NicSide} {told : ℕ → Type 0} → MayCard card i f next told
+pub card-may : {card : TheNic} {i : ℕ} {f : ℕ → ℕ} {next : ℕ → NicSide} {told : ℕ → Type 0}
+    → ((n : ℕ) → (next n).inside.making ≡ card.side.inside.making)
+    → ((words : Words) (apps : List AppSide) → BoardRule card.board.setting words card.side apps → word_in words i < 2 ^ 64
+    → MakesWords card.board.setting words i (f (word_in words i)) (next (word_in words i)) apps × told (word_in words i))
     → MayStep card_view (λ _ _. Unit {0}) card i f next told
-card-may {card} {i} {f} {next} {told} may = record {
+card-may {card} {i} {f} {next} {told} making law = record {
   stays = λ n. tt;
-  allowed = λ slots id. card-step card.board.setting slots id i f told card.side next may;
+  allowed = λ slots id. card-step card.board.setting slots id i f told card.side next making law;
 }
 
 pub app-may : {app : TheApp} {i : ℕ} {f : ℕ → ℕ} {next : ℕ → AppSide} {told : ℕ → Type 0} → MayApp app i f next told
     → MayStep app_view (λ old new. new.view.app ≡ old.view.app) app i f next told
 app-may {app} {i} {f} {next} {told} may = record {
   stays = may.number;
-  allowed = λ slots id. app-step app.board.setting slots id i f told app.side next may.number may.step;
+  allowed = λ slots id. app-step app.board.setting slots id i f told app.side next may.number may.making may.step;
 }
 
 -- What a seat may do is what the table asks, where the seat is of that table and has its side.
 module _ {Side : Type 0} {view_of : Side → View} {Stays : Side → Side → Type 0} {seat : TheSeat Side} {i : ℕ} {f : ℕ → ℕ} {next : ℕ → Side}
     {told : ℕ → Type 0} (may : MayStep view_of Stays seat i f next told) where
   pub asked : (key map : Setting) (table mine : TableId) (id : ℕ) (side : Side) → mine ≡ table → map ≡ key → table_words key ≤ table.words
-      → (me : Me (Unit {0}) View) → me ≡ (view_of side, []) → record { board = record { table = table; setting = map }; side = side } ≡ seat
+      → (me : Me (List ℕ) View) → me ≡ (view_of side, []) → record { board = record { table = table; setting = map }; side = side } ≡ seat
       → i < table_words seat.board.setting
       → (mine ≡ table) × (i < table.words) × Allows (IsBoard key) table.slots id me i f (λ n w. (w ≡ (view_of (next n), me.1)) × told n)
   asked key map table mine id side same keyed wide me sits is word =
@@ -107,14 +114,14 @@ module _ {Side : Type 0} {view_of : Side → View} {Stays : Side → Side → Ty
 
   -- and behind it the seat has the side after it, and knows of that what it knew
   pub stepped : (side_of : View → Side) → ((x : Side) → side_of (view_of x) ≡ x) → (Knows : Side → Type 0)
-      → ((old new : Side) → Stays old new → Knows old → Knows new) → (n : ℕ) (map : Setting) (table mine mine' : TableId) (me me' : Me (Unit {0}) View)
+      → ((old new : Side) → Stays old new → Knows old → Knows new) → (n : ℕ) (map : Setting) (table mine mine' : TableId) (me me' : Me (List ℕ) View)
       → mine ≡ table → me ≡ (view_of (side_of me.0), []) → Knows (side_of me.0)
       → record { board = record { table = table; setting = map }; side = side_of me.0 } ≡ seat → mine' ≡ mine → me' ≡ (view_of (next n), me.1)
       → ((mine' ≡ table) × (me' ≡ (view_of (side_of me'.0), [])) × Knows (side_of me'.0))
       × (record { board = record { table = table; setting = map }; side = side_of me'.0 } ≡ record seat { side = next n })
   stepped side_of back Knows still n map table mine mine' me me' same sits knows is there now =
-      let shown : side_of me'.0 ≡ next n = ap (λ (m : Me (Unit {0}) View). side_of m.0) now ∙ back (next n) in
-      let bare : me.1 ≡ [] = ap (λ (m : Me (Unit {0}) View). m.1) sits in (
+      let shown : side_of me'.0 ≡ next n = ap (λ (m : Me (List ℕ) View). side_of m.0) now ∙ back (next n) in
+      let bare : me.1 ≡ [] = ap (λ (m : Me (List ℕ) View). m.1) sits in (
         (
           there ∙ same,
           now ∙ (ap (λ xs. (view_of (next n), xs)) bare ∙ ap (λ x. (view_of x, [])) (sym shown)),
@@ -144,6 +151,7 @@ module _ (setting : Setting) (words : Words) (b i : ℕ) (at : i ≡ pool_at set
     laid = ap (λ x. set (table_of words) x m) at ∙ (ap (λ x. set (table_of words) (pool_at setting b) x) is
         ∙ pool-set setting words rule.refs.sizes b n (omega (arith, within, rule.refs.sizes.pool)));
     roles = refl;
+    area = refl;
     rule = after;
   }
 
@@ -180,6 +188,7 @@ module _ (setting : Setting) (words : Words) (a b i : ℕ) (at : i ≡ user_at s
     laid = ap (λ x. set (table_of words) x m) at ∙ (ap (λ x. set (table_of words) (user_at setting a b) x) is
         ∙ user-set setting words rule.refs.sizes a b n (omega (arith, few, rule.refs.sizes.users)) within);
     roles = refl;
+    area = refl;
     rule = after;
   }
 
@@ -203,7 +212,7 @@ module _ (setting : Setting) (words : Words) (a b i : ℕ) (at : i ≡ user_at s
 
   -- where a law changes no word, loading one does
   pub looks : {now : NicSide} {apps' : List AppSide} → BoardRule setting words now apps' → MakesWords setting words i (get_or (table_of words) i 0) now apps'
-  looks after = record { words' = words; laid = set-get_or (table_of words) i 0; roles = refl; rule = after }
+  looks after = record { words' = words; laid = set-get_or (table_of words) i 0; roles = refl; area = refl; rule = after }
 
   pub of-user : {nic : NicSide} {apps : List AppSide} → BoardRule setting words nic apps → (P : ℕ → Type 0) → P (user_of words a b)
       → P (get_or (table_of words) i 0)
@@ -226,6 +235,7 @@ module _ (setting : Setting) (words : Words) (a s i x : ℕ) (at : x ≡ refill_
     laid = ap (λ y. set (table_of words) y n) at
         ∙ refill-set setting words rule.refs.sizes a s i n (omega (arith, few, rule.refs.sizes.refills)) small less;
     roles = refl;
+    area = refl;
     rule = after;
   }
 
@@ -245,30 +255,11 @@ module _ (setting : Setting) (words : Words) (a s i x : ℕ) (at : x ≡ note_at
     laid = ap (λ y. set (table_of words) y n) at
         ∙ note-set setting words rule.refs.sizes a s i n (omega (arith, few, rule.refs.sizes.notes)) small less;
     roles = refl;
+    area = refl;
     rule = after;
   }
 
 -- where a law changes no word, loading one does
 pub loads : (setting : Setting) (words : Words) (x : ℕ) {now : NicSide} {apps' : List AppSide} → BoardRule setting words now apps'
     → MakesWords setting words x (get_or (table_of words) x 0) now apps'
-loads setting words x after = record { words' = words; laid = set-get_or (table_of words) x 0; roles = refl; rule = after }
-
--- ---- a word of the area
-
-module _ (setting : Setting) (words : Words) (i x : ℕ) (at : x ≡ area_at setting i) (less : i < area_words setting.layout) where
-  pub found-area : {nic : NicSide} {apps : List AppSide} → BoardRule setting words nic apps → get_or (table_of words) x 0 ≡ slice_index words.area i
-  found-area rule = ap (λ y. get_or (table_of words) y 0) at ∙ area-is setting words rule.refs.sizes i (omega (arith, less, rule.refs.sizes.area))
-
-  -- where a law stores a word there, storing it does
-  pub stores-area : {nic now : NicSide} {apps apps' : List AppSide} → BoardRule setting words nic apps → (n : ℕ)
-      → BoardRule setting (with_area words i n) now apps' → MakesWords setting words x n now apps'
-  stores-area rule n after = record {
-    words' = with_area words i n;
-    laid = ap (λ y. set (table_of words) y n) at ∙ area-set setting words rule.refs.sizes i n (omega (arith, less, rule.refs.sizes.area));
-    roles = refl;
-    rule = after;
-  }
-
--- the bytes of a slice
-pub bytes-small : (bytes : List ℕ) → ((i : ℕ) → get_or bytes i 0 < 256) → All (λ byte. byte < 256) bytes
-bytes-small bytes small k d inside = omega (arith, small k, get_or_default bytes k d 0 inside)
+loads setting words x after = record { words' = words; laid = set-get_or (table_of words) x 0; roles = refl; area = refl; rule = after }

@@ -14,7 +14,7 @@ found-word (x ∷ xs) zero n found = cc
 found-word (x ∷ xs) (suc i) n found = found-word xs i n found
 
 -- They are those of a board whose roles are all back.
-pub closed-uncounted : OverLaw → (setting : Setting) (v : View) (words : List ℕ) (slots : List (Unit {0})) → AreOver v → AllAreBack setting v
+pub closed-uncounted : OverLaw → (setting : Setting) (v : View) (words : List ℕ) (slots : List (List ℕ)) → AreOver v → AllAreBack setting v
     → Final (Seen (IsBoard setting) 0 v) words slots → HaveNoCounts setting words
 closed-uncounted law setting v words slots over all final =
     let board = final.1.0 in

@@ -7,14 +7,16 @@ use Rattle.board_face.specs.{AppEvents.{scrubbed}, SlotSteps.{seen_with, side_en
 use Rattle.board_face.specs.{declared.views.nic.Judged.TheVariants.{Not}, Opened.{new_nic, new_app}, Steps.{side_user_taken, side_owes_lowered}}
 use Rattle.board_face.specs.declared.views.{parts.Setting.{Setting}, nic.NicSide.{NicSide}, app.AppSide.{AppSide}}
 use Rattle.word_rings.specs.Slots.{entry_body}
-use Rattle.ref_words.specs.{declared.view.View.{View}, Words.{Words, roles_of, table_of}, Seated.{Seated, times_in, dealt_out, no_role}, Rule.{BoardRule}}
+use Rattle.ref_words.specs.{declared.view.View.{View}, Words.{Words, roles_of, table_of}, Seated.{Seated, times_in, dealt_out, no_role}, Rule.{BoardRule}, Homes.{StandInSlots}}
 
--- The sides of all roles, of which each seat has those of its own, and the words that stand to them by the rule.
-pub record IsBoard (setting : Setting) (s : State (Unit {0}) View) : Type 0 where
+-- The sides of all roles, of which each seat has those of its own, the words that stand to them by the rule, and in the slots the lines
+-- that no role has out.
+pub record IsBoard (setting : Setting) (s : State (List ℕ) View) : Type 0 where
   pub words : Words
   pub nic : NicSide
   pub apps : List AppSide
   pub laid : s.words ≡ table_of words
+  pub lines : StandInSlots setting words.area nic apps s.homes
   pub seated : Seated setting words.roles s.views nic apps
   pub rule : BoardRule setting words nic apps
 

@@ -50,7 +50,7 @@ pub record HaveNoCounts (setting : Setting) (words : List ℕ) : Type 0 where
 
 -- However the table stands by its rule while its first seat, the desk, has this view: each word of counts is 0.
 abbrev pub CountsAreOver : Setting → View → Type 0
-CountsAreOver setting v = (s : State (Unit {0}) View) → IsBoard setting s → get_elem? s.views 0 ≡ some v → HaveNoCounts setting s.words
+CountsAreOver setting v = (s : State (List ℕ) View) → IsBoard setting s → get_elem? s.views 0 ≡ some v → HaveNoCounts setting s.words
 
 -- the words that a board was closed with
 pub record TheWords : Type 0 where

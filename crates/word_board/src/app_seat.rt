@@ -33,7 +33,8 @@ impl<'a> Model for AppSeat<'a> {
 
 impl<'a> AppSeat<'a> {
     pub(crate) fn new(app: AppStepper<'a>, hand: AppHand) -> AppSeat<'a>
-        requires { AppKeeps app.board.setting app.side hand.note hand.entry hand.raw hand.loans.items hand.filled.items }
+        requires { AppKeeps app.board.setting app.side hand.note hand.entry hand.raw
+            hand.loans.items hand.filled.items }
         ensures { result ≡ app.entry }
     {
         AppSeat { app, hand }

@@ -7,7 +7,7 @@ use crate::desk::Desk;
 use crate::hands::NicHand;
 use crate::kinds::{deal_role, take_app_role, take_card_role};
 use crate::nic_seat::NicSeat;
-use crate::opening::opened;
+use crate::opening::{opened, opened_lines};
 use crate::rule::SharedWords;
 use crate::stepper::{AppRole, CardRole, Stepper};
 use area_layout::Layout;
@@ -17,8 +17,8 @@ use ref_words::WordMap;
 use std::alloc::{AllocError, Global};
 use std::marker::Model;
 
-/// The board for threads: counts, rings, free list and area in words that change in single atomic steps. Its steps are
-/// made by the seats.
+/// The board for threads: counts, rings and free list in words that change in single atomic steps, and the area in lines, which a
+/// seat takes by such a step. Its steps are made by the seats.
 #[derive(Drop)]
 pub struct WordBoard {
     pub(crate) words: SharedWords,
@@ -45,14 +45,18 @@ impl WordBoard {
         requires reserves { layout.reserves ≡ apps }
         requires some { 1 ≤ places }
         requires few { places ≤ 256 }
-        ensures setting { IfOk result (λ r. r.0.setting ≡ record { layout = layout; places = places }) }
+        ensures setting { IfOk result
+            (λ r. r.0.setting ≡ record { layout = layout; places = places }) }
         ensures desk { IfOk result (λ r. r.1 ≡ new_desk r.0) }
     {
         let map = WordMap::new(layout, places);
         let words = opened(alloc, &map, layout)?;
+        let lines = opened_lines(alloc, &map)?;
         ref_words::laws::opened();
         let setting = Setting { layout, places };
-        let (table, seat) = Table::of_words(alloc, &words, &setting)?;
+        let Ok((table, seat)) = Table::new(alloc, &words, lines, &setting) else {
+            return Err(AllocError);
+        };
         let words = SharedWords { table, map };
         let desk = Desk::new(alloc, setting, seat)?;
         Ok((WordBoard { words }, desk))
@@ -81,7 +85,8 @@ impl WordBoard {
         requires app { app < apps_of self.now.setting }
         ensures given { MatchOption result
             ((was_given desk.old (1 + app) ≡ true) × (desk.new ≡ desk.old))
-            (λ seat. (was_given desk.old (1 + app) ≡ false) × (desk.new ≡ gave_role desk.old (1 + app))
+            (λ seat. (was_given desk.old (1 + app) ≡ false)
+            × (desk.new ≡ gave_role desk.old (1 + app))
             × (seat ≡ record { board = self.now; side = new_app self.now.setting app })) }
     {
         let kept = &mut desk.hands[app as usize];

@@ -62,7 +62,8 @@ impl Desk {
     pub(crate) fn new(alloc: Global, setting: Setting, seat: WordSeat) -> Result<Desk, AllocError>
         requires number { seat.id ≡ 0 }
         requires role { seat.me ≡ (no_role, []) }
-        ensures { IfOk result (λ desk. desk ≡ new_desk (record { table = seat.table_id; setting = setting })) }
+        ensures { IfOk result (λ desk.
+            desk ≡ new_desk (record { table = seat.table_id; setting = setting })) }
     {
         let layout = setting.layout;
         let buffers = layout.buffers();

@@ -8,6 +8,7 @@ ghost use Rattle.word_board.specs.{Board.{card_of}, Desk.{AllAreBack, AreOver, A
 use crate::board::WordBoard;
 use crate::desk::Desk;
 use crate::kinds::{look_listed, look_unheld};
+use crate::lines::Line;
 use crate::rule::{SharedWords, WordSeat};
 use atomic_table::Closed;
 use board_face::Setting;
@@ -19,7 +20,7 @@ use zr_kinds::Ended;
 
 /// The words that a board was closed with.
 pub struct ClosedWords {
-    closed: Closed<(), Global>,
+    closed: Closed<Line, Global>,
     map: WordMap,
 }
 
@@ -32,12 +33,15 @@ impl Model for ClosedWords {
 
     ghost view = { λ c. record { setting = c.map; words = slots_items c.closed.words } };
 
-    ghost invariant = { λ c. IsFull c.closed.words × (table_words c.map ≤ slots_len c.closed.words) × (slots_len c.closed.slots ≡ 0) };
+    ghost invariant = { λ c. IsFull c.closed.words × (table_words c.map ≤ slots_len c.closed.words) × IsFull c.closed.slots };
 }
 
 impl Drop for ClosedWords {
     fn drop(self) {
-        let ClosedWords { closed, map: _ } = self;
+        let ClosedWords { mut closed, map: _ } = self;
+        for line in 0..closed.slot_count() {
+            closed.take(line);
+        }
         closed.free();
     }
 }

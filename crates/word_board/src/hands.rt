@@ -87,7 +87,8 @@ pub(crate) struct AppHand {
 impl AppHand {
     /// Of an application that has done nothing.
     pub(crate) fn new(alloc: Global, layout: &Layout) -> Result<AppHand, AllocError>
-        ensures slots { IfOk result (λ hand. (hand.note ≡ 0) × (hand.entry ≡ 0) × (hand.raw ≡ None)) }
+        ensures slots { IfOk result
+            (λ hand. (hand.note ≡ 0) × (hand.entry ≡ 0) × (hand.raw ≡ None)) }
         ensures loans { IfOk result (λ hand. hand.loans.items ≡ replicate (total layout.now) 0) }
         ensures filled { IfOk result (λ hand. hand.filled.items ≡ replicate (total layout.now) 0) }
     {

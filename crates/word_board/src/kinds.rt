@@ -2,7 +2,6 @@
 //! made of several.
 
 mod app_counts;
-mod area;
 mod card_counts;
 mod card_entries;
 mod closing;
@@ -23,8 +22,7 @@ mod texts;
 mod users;
 
 pub(crate) use app_counts::{cut_piece, lower_scrubbed, release_held, take_picked, take_reserve};
-pub(crate) use area::{fill_spare, place_piece, store_piece, store_spare};
-pub(crate) use card_counts::{begin_piece, lower_returned, shut_own, take_buffer};
+pub(crate) use card_counts::{lower_returned, shut_own, take_buffer};
 pub(crate) use card_entries::{
     free_honoured, free_stray, free_void, load_entry, load_last, look_entry, take_entry,
 };
@@ -43,7 +41,7 @@ pub(crate) use notes::{
 pub(crate) use phases::{
     abandon_loan, end_card, leave_app, look_end, look_left, look_reserve, seek_note,
 };
-pub(crate) use reads::{load_word, read_text};
+pub(crate) use reads::read_text;
 pub(crate) use refill_looks::{fall_quiet, look_any, look_at_last, look_raw, settle};
 pub(crate) use returns::give_back;
 pub(crate) use roles::{deal_role, join_seats, take_app_role, take_card_role};

@@ -37,8 +37,10 @@ impl<'a> Model for NicSeat<'a> {
 impl<'a> NicSeat<'a> {
     pub(crate) fn new(card: CardStepper<'a>, hand: NicHand) -> NicSeat<'a>
         requires setting { IsSetting card.board.setting }
-        requires keeps { NicKeeps card.board.setting card.side hand.cache.items hand.notes hand.entries }
-        requires left { KnowsLeft card.board.setting card.side.view.sent card.side.inside.note_slots hand.filled.counts }
+        requires keeps { NicKeeps card.board.setting card.side hand.cache.items hand.notes
+            hand.entries }
+        requires left { KnowsLeft card.board.setting card.side.view.sent card.side.inside.note_slots
+            hand.filled.counts }
         ensures { result ≡ card.entry }
     {
         NicSeat { card, hand }

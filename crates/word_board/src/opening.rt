@@ -1,9 +1,10 @@
-//! The words of a board on which nothing has happened.
+//! The words and the lines of a board on which nothing has happened.
 ghost use Rattle.std.specs.Prelude.{◌≡◌, IfOk};
 ghost use Rattle.area_layout.specs.Layout.{IsLayout};
 ghost use Rattle.ref_words.specs.Words.{full_bits, table_of, opened_words};
 
 use crate::kinds::WORD_BITS;
+use crate::lines::{LINE_BYTES, Line};
 use area_layout::Layout;
 use ref_words::WordMap;
 use std::alloc::{AllocError, Global};
@@ -34,4 +35,16 @@ pub(crate) fn opened(alloc: Global, map: &WordMap, layout: Layout) -> Result<Vec
     }
     words.resize(map.words(), 0)?;
     Ok(words)
+}
+
+/// All lines of the area.
+pub(crate) fn opened_lines(alloc: Global, map: &WordMap) -> Result<Vec<Line>, AllocError>
+    ensures { IfOk result (λ lines. lines.items ≡ (opened_words map.now).area) }
+{
+    let count = map.lines();
+    let mut lines = Vec::with_capacity(alloc, count)?;
+    for _line in 0..count {
+        lines.push([0; LINE_BYTES])?;
+    }
+    Ok(lines)
 }

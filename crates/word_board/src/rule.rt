@@ -1,6 +1,7 @@
-ghost use Rattle.std.specs.Prelude.{◌≡◌, ℕ, ◌≤◌};
-ghost use Rattle.ref_words.specs.{Words.{table_words}, declared.view.View.{View}};
+ghost use Rattle.std.specs.Prelude.{◌≡◌, ℕ, ◌≤◌, List};
+ghost use Rattle.ref_words.specs.{Words.{table_words}, Lines.{area_lines}, declared.view.View.{View}};
 
+use crate::lines::Line;
 use atomic_table::{Join, Play, Seat, Split, Table, TableRule};
 use board_face::Setting;
 use ref_words::{View, WordMap};
@@ -10,7 +11,7 @@ use std::marker::{Brand, PhantomData};
 /// What holds between any two steps.
 pub struct WordRule;
 
-impl TableRule<(), View, Setting> for WordRule {
+impl TableRule<Line, View, Setting> for WordRule {
     ghost use Rattle.ref_words.specs.Seated.{no_role};
     ghost use Rattle.word_board.specs.Board.{IsBoard};
 
@@ -19,18 +20,18 @@ impl TableRule<(), View, Setting> for WordRule {
     ghost first = { λ _. no_role };
 }
 
-pub(crate) type WordTable = Table<(), View, Setting, WordRule, Global>;
+pub(crate) type WordTable = Table<Line, View, Setting, WordRule, Global>;
 
-pub(crate) type WordSeat = Seat<(), View>;
+pub(crate) type WordSeat = Seat<Line, View>;
 
-/// The words of a board, and where each of them lies.
+/// The words and the lines of a board, and where each of them lies.
 #[derive(Drop)]
 pub(crate) struct SharedWords {
     pub(crate) table: WordTable,
     pub(crate) map: WordMap,
     ghost keyed: { map ≡ table.shared.key },
     ghost wide: { table_words table.shared.key ≤ table.shared.table_id.words },
-    ghost slotless: { table.shared.table_id.slots ≡ 0 },
+    ghost lined: { table.shared.table_id.slots ≡ area_lines table.shared.key.layout },
 }
 
 /// The view of a seat after a step, and what the seat is told of it by the rule, both by the number that the step found.
@@ -54,8 +55,60 @@ pub struct Turns<N: After> {
     marker: PhantomData<N>,
 }
 
-impl<N: After> Play<(), View> for Turns<N> {
+impl<N: After> Play<Line, View> for Turns<N> {
     ghost then = { λ _ v n w. (w ≡ (N.after n, v.1)) × N.told n };
+}
+
+/// Which lines a seat takes in a step, how its view is while it has them and once it gave them back, and what the seat is told:
+/// by what stood in the lines when it took them, or stands in them when it gives them back. A call passes `Brand`, and its
+/// proof picks them.
+pub trait AtHand {
+    ghost first: { ℕ };
+
+    ghost many: { ℕ };
+
+    ghost begun: { List (List ℕ) → View };
+
+    ghost done: { List (List ℕ) → View };
+
+    ghost told: { List (List ℕ) → Type 0 };
+}
+
+impl AtHand for Brand {
+    ghost use Rattle.ref_words.specs.Seated.{no_role};
+
+    ghost first = { 0 };
+
+    ghost many = { 0 };
+
+    ghost begun = { λ _. no_role };
+
+    ghost done = { λ _. no_role };
+
+    ghost told = { λ _. Unit {0} };
+}
+
+/// A step in which the seat takes these lines.
+pub struct Takes<N: AtHand> {
+    marker: PhantomData<N>,
+}
+
+impl<N: AtHand> Play<Line, View> for Takes<N> {
+    ghost use Rattle.word_board.specs.Lines.{TookLines};
+
+    ghost then = { λ _ v n w. TookLines N.first N.many N.begun N.told w };
+}
+
+/// A step in which it gives all its lines back.
+pub struct Gives<N: AtHand> {
+    marker: PhantomData<N>,
+}
+
+impl<N: AtHand> Play<Line, View> for Gives<N> {
+    ghost use Rattle.std.specs.Prelude.{[]};
+    ghost use Rattle.word_board.specs.Lines.{held};
+
+    ghost then = { λ _ v n w. w ≡ (N.done (held v), []) };
 }
 
 /// Which role is dealt out.

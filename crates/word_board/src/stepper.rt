@@ -1,11 +1,12 @@
 //! A role's seat with the words on which it steps, and its single steps.
-ghost use Rattle.std.specs.Prelude.{◌≡◌, ℕ, ◌<◌, []};
+ghost use Rattle.std.specs.Prelude.{◌≡◌, ℕ, ◌+◌, ◌/◌, ◌^◌, ◌<◌, List, [], length, All};
 ghost use Rattle.board_face.specs.{NicCalls.{apps_of}, declared.views.parts.Setting.{Setting}};
-ghost use Rattle.ref_words.specs.{declared.view.View.{View}, Words.{table_words}};
-ghost use Rattle.word_board.specs.{Board.{TheSeat}, Steps.{MayStep, made_by}};
+ghost use Rattle.ref_words.specs.{declared.view.View.{View}, Words.{table_words, phase_at}, Lines.{HaveText}};
+ghost use Rattle.word_board.specs.{Board.{TheSeat}, Steps.{MayStep, MayTake, MayGive, HasStored, HasRead, made_by}};
 
-use crate::rule::{After, SharedWords, WordSeat};
-use crate::steps::{Op, step_as};
+use crate::lines::{read_lines, write_lines};
+use crate::rule::{After, AtHand, SharedWords, WordSeat};
+use crate::steps::{Op, give_as, step_as, take_as};
 use board_face::{AppSide, NicSide};
 use ref_words::WordMap;
 use std::marker::{Model, PhantomData};
@@ -117,6 +118,23 @@ impl<R: Role, N: After> After for OfRole<R, N> {
     ghost told = { N.told };
 }
 
+/// The same of lines: the seat shows no other role while it has them, and after it.
+pub(crate) struct LinesOfRole<R: Role, N: AtHand> {
+    marker: PhantomData<(R, N)>,
+}
+
+impl<R: Role, N: AtHand> AtHand for LinesOfRole<R, N> {
+    ghost first = { N.first };
+
+    ghost many = { N.many };
+
+    ghost begun = { λ lines. R.view_of (R.side_of (N.begun lines)) };
+
+    ghost done = { λ lines. R.view_of (R.side_of (N.done lines)) };
+
+    ghost told = { N.told };
+}
+
 impl<'a, R: Role + Drop> Stepper<'a, R> {
     pub(crate) fn new(words: &'a SharedWords, seat: WordSeat, role: R) -> Stepper<'a, R>
         requires table { seat.table_id ≡ words.now.table.shared.table_id }
@@ -141,13 +159,75 @@ impl<'a, R: Role + Drop> Stepper<'a, R> {
     /// Makes a step on a word, and answers the number that it found there.
     pub(crate) fn step<N: After, X: Copy>(&mut self, word: usize, op: Op, about: X) -> u64
         requires word { word < table_words self.old.board.setting }
-        requires may { MayStep R.view_of R.stays self.old word (made_by op) (λ n. R.side_of (N.after n)) N.told }
+        requires may { MayStep R.view_of R.stays self.old word (made_by op)
+            (λ n. R.side_of (N.after n)) N.told }
         ensures event { self.new ≡ record self.old { side = R.side_of (N.after result) } }
         ensures told { N.told result }
     {
         let _ = about;
         let words = self.words;
         step_as::<OfRole<R, N>, ()>(&words.table, &mut self.seat, word, op, ())
+    }
+
+    /// Stores a text: it takes the lines in a step on a word, writes it there, and gives them back.
+    pub(crate) fn store_text<N: AtHand, X: Copy>(
+        &mut self,
+        word: usize,
+        op: Op,
+        first: usize,
+        bytes: &[u8],
+        about: X,
+    )
+        requires word { word < table_words self.old.board.setting }
+        requires lines { (N.first ≡ first) × (N.many ≡ (length bytes.now + 63) / 64) }
+        requires few { first < 2 ^ 32 }
+        requires takes { MayTake R.view_of self.old word (made_by op) first N.many
+            (λ lines. R.side_of (N.begun lines)) N.told }
+        requires gives { (taken lines : List (List ℕ)) → N.told taken → HaveText lines bytes.now
+            → MayGive R.view_of (record self.old { side = R.side_of (N.begun taken) }) first lines
+            (R.side_of (N.done lines)) }
+        requires stays { (lines : List (List ℕ))
+            → R.stays self.old.side (R.side_of (N.done lines)) }
+        ensures { HasStored self.old self.new bytes.now (λ lines. R.side_of (N.done lines)) }
+    {
+        let _ = about;
+        let words = self.words;
+        let table = &words.table;
+        take_as::<LinesOfRole<R, N>, ()>(table, &mut self.seat, word, op, ());
+        write_lines(table, &mut self.seat, first, bytes);
+        give_as::<LinesOfRole<R, N>, ()>(table, &mut self.seat, words.map.phase(0), ());
+    }
+
+    /// Reads a text from this byte of its first line on: it takes the lines in a load, and gives them back as they are.
+    pub(crate) fn read_text<N: AtHand, X: Copy>(
+        &mut self,
+        first: usize,
+        skip: usize,
+        into: &mut [u8],
+        about: X,
+    )
+        requires few { first < 2 ^ 32 }
+        requires skip { skip < 64 }
+        requires lines { (N.first ≡ first) × (N.many ≡ (skip + length into.old + 63) / 64) }
+        requires takes { MayTake R.view_of self.old (phase_at self.old.board.setting 0) (λ n. n)
+            first N.many (λ lines. R.side_of (N.begun lines)) N.told }
+        requires gives { (lines : List (List ℕ)) → N.told lines → length lines ≡ N.many
+            → All (λ line. length line ≡ 64) lines
+            → MayGive R.view_of (record self.old { side = R.side_of (N.begun lines) }) first lines
+            (R.side_of (N.done lines)) }
+        requires stays { (lines : List (List ℕ))
+            → R.stays self.old.side (R.side_of (N.done lines)) }
+        ensures read { HasRead self.old self.new skip into.new (λ lines. R.side_of (N.done lines))
+            N.told }
+        ensures many { length into.new ≡ length into.old }
+    {
+        let _ = about;
+        let words = self.words;
+        let table = &words.table;
+        let word = words.map.phase(0);
+        take_as::<LinesOfRole<R, N>, ()>(table, &mut self.seat, word, Op::Load, ());
+        read_lines(table, &mut self.seat, first, skip, into);
+        give_as::<LinesOfRole<R, N>, ()>(table, &mut self.seat, word, ());
     }
 }
 

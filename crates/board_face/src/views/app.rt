@@ -115,7 +115,7 @@ pub struct AppView {
 pub struct AppInside {
     /// Free buffers that are neither listed nor cached.
     pub hands: LinkedList<u32>,
-    /// The text of a spare in the making.
+    /// The text of a spare that it stores, or of a loan that it reads.
     pub making: Option<Making>,
     /// The next note slot.
     pub note_slot: Slot,

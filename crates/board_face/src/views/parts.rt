@@ -19,11 +19,12 @@ pub struct Filling {
     pub size: u32,
 }
 
-/// A text in the making, on a board of words: its place, and the words of 8 bytes that were stored there so far.
+/// A text that a role stores or reads, on a board of words: the place whose lines the role has meanwhile, and of a text that is
+/// read what stands in these lines.
 #[derive(Drop)]
 pub struct Making {
     pub place: Place,
-    pub words: LinkedList<u64>,
+    pub bytes: LinkedList<u8>,
 }
 
 /// The next slot of a ring, as one of its ends has seen it on a board of words.

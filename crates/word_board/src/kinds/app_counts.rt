@@ -14,7 +14,8 @@ pub(crate) fn take_picked(app: &mut AppStepper, buffer: u32)
     requires within { buffer < total app.old.board.setting.layout }
     requires here { IsHere app.old.side.view }
     requires in_hand { Contains app.old.side.inside.hands buffer }
-    requires due { app.old.side.view.spares < unsplit_bytes (map (λ t. t.note) app.old.side.view.taken) }
+    requires due { app.old.side.view.spares
+        < unsplit_bytes (map (λ t. t.note) app.old.side.view.taken) }
     ensures event { app.new ≡ record app.old { side = side_spare_begun app.old.side buffer } }
     ensures apart { HasNoneIn app.old.side.view buffer }
 {
@@ -31,7 +32,8 @@ pub(crate) fn take_reserve(app: &mut AppStepper, reserve: u32)
     requires own { reserve ≡ reserve_of app.old.side.view }
     requires searched { HasSearched app.old.side }
     requires free { app.old.side.inside.reserve_seen_free ≡ true }
-    requires due { app.old.side.view.spares < unsplit_bytes (map (λ t. t.note) app.old.side.view.taken) }
+    requires due { app.old.side.view.spares
+        < unsplit_bytes (map (λ t. t.note) app.old.side.view.taken) }
     ensures event { app.new ≡ record app.old { side = side_spare_begun app.old.side reserve } }
     ensures apart { HasNoneIn app.old.side.view reserve }
 {
@@ -47,7 +49,9 @@ pub(crate) fn cut_piece(app: &mut AppStepper, place: Place, at: u32)
     requires out { HasHeld app.old.side.view place }
     requires front { 0 < at }
     requires rest { at < place.len }
-    ensures event { app.new ≡ record app.old { side = app_at app.old.side (cut app.old.side.view place at) } }
+    ensures event { app.new ≡ record app.old {
+      side = app_at app.old.side (cut app.old.side.view place at);
+    } }
     ensures ends { place.offset + place.len < 2 ^ 32 }
 {
     laws::app_keeps_the_rule();

@@ -1,6 +1,6 @@
 ghost use Rattle.std.specs.Prelude.{◌≡◌, ◌+◌, ◌<◌, ◌≤◌, [], ◌∷◌, ◌++◌, None, Some};
 ghost use Rattle.area_layout.specs.Layout.{total};
-ghost use Rattle.board_face.specs.{NicCalls.{IsOpen, HasOwn, HasNothingIn}, NicEvents.{took}, Sides.{nic_at}, Steps.{side_begun, side_shut, side_both_lowered}, declared.views.nic.Judged.TheVariants.{UserLowered}};
+ghost use Rattle.board_face.specs.{NicCalls.{IsOpen, HasOwn, HasNothingIn}, NicEvents.{took}, Sides.{nic_at}, Steps.{side_shut, side_both_lowered}, declared.views.nic.Judged.TheVariants.{UserLowered}};
 
 use crate::stepper::CardStepper;
 use crate::steps::Op;
@@ -13,27 +13,16 @@ use zr_kinds::Rqe;
 pub(crate) fn take_buffer(card: &mut CardStepper, buffer: u32)
     requires within { buffer < total card.old.board.setting.layout }
     requires running { IsOpen card.old.side.view }
-    requires last { card.old.side.view.cache ≡ (took card.old.side.view buffer).cache ++ buffer ∷ [] }
-    ensures event { card.new ≡ record card.old { side = nic_at card.old.side (took card.old.side.view buffer) } }
+    requires last { card.old.side.view.cache
+        ≡ (took card.old.side.view buffer).cache ++ buffer ∷ [] }
+    ensures event { card.new ≡ record card.old {
+      side = nic_at card.old.side (took card.old.side.view buffer);
+    } }
     ensures apart { HasNothingIn card.old.side.view buffer }
 {
     laws::card_keeps_the_rule();
     let word = card.map().pool(buffer);
     card.step::<Brand, u32>(word, Op::Add(1), buffer);
-}
-
-/// The card begins a piece of `n` bytes: the pool count of its buffer is raised.
-pub(crate) fn begin_piece(card: &mut CardStepper, own: Filling, n: u32)
-    requires within { own.buffer < total card.old.board.setting.layout }
-    requires out { HasOwn card.old.side.view own }
-    requires some { 0 < n }
-    requires fits { own.start + n ≤ own.size }
-    requires idle { card.old.side.inside.making ≡ None }
-    ensures { card.new ≡ record card.old { side = side_begun card.old.side own n } }
-{
-    laws::card_keeps_the_rule();
-    let word = card.map().pool(own.buffer);
-    card.step::<Brand, (Filling, u32)>(word, Op::Add(1), (own, n));
 }
 
 /// The card gives its own reference up. It answers whether no holder is left.
@@ -51,8 +40,11 @@ pub(crate) fn shut_own(card: &mut CardStepper, own: Filling) -> bool
 /// left.
 pub(crate) fn lower_returned(card: &mut CardStepper, app: u32, entry: Rqe, buffer: u32) -> bool
     requires within { buffer < total card.old.board.setting.layout }
-    requires in_hand { card.old.side.inside.entry ≡ Some (record { app = app; entry = entry; judged = UserLowered buffer }) }
-    ensures { card.new ≡ record card.old { side = side_both_lowered card.old.side app entry buffer result } }
+    requires in_hand { card.old.side.inside.entry
+        ≡ Some (record { app = app; entry = entry; judged = UserLowered buffer }) }
+    ensures { card.new ≡ record card.old {
+      side = side_both_lowered card.old.side app entry buffer result;
+    } }
 {
     laws::card_keeps_the_rule();
     let word = card.map().pool(buffer);

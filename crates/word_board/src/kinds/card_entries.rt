@@ -17,10 +17,13 @@ pub(crate) fn look_entry(card: &mut CardStepper, app: u32, slot: u32) -> bool
     requires app { app < apps_of card.old.board.setting }
     requires within { slot < card.old.board.setting.places }
     requires next { slot ≡ takes_entry_at card.old.board.setting card.old.side app }
-    ensures event { card.new ≡ record card.old { side = side_entry_looked card.old.side app result } }
+    ensures event { card.new ≡ record card.old {
+      side = side_entry_looked card.old.side app result;
+    } }
     // the card knows a next slot for each application
     ensures slots { length card.old.side.inside.refill_slots ≡ apps_of card.old.board.setting }
-    ensures told { result ≡ false → SawRingEmpty card.old.board.setting (nic_gist card.old.side.view) app }
+    ensures told { result ≡ false
+        → SawRingEmpty card.old.board.setting (nic_gist card.old.side.view) app }
 {
     laws::card_keeps_the_rule();
     let word = card.map().refill(app, slot, 0);
@@ -67,9 +70,12 @@ pub(crate) fn free_honoured(card: &mut CardStepper, app: u32, slot: u32, entry: 
     requires within { slot < card.old.board.setting.places }
     requires next { slot ≡ takes_entry_at card.old.board.setting card.old.side app }
     requires seen { (next_slot card.old.side.inside.refill_slots app).seen ≡ true }
-    requires in_hand { card.old.side.inside.entry ≡ Some (record { app = app; entry = entry; judged = BothLowered buffer }) }
+    requires in_hand { card.old.side.inside.entry
+        ≡ Some (record { app = app; entry = entry; judged = BothLowered buffer }) }
     requires bare { card.old.side.inside.hands ≡ [] }
-    ensures { card.new ≡ record card.old { side = side_dealt card.old.side app entry (Honoured buffer) } }
+    ensures { card.new ≡ record card.old {
+      side = side_dealt card.old.side app entry (Honoured buffer);
+    } }
 {
     laws::card_keeps_the_rule();
     let word = card.map().refill(app, slot, 0);
@@ -82,7 +88,8 @@ pub(crate) fn free_stray(card: &mut CardStepper, app: u32, slot: u32, entry: Rqe
     requires within { slot < card.old.board.setting.places }
     requires next { slot ≡ takes_entry_at card.old.board.setting card.old.side app }
     requires seen { (next_slot card.old.side.inside.refill_slots app).seen ≡ true }
-    requires in_hand { card.old.side.inside.entry ≡ Some (record { app = app; entry = entry; judged = judged_stray }) }
+    requires in_hand { card.old.side.inside.entry
+        ≡ Some (record { app = app; entry = entry; judged = judged_stray }) }
     ensures { card.new ≡ record card.old { side = side_dealt card.old.side app entry Stray } }
 {
     laws::card_keeps_the_rule();
@@ -96,7 +103,8 @@ pub(crate) fn free_void(card: &mut CardStepper, app: u32, slot: u32, entry: Rqe)
     requires within { slot < card.old.board.setting.places }
     requires next { slot ≡ takes_entry_at card.old.board.setting card.old.side app }
     requires seen { (next_slot card.old.side.inside.refill_slots app).seen ≡ true }
-    requires in_hand { card.old.side.inside.entry ≡ Some (record { app = app; entry = entry; judged = Not }) }
+    requires in_hand { card.old.side.inside.entry
+        ≡ Some (record { app = app; entry = entry; judged = Not }) }
     requires void { judged card.old.board.setting.layout entry ≡ None }
     ensures { card.new ≡ record card.old { side = side_dealt card.old.side app entry Stray } }
 {
@@ -112,9 +120,12 @@ pub(crate) fn take_entry(card: &mut CardStepper, app: u32, slot: u32) -> Option<
     requires within { slot < card.old.board.setting.places }
     requires next { slot ≡ takes_entry_at card.old.board.setting card.old.side app }
     requires idle { card.old.side.inside.entry ≡ None }
-    ensures event { card.new ≡ record card.old { side = side_entry_taken card.old.side app result } }
+    ensures event { card.new ≡ record card.old {
+      side = side_entry_taken card.old.side app result;
+    } }
     ensures slots { length card.old.side.inside.refill_slots ≡ apps_of card.old.board.setting }
-    ensures told { IfNone result (SawRingEmpty card.old.board.setting (nic_gist card.old.side.view) app) }
+    ensures told { IfNone result
+        (SawRingEmpty card.old.board.setting (nic_gist card.old.side.view) app) }
 {
     if !look_entry(card, app, slot) {
         return None;

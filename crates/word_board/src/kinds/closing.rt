@@ -12,7 +12,13 @@ use zr_kinds::{Place, Rqe};
 fn list_last_by_card(card: &mut CardStepper, buffer: u32, in_hand: bool)
     requires of_pool { in_hand ≡ true → buffer < pool_buffers card.old.board.setting.layout }
     requires hands { card.old.side.inside.hands ≡ (if in_hand then buffer ∷ [] else []) }
-    ensures { card.new ≡ record card.old { side = record card.old.side { inside = record card.old.side.inside { hands = [] } } } }
+    ensures { card.new ≡ record card.old {
+      side = record card.old.side {
+        inside = record card.old.side.inside {
+          hands = [];
+        };
+      };
+    } }
 {
     if in_hand {
         list_by_card(card, buffer);
@@ -23,7 +29,13 @@ fn list_last_by_card(card: &mut CardStepper, buffer: u32, in_hand: bool)
 pub(crate) fn list_last_by_app(app: &mut AppStepper, buffer: u32, in_hand: bool)
     requires of_pool { in_hand ≡ true → buffer < pool_buffers app.old.board.setting.layout }
     requires hands { app.old.side.inside.hands ≡ (if in_hand then buffer ∷ [] else []) }
-    ensures { app.new ≡ record app.old { side = record app.old.side { inside = record app.old.side.inside { hands = [] } } } }
+    ensures { app.new ≡ record app.old {
+      side = record app.old.side {
+        inside = record app.old.side.inside {
+          hands = [];
+        };
+      };
+    } }
 {
     if in_hand {
         list_by_app(app, buffer);
@@ -39,7 +51,9 @@ pub(crate) fn shut_buffer(card: &mut CardStepper, own: Filling, pool: u32, room:
     requires pool { pool ≡ pool_buffers card.old.board.setting.layout }
     requires room { room ≡ nat_lt (length card.old.side.view.cache) cache_room }
     requires bare { card.old.side.inside.hands ≡ [] }
-    ensures { card.new ≡ record card.old { side = nic_at card.old.side (shut card.old.side.view own result) } }
+    ensures { card.new ≡ record card.old {
+      side = nic_at card.old.side (shut card.old.side.view own result);
+    } }
 {
     let last = shut_own(card, own);
     list_last_by_card(card, own.buffer, last && own.buffer < pool && !room);
@@ -69,11 +83,16 @@ pub(crate) fn honour_entry(
     requires next { loaded.slot ≡ takes_entry_at card.old.board.setting card.old.side loaded.app }
     requires seen { (next_slot card.old.side.inside.refill_slots loaded.app).seen ≡ true }
     requires within { buffer < total card.old.board.setting.layout }
-    requires in_hand { card.old.side.inside.entry ≡ Some (record { app = loaded.app; entry = loaded.entry; judged = Owed buffer }) }
+    requires in_hand { card.old.side.inside.entry
+        ≡ Some (record { app = loaded.app; entry = loaded.entry; judged = Owed buffer }) }
     requires pool { pool ≡ pool_buffers card.old.board.setting.layout }
     requires room { room ≡ nat_lt (length card.old.side.view.cache) cache_room }
     requires bare { card.old.side.inside.hands ≡ [] }
-    ensures { card.new ≡ record card.old { side = side_dealt (nic_at card.old.side (gave_up card.old.side.view buffer result)) loaded.app loaded.entry (Honoured buffer) } }
+    ensures { card.new ≡ record card.old {
+      side = side_dealt
+          (nic_at card.old.side (gave_up card.old.side.view buffer result)) loaded.app loaded.entry
+          (Honoured buffer);
+    } }
 {
     let last = give_back(card, loaded.app, loaded.entry, buffer);
     list_last_by_card(card, buffer, last && buffer < pool && !room);
@@ -88,7 +107,9 @@ pub(crate) fn release_piece(app: &mut AppStepper, place: Place, pool: u32)
     requires out { HasHeld app.old.side.view place }
     requires pool { pool ≡ pool_buffers app.old.board.setting.layout }
     requires bare { app.old.side.inside.hands ≡ [] }
-    ensures { app.new ≡ record app.old { side = app_at app.old.side (released app.old.side.view place) } }
+    ensures { app.new ≡ record app.old {
+      side = app_at app.old.side (released app.old.side.view place);
+    } }
 {
     let last = release_held(app, place);
     list_last_by_app(app, place.buffer, last && place.buffer < pool);

@@ -27,7 +27,8 @@ fn deal_with(
     requires seen { (next_slot card.old.side.inside.refill_slots loaded.app).seen ≡ true }
     requires within { buffer < total card.old.board.setting.layout }
     requires names { judged card.old.board.setting.layout loaded.entry ≡ Some buffer }
-    requires in_hand { card.old.side.inside.entry ≡ Some (record { app = loaded.app; entry = loaded.entry; judged = Not }) }
+    requires in_hand { card.old.side.inside.entry
+        ≡ Some (record { app = loaded.app; entry = loaded.entry; judged = Not }) }
     requires pool { pool ≡ pool_buffers card.old.board.setting.layout }
     requires cache { cache.old.items ≡ card.old.side.view.cache }
     requires bare { card.old.side.inside.hands ≡ [] }
@@ -73,7 +74,8 @@ pub(crate) fn next_entry(
     ensures inside { card.new.side.inside ≡ record card.old.side.inside {
       refill_slots = card.new.side.inside.refill_slots;
     } }
-    ensures told { result ≡ got_none → SawRingEmpty card.old.board.setting (nic_gist card.old.side.view) app }
+    ensures told { result ≡ got_none
+        → SawRingEmpty card.old.board.setting (nic_gist card.old.side.view) app }
 {
     let Some(entry) = take_entry(card, app, slot) else {
         return Entry::Empty;

@@ -54,7 +54,8 @@ pub(crate) fn look_listed(words: &SharedWords, desk: &mut WordSeat, buffer: u32)
     ensures table { desk.new.table_id ≡ desk.old.table_id }
     ensures number { desk.new.id ≡ desk.old.id }
     ensures me { desk.new.me ≡ desk.old.me }
-    ensures listed { count_by (nat_eq buffer) (card_of desk.old.me.0).view.cache ≡ (if result then 0 else 1) }
+    ensures listed { count_by (nat_eq buffer) (card_of desk.old.me.0).view.cache
+        ≡ (if result then 0 else 1) }
 {
     laws::what_is_over();
     let word = words.map.free(buffer / WORD_BITS);

@@ -1,4 +1,4 @@
-ghost use Rattle.std.specs.Prelude.{◌≡◌, ◌+◌, ◌<◌, true, false, length, if◌then◌else◌};
+ghost use Rattle.std.specs.Prelude.{◌≡◌, ◌+◌, ◌<◌, true, false, length, None, if◌then◌else◌};
 ghost use Rattle.board_face.specs.{AppCalls.{HasLoan, NamesNoLoan}, AppEvents.{entry_of, app_gist}, SlotSteps.{seen_with, at_refill, side_refill_looked, side_refill_stored, side_gave, side_pushed}};
 ghost use Rattle.word_rings.specs.Slots.{refill_width, entry_body};
 ghost use Rattle.ref_words.specs.Rings.{EntryFits, writes_entry_at};
@@ -16,7 +16,8 @@ pub(crate) fn look_refill(app: &mut AppStepper, slot: u32) -> bool
     requires within { slot < app.old.board.setting.places }
     requires next { slot ≡ writes_entry_at app.old.board.setting app.old.side }
     ensures event { app.new ≡ record app.old { side = side_refill_looked app.old.side result } }
-    ensures told { result ≡ false → SawRefillInUse app.old.board.setting (app_gist app.old.side.view) }
+    ensures told { result ≡ false
+        → SawRefillInUse app.old.board.setting (app_gist app.old.side.view) }
 {
     laws::app_keeps_the_rule();
     let word = app.map().refill(app.number(), slot, 0);
@@ -46,7 +47,8 @@ fn fill_refill(app: &mut AppStepper, slot: u32, entry: Rqe) -> bool
       side = if result then at_refill app.old.side (seen_with (entry_body entry))
           else side_refill_looked app.old.side false;
     } }
-    ensures told { result ≡ false → SawRefillInUse app.old.board.setting (app_gist app.old.side.view) }
+    ensures told { result ≡ false
+        → SawRefillInUse app.old.board.setting (app_gist app.old.side.view) }
 {
     if !look_refill(app, slot) {
         return false;
@@ -62,9 +64,12 @@ pub(crate) fn publish_loan(app: &mut AppStepper, slot: u32, place: Place)
     requires within { slot < app.old.board.setting.places }
     requires next { slot ≡ writes_entry_at app.old.board.setting app.old.side }
     requires out { HasLoan app.old.side.view place }
-    requires fits { EntryFits (record { entry = entry_of app.old.side.view.setting.layout place; of_loan = true }) }
+    requires unread { app.old.side.inside.making ≡ None }
+    requires fits { EntryFits
+        (record { entry = entry_of app.old.side.view.setting.layout place; of_loan = true }) }
     requires seen { app.old.side.inside.refill_slot.seen ≡ true }
-    requires words { app.old.side.inside.refill_slot.words ≡ entry_body (entry_of app.old.side.view.setting.layout place) }
+    requires words { app.old.side.inside.refill_slot.words
+        ≡ entry_body (entry_of app.old.side.view.setting.layout place) }
     ensures { app.new ≡ record app.old { side = side_gave app.old.side place } }
 {
     laws::app_keeps_the_rule();
@@ -95,12 +100,14 @@ pub(crate) fn give_entry(app: &mut AppStepper, slot: u32, place: Place, entry: R
     requires within { slot < app.old.board.setting.places }
     requires next { slot ≡ writes_entry_at app.old.board.setting app.old.side }
     requires out { HasLoan app.old.side.view place }
+    requires unread { app.old.side.inside.making ≡ None }
     requires entry { entry ≡ entry_of app.old.side.view.setting.layout place }
     ensures event { app.new ≡ record app.old {
       side = if result then side_gave app.old.side place
           else side_refill_looked app.old.side false;
     } }
-    ensures told { result ≡ false → SawRefillInUse app.old.board.setting (app_gist app.old.side.view) }
+    ensures told { result ≡ false
+        → SawRefillInUse app.old.board.setting (app_gist app.old.side.view) }
 {
     if !fill_refill(app, slot, entry) {
         return false;
@@ -120,7 +127,8 @@ pub(crate) fn push_raw(app: &mut AppStepper, slot: u32, entry: Rqe) -> bool
       side = if result then side_pushed app.old.side entry
           else side_refill_looked app.old.side false;
     } }
-    ensures told { result ≡ false → SawRefillInUse app.old.board.setting (app_gist app.old.side.view) }
+    ensures told { result ≡ false
+        → SawRefillInUse app.old.board.setting (app_gist app.old.side.view) }
 {
     if !fill_refill(app, slot, entry) {
         return false;

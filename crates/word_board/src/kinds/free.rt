@@ -50,7 +50,9 @@ pub(crate) fn list_by_app(app: &mut AppStepper, buffer: u32)
 /// An application looks at a word of the free list. 0 says that no buffer is listed there.
 pub(crate) fn look_free_word(app: &mut AppStepper, word: u32) -> u64
     requires within { word < free_words_of app.old.board.setting }
-    ensures event { app.new ≡ record app.old { side = side_word_looked app.old.side word (result == 0) } }
+    ensures event { app.new ≡ record app.old {
+      side = side_word_looked app.old.side word (result == 0);
+    } }
     ensures told { SawFree app.old.board.setting (app_gist app.old.side.view) word result }
 {
     laws::app_keeps_the_rule();
@@ -63,9 +65,13 @@ pub(crate) fn pick_buffer(app: &mut AppStepper, buffer: u32) -> bool
     requires within { buffer / word_bits < free_words_of app.old.board.setting }
     requires due { MaySpare app.old.side.view }
     requires given { PicksAreGiven app.old.side }
-    ensures event { app.new ≡ record app.old { side = side_bit_cleared app.old.side (buffer / word_bits) buffer result } }
+    ensures event { app.new ≡ record app.old {
+      side = side_bit_cleared app.old.side (buffer / word_bits) buffer
+          result;
+    } }
     ensures of_pool { result ≡ true → buffer < pool_buffers app.old.board.setting.layout }
-    ensures told { result ≡ false → SawUnlisted app.old.board.setting (app_gist app.old.side.view) buffer }
+    ensures told { result ≡ false
+        → SawUnlisted app.old.board.setting (app_gist app.old.side.view) buffer }
 {
     laws::app_keeps_the_rule();
     let word = app.map().free(buffer / WORD_BITS);

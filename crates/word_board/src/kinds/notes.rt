@@ -19,12 +19,16 @@ pub(crate) fn look_note(card: &mut CardStepper, app: u32, slot: u32) -> bool
     requires within { slot < card.old.board.setting.places }
     requires next { slot ≡ writes_note_at card.old.board.setting card.old.side app }
     requires unstored { (next_slot card.old.side.inside.note_slots app).words ≡ [] }
-    ensures event { card.new ≡ record card.old { side = side_note_looked card.old.side app result } }
+    ensures event { card.new ≡ record card.old {
+      side = side_note_looked card.old.side app result;
+    } }
     // the card knows a next slot for each application
     ensures slots { length card.old.side.inside.note_slots ≡ apps_of card.old.board.setting }
     // its pieces lie in pool buffers
-    ensures pieces { All (λ p. p.place.buffer < pool_buffers card.old.board.setting.layout) card.old.side.view.pieces }
-    ensures told { result ≡ false → SawNoteInUse card.old.board.setting (nic_gist card.old.side.view) app }
+    ensures pieces { All (λ p. p.place.buffer < pool_buffers card.old.board.setting.layout)
+        card.old.side.view.pieces }
+    ensures told { result ≡ false
+        → SawNoteInUse card.old.board.setting (nic_gist card.old.side.view) app }
 {
     laws::card_keeps_the_rule();
     let word = card.map().note(app, slot, 0);
@@ -54,7 +58,10 @@ fn store_words(card: &mut CardStepper, app: u32, slot: u32, body: &[u64; 39], ma
     requires slots { length card.old.side.inside.note_slots ≡ apps_of card.old.board.setting }
     requires seen { next_slot card.old.side.inside.note_slots app ≡ seen_with [] }
     requires many { 1 + many ≤ note_width }
-    ensures { card.new ≡ record card.old { side = at_note card.old.side app (seen_with (take many (drop 1 body.now))) } }
+    ensures { card.new ≡ record card.old {
+      side = at_note card.old.side app
+          (seen_with (take many (drop 1 body.now)));
+    } }
 {
     for k in 0..many {
         store_note(card, app, slot, 1 + k as u32, body[1 + k]);
@@ -68,9 +75,11 @@ pub(crate) fn publish_note(card: &mut CardStepper, app: u32, slot: u32, note: No
     requires next { slot ≡ writes_note_at card.old.board.setting card.old.side app }
     requires out { HasPiece card.old.side.view note.place }
     requires fields { IsSplitNote note }
-    requires fits { NoteFits (record { app = app; note = note; bytes = text_at card.old.side.view note.place }) }
+    requires fits { NoteFits
+        (record { app = app; note = note; bytes = text_at card.old.side.view note.place }) }
     requires seen { (next_slot card.old.side.inside.note_slots app).seen ≡ true }
-    requires words { note_so_far card.old.board.setting card.old.side app ≡ note_body note [] (area_of_buffer card.old.board.setting.layout note.place.buffer) }
+    requires words { note_so_far card.old.board.setting card.old.side app
+        ≡ note_body note [] (area_of_buffer card.old.board.setting.layout note.place.buffer) }
     ensures { card.new ≡ record card.old { side = side_sent card.old.side app note } }
 {
     laws::card_keeps_the_rule();
@@ -88,8 +97,11 @@ pub(crate) fn publish_linear(card: &mut CardStepper, app: u32, slot: u32, note: 
     requires bytes { note.total ≡ length bytes.now }
     requires fits { NoteFits (record { app = app; note = note; bytes = bytes.now }) }
     requires seen { (next_slot card.old.side.inside.note_slots app).seen ≡ true }
-    requires words { note_so_far card.old.board.setting card.old.side app ≡ note_body note bytes.now 0 }
-    ensures { card.new ≡ record card.old { side = side_sent_linear card.old.side app note bytes.now } }
+    requires words { note_so_far card.old.board.setting card.old.side app
+        ≡ note_body note bytes.now 0 }
+    ensures { card.new ≡ record card.old {
+      side = side_sent_linear card.old.side app note bytes.now;
+    } }
 {
     laws::card_keeps_the_rule();
     let word = card.map().note(app, slot, 0);
@@ -119,7 +131,8 @@ pub(crate) fn send_note(card: &mut CardStepper, app: u32, slot: u32, note: Note,
       side = if result then side_sent card.old.side app note
           else side_note_looked card.old.side app false;
     } }
-    ensures told { result ≡ false → SawNoteInUse card.old.board.setting (nic_gist card.old.side.view) app }
+    ensures told { result ≡ false
+        → SawNoteInUse card.old.board.setting (nic_gist card.old.side.view) app }
 {
     if !look_note(card, app, slot) {
         return false;
@@ -155,7 +168,8 @@ pub(crate) fn send_linear(
       side = if result then side_sent_linear card.old.side app note bytes.now
           else side_note_looked card.old.side app false;
     } }
-    ensures told { result ≡ false → SawNoteInUse card.old.board.setting (nic_gist card.old.side.view) app }
+    ensures told { result ≡ false
+        → SawNoteInUse card.old.board.setting (nic_gist card.old.side.view) app }
 {
     if !look_note(card, app, slot) {
         return false;

@@ -34,11 +34,14 @@ pub(crate) fn leave_app(app: &mut AppStepper)
 /// The card looks whether an application has left.
 pub(crate) fn look_left(card: &mut CardStepper, app: u32) -> bool
     requires app { app < apps_of card.old.board.setting }
-    ensures event { card.new ≡ record card.old { side = side_leave_looked card.old.side app result } }
+    ensures event { card.new ≡ record card.old {
+      side = side_leave_looked card.old.side app result;
+    } }
     ensures view { MatchBool result
         (card.new.side.view ≡ saw_leave card.old.side.view app)
         (NicOnlySaw (NotLeft app) card.old.side.view card.new.side.view) }
-    ensures told { result ≡ false → SawNotLeft card.old.board.setting (nic_gist card.old.side.view) app }
+    ensures told { result ≡ false
+        → SawNotLeft card.old.board.setting (nic_gist card.old.side.view) app }
 {
     laws::card_keeps_the_rule();
     let word = card.map().phase(1 + app as usize);
@@ -75,7 +78,8 @@ pub(crate) fn look_reserve(app: &mut AppStepper, reserve: u32) -> bool
     requires own { reserve ≡ reserve_of app.old.side.view }
     requires searched { HasSearched app.old.side }
     ensures event { app.new ≡ record app.old { side = side_reserve_looked app.old.side result } }
-    ensures told { result ≡ false → SawReserveHeld app.old.board.setting (app_gist app.old.side.view) }
+    ensures told { result ≡ false
+        → SawReserveHeld app.old.board.setting (app_gist app.old.side.view) }
 {
     laws::app_keeps_the_rule();
     let word = app.map().pool(reserve);
@@ -87,6 +91,7 @@ pub(crate) fn abandon_loan(app: &mut AppStepper, reserve: u32, place: Place)
     requires within { reserve < total app.old.board.setting.layout }
     requires own { reserve ≡ reserve_of app.old.side.view }
     requires out { HasLoan app.old.side.view place }
+    requires unread { app.old.side.inside.making ≡ None }
     ensures { app.new ≡ record app.old { side = side_abandoned app.old.side place } }
 {
     laws::app_keeps_the_rule();

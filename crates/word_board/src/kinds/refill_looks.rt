@@ -13,7 +13,9 @@ pub(crate) fn look_raw(app: &mut AppStepper, slot: u32) -> bool
     requires within { slot < app.old.board.setting.places }
     requires known { app.old.side.inside.raw_slot ≡ Some slot }
     ensures event { app.new ≡ record app.old { side = side_raw_looked app.old.side result } }
-    ensures told { result ≡ false → IsToldToApp app.old.board.setting (app_gist app.old.side.view) (IsRawInUse app.old.board.setting) }
+    ensures told { result ≡ false
+        → IsToldToApp app.old.board.setting (app_gist app.old.side.view)
+        (IsRawInUse app.old.board.setting) }
 {
     laws::app_keeps_the_rule();
     let word = app.map().refill(app.number(), slot, 0);
@@ -25,10 +27,13 @@ pub(crate) fn look_raw(app: &mut AppStepper, slot: u32) -> bool
 pub(crate) fn settle(app: &mut AppStepper, raw: Option<u32>) -> bool
     requires known { MatchOption raw
         (app.old.side.view.settled ≡ true)
-        (λ slot. (slot < app.old.board.setting.places) × (app.old.side.inside.raw_slot ≡ Some slot)) }
+        (λ slot. (slot < app.old.board.setting.places)
+        × (app.old.side.inside.raw_slot ≡ Some slot)) }
     ensures event { app.new ≡ record app.old { side = side_raw_looked app.old.side result } }
     ensures still { raw ≡ None → result ≡ true }
-    ensures told { result ≡ false → IsToldToApp app.old.board.setting (app_gist app.old.side.view) (IsRawInUse app.old.board.setting) }
+    ensures told { result ≡ false
+        → IsToldToApp app.old.board.setting (app_gist app.old.side.view)
+        (IsRawInUse app.old.board.setting) }
 {
     let Some(slot) = raw else {
         return true;
@@ -40,7 +45,9 @@ pub(crate) fn settle(app: &mut AppStepper, raw: Option<u32>) -> bool
 pub(crate) fn look_any(app: &mut AppStepper, slot: u32) -> bool
     requires within { slot < app.old.board.setting.places }
     ensures event { app.new ≡ record app.old { side = side_any_looked app.old.side slot result } }
-    ensures told { result ≡ false → IsToldToApp app.old.board.setting (app_gist app.old.side.view) (IsOneInUse app.old.board.setting) }
+    ensures told { result ≡ false
+        → IsToldToApp app.old.board.setting (app_gist app.old.side.view)
+        (IsOneInUse app.old.board.setting) }
 {
     laws::app_keeps_the_rule();
     let word = app.map().refill(app.number(), slot, 0);
@@ -50,9 +57,12 @@ pub(crate) fn look_any(app: &mut AppStepper, slot: u32) -> bool
 /// It looks at the last one, after it saw all others free. `true` says that its ring is quiet: no entry is on its way.
 pub(crate) fn look_at_last(app: &mut AppStepper, slot: u32) -> bool
     requires within { slot < app.old.board.setting.places }
-    requires others { (k : ℕ) → k < app.old.board.setting.places → Contains (slot ∷ app.old.side.inside.free_slots) k }
+    requires others { (k : ℕ) → k < app.old.board.setting.places
+        → Contains (slot ∷ app.old.side.inside.free_slots) k }
     ensures event { app.new ≡ record app.old { side = side_last_looked app.old.side slot result } }
-    ensures told { result ≡ false → IsToldToApp app.old.board.setting (app_gist app.old.side.view) (IsOneInUse app.old.board.setting) }
+    ensures told { result ≡ false
+        → IsToldToApp app.old.board.setting (app_gist app.old.side.view)
+        (IsOneInUse app.old.board.setting) }
 {
     laws::app_keeps_the_rule();
     let word = app.map().refill(app.number(), slot, 0);
@@ -69,7 +79,9 @@ pub(crate) fn fall_quiet(app: &mut AppStepper, places: u32) -> bool
         inside = record app.old.side.inside { free_slots = app.new.side.inside.free_slots };
       };
     } }
-    ensures told { result ≡ false → IsToldToApp app.old.board.setting (app_gist app.old.side.view) (IsOneInUse app.old.board.setting) }
+    ensures told { result ≡ false
+        → IsToldToApp app.old.board.setting (app_gist app.old.side.view)
+        (IsOneInUse app.old.board.setting) }
 {
     let last = places - 1;
     for slot in 0..last {

@@ -11,8 +11,11 @@ use zr_kinds::Rqe;
 pub(crate) fn give_back(card: &mut CardStepper, app: u32, entry: Rqe, buffer: u32) -> bool
     requires app { app < apps_of card.old.board.setting }
     requires within { buffer < total card.old.board.setting.layout }
-    requires in_hand { card.old.side.inside.entry ≡ Some (record { app = app; entry = entry; judged = Owed buffer }) }
-    ensures { card.new ≡ record card.old { side = side_both_lowered card.old.side app entry buffer result } }
+    requires in_hand { card.old.side.inside.entry
+        ≡ Some (record { app = app; entry = entry; judged = Owed buffer }) }
+    ensures { card.new ≡ record card.old {
+      side = side_both_lowered card.old.side app entry buffer result;
+    } }
 {
     lower_user(card, app, entry, buffer);
     lower_returned(card, app, entry, buffer)

@@ -18,7 +18,8 @@ fn pick_in_word(app: &mut AppStepper, word: u32) -> Option<u32>
     requires given { PicksAreGiven app.old.side }
     ensures event { MatchOption result
         (app.new ≡ record app.old { side = side_word_without app.old.side word })
-        (λ buffer. (app.new ≡ record app.old { side = side_picked app.old.side buffer }) × (buffer < pool_buffers app.old.board.setting.layout)) }
+        (λ buffer. (app.new ≡ record app.old { side = side_picked app.old.side buffer })
+        × (buffer < pool_buffers app.old.board.setting.layout)) }
     ensures told { MatchOption result
         (SawWithout app.old.board.setting (app_gist app.old.side.view) word)
         (λ buffer. IsLowestSeen app.old.board.setting (app_gist app.old.side.view) word buffer) }
@@ -96,7 +97,8 @@ pub(crate) fn take_spare(app: &mut AppStepper, free_words: u32, reserve: u32) ->
         (TookNoSpare app.old.side app.new.side)
         (λ buffer. TookSpare app.old.side app.new.side buffer) }
     ensures told { MatchOption result
-        (SawNoneListed app.old.board.setting (app_gist app.old.side.view) × SawReserveHeld app.old.board.setting (app_gist app.old.side.view))
+        (SawNoneListed app.old.board.setting (app_gist app.old.side.view)
+        × SawReserveHeld app.old.board.setting (app_gist app.old.side.view))
         (λ buffer. IsFirstSeen app.old.board.setting (app_gist app.old.side.view) buffer) }
 {
     if let Some(buffer) = spare_listed(app, free_words) {

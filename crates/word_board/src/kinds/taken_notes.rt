@@ -35,7 +35,9 @@ fn load_fields(app: &mut AppStepper, slot: u32) -> [u64; 7]
     requires within { slot < app.old.board.setting.places }
     requires next { slot ≡ takes_note_at app.old.board.setting app.old.side }
     requires seen { app.old.side.inside.note_slot ≡ seen_with [] }
-    ensures event { app.new ≡ record app.old { side = at_slot app.old.side (seen_with (drop 1 result)) } }
+    ensures event { app.new ≡ record app.old {
+      side = at_slot app.old.side (seen_with (drop 1 result));
+    } }
     ensures full { result ≡ 1 ∷ drop 1 result }
 {
     let mut body = [1; NOTE_FIELDS];
@@ -52,7 +54,10 @@ fn load_payload(app: &mut AppStepper, slot: u32, many: usize) -> [u64; 32]
     requires seen { app.old.side.inside.note_slot.seen ≡ true }
     requires fields { 1 + length app.old.side.inside.note_slot.words ≡ note_fields }
     requires many { many ≤ 32 }
-    ensures { app.new ≡ record app.old { side = at_slot app.old.side (seen_with (app.old.side.inside.note_slot.words ++ take many result)) } }
+    ensures { app.new ≡ record app.old {
+      side = at_slot app.old.side
+          (seen_with (app.old.side.inside.note_slot.words ++ take many result));
+    } }
 {
     let mut payload = [0; 32];
     for k in 0..many {
@@ -66,10 +71,14 @@ pub(crate) fn free_note(app: &mut AppStepper, slot: u32)
     requires within { slot < app.old.board.setting.places }
     requires next { slot ≡ takes_note_at app.old.board.setting app.old.side }
     requires seen { app.old.side.inside.note_slot.seen ≡ true }
-    requires enough { note_loads (loaded_note app.old.side) ≤ 1 + length app.old.side.inside.note_slot.words }
+    requires enough { note_loads (loaded_note app.old.side)
+        ≤ 1 + length app.old.side.inside.note_slot.words }
     requires split { (loaded_note app.old.side).split ≡ true }
-    ensures event { app.new ≡ record app.old { side = side_took_note app.old.side (loaded_note app.old.side) } }
-    ensures took { TookNote app.old.side.view (took_note app.old.side.view (loaded_note app.old.side))
+    ensures event { app.new ≡ record app.old {
+      side = side_took_note app.old.side (loaded_note app.old.side);
+    } }
+    ensures took { TookNote app.old.side.view
+        (took_note app.old.side.view (loaded_note app.old.side))
         (loaded_note app.old.side) (loaded_note app.old.side).place }
 {
     laws::app_keeps_the_rule();
@@ -82,9 +91,13 @@ pub(crate) fn free_linear(app: &mut AppStepper, slot: u32)
     requires within { slot < app.old.board.setting.places }
     requires next { slot ≡ takes_note_at app.old.board.setting app.old.side }
     requires seen { app.old.side.inside.note_slot.seen ≡ true }
-    requires enough { note_loads (loaded_note app.old.side) ≤ 1 + length app.old.side.inside.note_slot.words }
+    requires enough { note_loads (loaded_note app.old.side)
+        ≤ 1 + length app.old.side.inside.note_slot.words }
     requires split { (loaded_note app.old.side).split ≡ false }
-    ensures event { app.new ≡ record app.old { side = side_took_linear app.old.side (loaded_note app.old.side) (loaded_bytes app.old.side) } }
+    ensures event { app.new ≡ record app.old {
+      side = side_took_linear app.old.side (loaded_note app.old.side)
+          (loaded_bytes app.old.side);
+    } }
     ensures fields { IsLinearNote (loaded_note app.old.side) }
 {
     laws::app_keeps_the_rule();
@@ -98,7 +111,9 @@ fn take_full(app: &mut AppStepper, slot: u32, linear: &mut [u8; 256]) -> Note
     requires within { slot < app.old.board.setting.places }
     requires next { slot ≡ takes_note_at app.old.board.setting app.old.side }
     requires seen { app.old.side.inside.note_slot ≡ seen_with [] }
-    ensures event { app.new ≡ record app.old { side = side_full_taken app.old.side result linear.new } }
+    ensures event { app.new ≡ record app.old {
+      side = side_full_taken app.old.side result linear.new;
+    } }
     ensures took { MatchBool result.split
         (TookNote app.old.side.view (took_note app.old.side.view result) result result.place)
         (IsLinearNote result) }
@@ -124,7 +139,9 @@ pub(crate) fn poll(app: &mut AppStepper, slot: u32, linear: &mut [u8; 256]) -> P
     ensures board { app.new.board ≡ app.old.board }
     ensures event { Polls app.old.side app.new.side linear.new result }
     ensures untold { result ≡ got_none → app.old.side.view.ended ≡ false }
-    ensures told { result ≡ got_none → SawNotEnded app.old.board.setting (app_gist app.old.side.view) × SawNoNote app.old.board.setting (app_gist app.old.side.view) }
+    ensures told { result ≡ got_none
+        → SawNotEnded app.old.board.setting (app_gist app.old.side.view)
+        × SawNoNote app.old.board.setting (app_gist app.old.side.view) }
 {
     let over = look_end(app);
     if !seek_note(app, slot) {

@@ -16,7 +16,9 @@ pub(crate) fn lend_held(app: &mut AppStepper, place: Place)
     requires out { HasHeld app.old.side.view place }
     requires can { CanLend app.old.side.view }
     requires unbegun { app.old.side.inside.scrub_mark ≡ 0 }
-    ensures event { app.new ≡ record app.old { side = app_at app.old.side (lent app.old.side.view place) } }
+    ensures event { app.new ≡ record app.old {
+      side = app_at app.old.side (lent app.old.side.view place);
+    } }
     ensures few_out { loans_out place.buffer app.old.side + 1 < 2 ^ 64 }
 {
     laws::app_keeps_the_rule();
@@ -31,7 +33,9 @@ pub(crate) fn lend_spare(app: &mut AppStepper, own: Filling)
     requires filled { IsFilled app.old.side.view own }
     requires can { CanLend app.old.side.view }
     requires unbegun { app.old.side.inside.scrub_mark ≡ 0 }
-    ensures event { app.new ≡ record app.old { side = app_at app.old.side (lent_own app.old.side.view own) } }
+    ensures event { app.new ≡ record app.old {
+      side = app_at app.old.side (lent_own app.old.side.view own);
+    } }
     ensures few_out { loans_out own.buffer app.old.side + 1 < 2 ^ 64 }
 {
     laws::app_keeps_the_rule();
@@ -45,8 +49,11 @@ pub(crate) fn look_user(card: &mut CardStepper, app: u32, entry: Rqe, buffer: u3
     requires app { app < apps_of card.old.board.setting }
     requires within { buffer < total card.old.board.setting.layout }
     requires names { judged card.old.board.setting.layout entry ≡ Some buffer }
-    requires in_hand { card.old.side.inside.entry ≡ Some (record { app = app; entry = entry; judged = Not }) }
-    ensures { card.new ≡ record card.old { side = side_judged card.old.side app entry buffer result } }
+    requires in_hand { card.old.side.inside.entry
+        ≡ Some (record { app = app; entry = entry; judged = Not }) }
+    ensures { card.new ≡ record card.old {
+      side = side_judged card.old.side app entry buffer result;
+    } }
 {
     laws::card_keeps_the_rule();
     let word = card.map().user(app, buffer);
@@ -57,8 +64,11 @@ pub(crate) fn look_user(card: &mut CardStepper, app: u32, entry: Rqe, buffer: u3
 pub(crate) fn lower_user(card: &mut CardStepper, app: u32, entry: Rqe, buffer: u32)
     requires app { app < apps_of card.old.board.setting }
     requires within { buffer < total card.old.board.setting.layout }
-    requires in_hand { card.old.side.inside.entry ≡ Some (record { app = app; entry = entry; judged = Owed buffer }) }
-    ensures { card.new ≡ record card.old { side = side_user_lowered card.old.side app entry buffer } }
+    requires in_hand { card.old.side.inside.entry
+        ≡ Some (record { app = app; entry = entry; judged = Owed buffer }) }
+    ensures { card.new ≡ record card.old {
+      side = side_user_lowered card.old.side app entry buffer;
+    } }
 {
     laws::card_keeps_the_rule();
     let word = card.map().user(app, buffer);

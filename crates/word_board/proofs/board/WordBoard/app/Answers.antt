@@ -75,10 +75,10 @@ invariant_of-desk-2 c =
     let did = c.deal_role-seat.ensures in
     let given : List Bool = desk.nic_given ∷ map is_none hands in
     let role-there : 1 + a < length given = omega (arith, there, length-map hands is_none) in
-    let view : c.deal_role-seat.new.desk.me.0 ≡ dealt_out (1 + a) desk.seat.me.0 = ap (λ (me : Me (Unit {0}) View). me.0) did.desk in
+    let view : c.deal_role-seat.new.desk.me.0 ≡ dealt_out (1 + a) desk.seat.me.0 = ap (λ (me : Me (List ℕ) View). me.0) did.desk in
     let IsOf : ℕ → AppHand → Type 0 = λ _ hand. IsNew desk.setting hand.note hand.entry hand.raw hand.loans.items hand.filled.items in (
       did.number ∙ was.0,
-      ap (λ (me : Me (Unit {0}) View). me.1) did.desk ∙ was.1,
+      ap (λ (me : Me (List ℕ) View). me.1) did.desk ∙ was.1,
       rw (c.take.ensures.after, view, given-set desk.nic_given hands a)
           (HasDealt-given given desk.seat.me.0 (1 + a) was.2 role-there (not-given desk.nic_given hands a _ _ c.index_mut-kept.ensures.value some there)),
       length-set hands a c.take.new.self ∙ was.3,
@@ -113,9 +113,9 @@ returns c =
             ∙ not-given desk.nic_given hands a _ _ c.index_mut-kept.ensures.value some there,
         ap (λ t. made t then c.deal_role-seat.new.desk.me.0) did.table
             ∙ (ap (λ g. made desk.seat.table_id g c.deal_role-seat.new.desk.me.0) given
-            ∙ (ap (λ (me : Me (Unit {0}) View). made desk.seat.table_id (set (desk.nic_given ∷ map is_none hands) (1 + a) true) me.0) did.desk
+            ∙ (ap (λ (me : Me (List ℕ) View). made desk.seat.table_id (set (desk.nic_given ∷ map is_none hands) (1 + a) true) me.0) did.desk
             ∙ ap (λ (d : TheDesk). gave_role d (1 + a)) c.desk.view_is)),
-        c.new-2.ensures ∙ (c.new.ensures ∙ (ap (λ (me : Me (Unit {0}) View). record { board = board; side = app_of me.0 }) sits
+        c.new-2.ensures ∙ (c.new.ensures ∙ (ap (λ (me : Me (List ℕ) View). record { board = board; side = app_of me.0 }) sits
             ∙ ap (λ (b : TheBoard). record { board = b; side = new_app b.setting a }) c.self.view_is)),
       );
     }

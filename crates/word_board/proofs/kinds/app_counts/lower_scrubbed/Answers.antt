@@ -12,6 +12,7 @@ step-requires-clause-may c = app-may (
     let at = c.pool-word.ensures.value ∙ ap (λ s. pool_at s c.args.buffer) c.map.ensures in
     record {
       number = λ n. refl;
+      making = λ n. refl;
       step = λ ws nic apps rule here small.
           let law = c.app_keeps_the_rule.ensures setting ws nic apps mine (lowers_scrubbed c.args.buffer c.args.n) rule here
           (c.requires.within, c.requires.owes, c.requires.some) in (

@@ -12,6 +12,7 @@ step-requires-clause-may c = app-may (
     let at = c.pool-word.ensures.value ∙ ap (λ s. pool_at s c.args.place.buffer) c.map.ensures in
     record {
       number = λ n. refl;
+      making = λ n. refl;
       step = λ ws nic apps rule here small.
           let law = c.app_keeps_the_rule.ensures setting ws nic apps mine (releases c.args.place) rule here c.requires.out in (
             lowers setting ws c.args.place.buffer c.pool-word.result at c.requires.within rule 1 (omega arith) law.finds small

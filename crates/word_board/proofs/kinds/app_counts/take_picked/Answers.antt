@@ -9,6 +9,7 @@ step-requires-clause-may c = app-may (
     let mine = c.args.app.now.side in
     record {
       number = λ n. refl;
+      making = λ n. refl;
       step = λ ws nic apps rule here small.
           let law = c.app_keeps_the_rule.ensures setting ws nic apps mine (takes_picked c.args.buffer) rule here
           (c.requires.in_hand, c.requires.due, c.requires.here) in

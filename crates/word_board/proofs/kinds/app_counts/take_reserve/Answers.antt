@@ -10,6 +10,7 @@ step-requires-clause-may c = app-may (
     let mine = c.args.app.now.side in
     record {
       number = λ n. refl;
+      making = λ n. refl;
       step = λ ws nic apps rule here small.
           let law = c.app_keeps_the_rule.ensures setting ws nic apps mine takes_reserve rule here
           (c.requires.searched, c.requires.free, c.requires.due, c.requires.here) in

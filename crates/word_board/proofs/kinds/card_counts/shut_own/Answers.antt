@@ -1,11 +1,11 @@
-use Rattle.std.proofs.Common.{ℕ, ◌-◌, ◌==◌, ap, ◌∙◌, arith}
+use Rattle.std.proofs.Common.{ℕ, ◌-◌, ◌==◌, ap, ◌∙◌, arith, refl}
 use Rattle.board_face.specs.{declared.views.nic.NicSide.{NicSide}, Steps.{side_shut}}
 use Rattle.ref_words.specs.{Words.{pool_at, with_pool, pool_of}, Rule.{BoardRule}, Runs.{shuts}}
 use Rattle.word_board.proofs.Stepping.{card-may, lowers, of-count}
 use Rattle.word_board.proofs.kinds.card_counts.shut_own.Goals as goal
 
 pub step-requires-clause-may : goal.step-requires-clause-may
-step-requires-clause-may c = card-may (λ ws apps rule small.
+step-requires-clause-may c = card-may (λ n. refl) (λ ws apps rule small.
     let setting = c.args.card.now.board.setting in
     let mine = c.args.card.now.side in
     let next : ℕ → NicSide = λ n. side_shut mine c.args.own (n == 1) in

@@ -1,11 +1,11 @@
-use Rattle.std.proofs.Common.{ℕ, ◌<◌, subst, arith}
+use Rattle.std.proofs.Common.{ℕ, ◌<◌, subst, arith, refl}
 use Rattle.board_face.specs.{SlotSteps.{side_dealt}, declared.views.nic.{Fate.TheVariants.{Stray}, NicSide.{NicSide}}}
 use Rattle.ref_words.specs.{Rings.{takes_entry_at}, Runs.{frees_void}}
 use Rattle.word_board.proofs.Stepping.{card-may, stores-refill}
 use Rattle.word_board.proofs.kinds.card_entries.free_void.Goals as goal
 
 pub step-requires-clause-may : goal.step-requires-clause-may
-step-requires-clause-may c = card-may (λ ws apps rule small.
+step-requires-clause-may c = card-may (λ n. refl) (λ ws apps rule small.
     let setting = c.args.card.now.board.setting in
     let mine = c.args.card.now.side in
     let a = c.args.app in

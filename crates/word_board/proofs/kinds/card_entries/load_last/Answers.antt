@@ -1,4 +1,4 @@
-use Rattle.std.proofs.Common.{◌≡◌, ℕ, ◌+◌, ◌<◌, ◌++◌, ◌∷◌, [], subst, arith}
+use Rattle.std.proofs.Common.{◌≡◌, ℕ, ◌+◌, ◌<◌, ◌++◌, ◌∷◌, [], subst, arith, refl}
 use Rattle.board_face.specs.{SlotSteps.{next_slot, side_in_hand}, declared.views.nic.NicSide.{NicSide}}
 use Rattle.word_rings.specs.Slots.{refill_width, entry_of}
 use Rattle.ref_words.specs.{Rings.{takes_entry_at, refill_words_at}, Runs.{loads_last}}
@@ -6,7 +6,7 @@ use Rattle.word_board.proofs.Stepping.{card-may, loads, found-refill}
 use Rattle.word_board.proofs.kinds.card_entries.load_last.Goals as goal
 
 pub step-requires-clause-may : goal.step-requires-clause-may
-step-requires-clause-may c = card-may (λ ws apps rule small.
+step-requires-clause-may c = card-may (λ n. refl) (λ ws apps rule small.
     let setting = c.args.card.now.board.setting in
     let mine = c.args.card.now.side in
     let a = c.args.app in

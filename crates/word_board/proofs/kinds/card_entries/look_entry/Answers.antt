@@ -5,7 +5,7 @@ use Rattle.word_board.proofs.{Telling.{tells-card}, Stepping.{card-may, loads, f
 use Rattle.word_board.proofs.kinds.card_entries.look_entry.Goals as goal
 
 pub step-requires-clause-may : goal.step-requires-clause-may
-step-requires-clause-may c = card-may (λ ws apps rule small.
+step-requires-clause-may c = card-may (λ n. grind arith) (λ ws apps rule small.
     let setting = c.args.card.now.board.setting in
     let mine = c.args.card.now.side in
     let a = c.args.app in

@@ -15,6 +15,7 @@ step-requires-clause-may c = app-may (
     let next : ℕ → AppSide = λ n. side_refill_looked mine (n == 0) in
     record {
       number = λ n. refill_looked-number mine (n == 0);
+      making = λ n. grind arith;
       step = λ ws nic apps rule here small.
           let law = c.app_keeps_the_rule.ensures setting ws nic apps mine looks_refill rule here tt in (
             loads setting ws c.refill-word.result

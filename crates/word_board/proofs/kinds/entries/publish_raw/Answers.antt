@@ -12,6 +12,7 @@ step-requires-clause-may c = app-may (
     let within : s < setting.places = subst (λ k. k < setting.places) c.requires.next c.requires.within in
     record {
       number = λ n. refl;
+      making = λ n. refl;
       step = λ ws nic apps rule here small.
           let law = c.app_keeps_the_rule.ensures setting ws nic apps mine (pushes c.args.entry) rule here
           (c.requires.idle, c.requires.counted, c.requires.unbegun, c.requires.seen, c.requires.words, c.requires.fits) in (

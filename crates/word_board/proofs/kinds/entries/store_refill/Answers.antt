@@ -15,6 +15,7 @@ step-requires-clause-may c = app-may (
     let more = subst (λ k. k < refill_width) c.requires.so_far c.requires.more in
     record {
       number = λ n. refl;
+      making = λ n. refl;
       step = λ ws nic apps rule here small.
           let law = c.app_keeps_the_rule.ensures setting ws nic apps mine (stores_entry c.args.n) rule here (c.requires.seen, more) in (
             stores-refill setting ws a s i c.refill-word.result (cc) c.number.ensures.here within more rule c.args.n law.rule,

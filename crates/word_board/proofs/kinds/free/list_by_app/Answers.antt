@@ -12,6 +12,7 @@ step-requires-clause-may c = app-may (
     let within : b / word_bits < free_words_of setting = (omega (arith, c.requires.of_pool)) in
     record {
       number = λ n. refl;
+      making = λ n. refl;
       step = λ ws nic apps rule here small.
           let law = c.app_keeps_the_rule.ensures setting ws nic apps mine (relists b) rule here c.requires.in_hand in
           (lists-bit setting ws b c.free-word.result (cc) within rule law.rule, tt);

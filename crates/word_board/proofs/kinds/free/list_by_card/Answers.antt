@@ -1,11 +1,11 @@
-use Rattle.std.proofs.Common.{◌/◌, ◌<◌, arith}
+use Rattle.std.proofs.Common.{◌/◌, ◌<◌, arith, refl}
 use Rattle.board_face.specs.{NicCalls.{free_words_of}, NicEvents.{word_bits}}
 use Rattle.ref_words.specs.Runs.{lists}
 use Rattle.word_board.proofs.{FreeWords.{lists-bit}, Stepping.{card-may}}
 use Rattle.word_board.proofs.kinds.free.list_by_card.Goals as goal
 
 pub step-requires-clause-may : goal.step-requires-clause-may
-step-requires-clause-may c = card-may (λ ws apps rule small.
+step-requires-clause-may c = card-may (λ n. refl) (λ ws apps rule small.
     let setting = c.args.card.now.board.setting in
     let mine = c.args.card.now.side in
     let b = c.args.buffer in

@@ -1,4 +1,4 @@
-use Rattle.std.{proofs.Common.{ℕ, set, ap, ◌∙◌, refl}, specs.Prelude.{◌==◌}}
+use Rattle.std.{proofs.Common.{arith, ℕ, set, ap, ◌∙◌, refl}, specs.Prelude.{◌==◌}}
 use Rattle.board_face.specs.{declared.views.app.AppSide.{AppSide}, AppEvents.{app_gist}}
 use Rattle.ref_words.{specs.{FreeSteps.{side_word_looked}, Words.{free_at}, Rule.{BoardRule}, Runs.{looks_word}}, proofs.AppNumbers.{word_looked-number}}
 use Rattle.word_board.{specs.Told.{SawFree}, proofs.{Telling.{tells-app}, Stepping.{app-may, loads}, FreeWords.{of-word}}}
@@ -13,6 +13,7 @@ step-requires-clause-may c = app-may (
     let at = c.free-index.ensures.value ∙ ap (λ s. free_at s j) c.map.ensures in
     record {
       number = λ n. word_looked-number mine j (n == 0);
+      making = λ n. grind arith;
       step = λ ws nic apps rule here small.
           let law = c.app_keeps_the_rule.ensures setting ws nic apps mine (looks_word j) rule here c.requires.within in (
             loads setting ws c.free-index.result

@@ -1,4 +1,4 @@
-use Rattle.std.{proofs.{Common.{◌≡◌, ℕ, ◌/◌, ◌%◌, ◌<◌, set, ap, sym, ◌∙◌}, lemmas.Bool.{eqb-true}}, specs.{Prelude.{◌==◌, false}, Int.{bit_at}}}
+use Rattle.std.{proofs.{Common.{arith, ◌≡◌, ℕ, ◌/◌, ◌%◌, ◌<◌, set, ap, sym, ◌∙◌}, lemmas.Bool.{eqb-true}}, specs.{Prelude.{◌==◌, false}, Int.{bit_at}}}
 use Rattle.std.proofs.lemmas.Nat.Bits.{shr_and_one}
 use Rattle.area_layout.specs.Layout.{pool_buffers}
 use Rattle.board_face.specs.{NicEvents.{word_bits}, declared.views.app.AppSide.{AppSide}, AppEvents.{app_gist}}
@@ -17,6 +17,7 @@ step-found-requires-clause-may c = app-may (
     × ((bit_at n (b % word_bits) == 1) ≡ false → SawUnlisted setting (app_gist mine.view) b) in
     record {
       number = λ n. bit_cleared-number mine (b / word_bits) b (bit_at n (b % word_bits) == 1);
+      making = λ n. grind arith;
       step = λ ws nic apps rule here small.
           let law = c.app_keeps_the_rule.ensures setting ws nic apps mine (clears_bit b) rule here
           (c.requires.within, c.requires.due, c.requires.given) in (

@@ -5,7 +5,7 @@ use Rattle.word_board.proofs.{FreeWords.{makes-free, of-word}, Stepping.{card-ma
 use Rattle.word_board.proofs.kinds.free.sweep_word.Goals as goal
 
 pub step-requires-clause-may : goal.step-requires-clause-may
-step-requires-clause-may c = card-may (λ ws apps rule small.
+step-requires-clause-may c = card-may (λ n. refl) (λ ws apps rule small.
     let setting = c.args.card.now.board.setting in
     let mine = c.args.card.now.side in
     let j = c.args.word in

@@ -1,11 +1,11 @@
-use Rattle.std.proofs.Common.{ℕ, ◌<◌, subst, arith}
+use Rattle.std.proofs.Common.{ℕ, ◌<◌, subst, arith, refl}
 use Rattle.board_face.specs.{SlotSteps.{side_sent_linear}, declared.views.nic.NicSide.{NicSide}}
 use Rattle.ref_words.specs.{Rings.{writes_note_at}, Runs.{sends_linear}}
 use Rattle.word_board.proofs.Stepping.{card-may, stores-note}
 use Rattle.word_board.proofs.kinds.notes.publish_linear.Goals as goal
 
 pub step-requires-clause-may : goal.step-requires-clause-may
-step-requires-clause-may c = card-may (λ ws apps rule small.
+step-requires-clause-may c = card-may (λ n. refl) (λ ws apps rule small.
     let setting = c.args.card.now.board.setting in
     let mine = c.args.card.now.side in
     let a = c.args.app in

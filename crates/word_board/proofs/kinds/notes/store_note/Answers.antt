@@ -1,4 +1,4 @@
-use Rattle.std.proofs.Common.{ℕ, ◌<◌, subst}
+use Rattle.std.proofs.Common.{ℕ, ◌<◌, subst, refl}
 use Rattle.board_face.specs.{SlotSteps.{side_note_stored}, declared.views.nic.NicSide.{NicSide}}
 use Rattle.word_rings.specs.Slots.{note_width}
 use Rattle.ref_words.specs.{Rings.{writes_note_at, note_words_at}, Runs.{stores_note}}
@@ -6,7 +6,7 @@ use Rattle.word_board.proofs.Stepping.{card-may, stores-note}
 use Rattle.word_board.proofs.kinds.notes.store_note.Goals as goal
 
 pub step-requires-clause-may : goal.step-requires-clause-may
-step-requires-clause-may c = card-may (λ ws apps rule small.
+step-requires-clause-may c = card-may (λ n. refl) (λ ws apps rule small.
     let setting = c.args.card.now.board.setting in
     let mine = c.args.card.now.side in
     let a = c.args.app in

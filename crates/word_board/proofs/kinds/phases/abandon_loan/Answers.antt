@@ -9,7 +9,8 @@ step-requires-clause-may c = app-may (
     let mine = c.args.app.now.side in
     record {
       number = λ n. refl;
+      making = λ n. refl;
       step = λ ws nic apps rule here small.
-          let law = c.app_keeps_the_rule.ensures setting ws nic apps mine (abandons c.args.place) rule here c.requires.out in
+          let law = c.app_keeps_the_rule.ensures setting ws nic apps mine (abandons c.args.place) rule here (c.requires.out, c.requires.unread) in
           (loads setting ws c.pool-word.result law.rule, tt);
     })

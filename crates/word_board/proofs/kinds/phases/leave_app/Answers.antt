@@ -10,6 +10,7 @@ step-requires-clause-may c = app-may (
     let a = mine.view.app in
     record {
       number = λ n. refl;
+      making = λ n. refl;
       step = λ ws nic apps rule here small.
           let law = c.app_keeps_the_rule.ensures setting ws nic apps mine leaves rule here c.requires.can in
           (stores-phase setting ws (1 + a) c.phase-word.result (cc) (omega (arith, c.number.ensures.here)) rule law.rule, tt);

@@ -14,6 +14,7 @@ step-requires-clause-may c = app-may (
     let next : ℕ → AppSide = λ n. side_end_looked mine (n == 1) in
     record {
       number = λ n. end_looked-number mine (n == 1);
+      making = λ n. grind arith;
       step = λ ws nic apps rule here small.
           let law = c.app_keeps_the_rule.ensures setting ws nic apps mine looks_end rule here tt in
           let found = found-phase setting ws 0 c.phase-word.result (cc) (omega arith) rule in (

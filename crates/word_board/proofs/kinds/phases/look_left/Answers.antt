@@ -1,11 +1,11 @@
-use Rattle.std.{proofs.Common.{◌≡◌, ℕ, ◌+◌, false, sym, subst, arith}, specs.Prelude.{◌==◌}}
+use Rattle.std.{proofs.Common.{◌≡◌, ℕ, ◌+◌, false, sym, subst, arith, refl}, specs.Prelude.{◌==◌}}
 use Rattle.board_face.specs.declared.views.nic.NicSide.{NicSide}
 use Rattle.ref_words.specs.{PhaseSteps.{side_leave_looked}, Rule.{BoardRule}, Words.{phase_at}, Runs.{looks_left}}
 use Rattle.word_board.proofs.{Telling.{tells-card}, PhaseSteps.{found-phase}, Stepping.{card-may, loads}}
 use Rattle.word_board.proofs.kinds.phases.look_left.Goals as goal
 
 pub step-requires-clause-may : goal.step-requires-clause-may
-step-requires-clause-may c = card-may (λ ws apps rule small.
+step-requires-clause-may c = card-may (λ n. refl) (λ ws apps rule small.
     let setting = c.args.card.now.board.setting in
     let mine = c.args.card.now.side in
     let a : ℕ = c.args.app in

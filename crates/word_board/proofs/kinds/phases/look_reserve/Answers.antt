@@ -1,4 +1,4 @@
-use Rattle.std.{proofs.Common.{ℕ, set, ap, sym, ◌∙◌, subst, ◌≡◌}, specs.Prelude.{◌==◌, false}}
+use Rattle.std.{proofs.Common.{ℕ, set, ap, sym, ◌∙◌, subst, ◌≡◌, arith}, specs.Prelude.{◌==◌, false}}
 use Rattle.board_face.specs.declared.views.app.AppSide.{AppSide}
 use Rattle.ref_words.{specs.{PhaseSteps.{side_reserve_looked}, Rule.{BoardRule}, Words.{pool_at, pool_of}}, proofs.AppNumbers.{reserve_looked-number}}
 use Rattle.ref_words.specs.Runs.{looks_reserve}
@@ -14,6 +14,7 @@ step-requires-clause-may c = app-may (
     let at = c.pool-word.ensures.value ∙ ap (λ s. pool_at s c.args.reserve) c.map.ensures in
     record {
       number = λ n. reserve_looked-number mine (n == 0);
+      making = λ n. grind arith;
       step = λ ws nic apps rule here small.
           let law = subst (λ b. BoardRule setting ws nic (set apps a (side_reserve_looked mine (pool_of ws b == 0)))) (sym c.requires.own)
           (c.app_keeps_the_rule.ensures setting ws nic apps mine looks_reserve rule here c.requires.searched).rule in (

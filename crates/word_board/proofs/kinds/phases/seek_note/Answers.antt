@@ -17,6 +17,7 @@ step-requires-clause-may c = app-may (
     let next : ℕ → AppSide = λ n. side_note_sought mine (n == 1) in
     record {
       number = λ n. note_sought-number mine (n == 1);
+      making = λ n. grind arith;
       step = λ ws nic apps rule here small.
           let law = c.app_keeps_the_rule.ensures setting ws nic apps mine seeks_note rule here tt in (
             loads setting ws c.note-word.result

@@ -1,61 +1,85 @@
-use Rattle.std.proofs.{Common.{◌≡◌, ℕ, ◌+◌, ◌-◌, ◌%◌, ◌≤◌, List, ◌++◌, length, take, drop, refl, ap, sym, ◌∙◌, subst, arith}, lemmas.Slice.{take-put_mid}}
-use Rattle.std.proofs.lemmas.List.{length-append, length-take-le, length-drop}
-use borrow.Rule.Slice.PartMut.{put_mid}
-use Rattle.board_face.specs.{AppCalls.{ShowsCopy}, AppEvents.{loan_origin, has_read}, Sides.{app_at}}
-use Rattle.ref_words.{specs.{AreaSteps.{part_of, side_loaded}}, proofs.TextsRead.{loaded-is}}
-use Rattle.word_board.specs.{Board.{TheApp}, Reads.{HasReadSoFar}}
+use Rattle.std.{proofs.Common.{◌≡◌, ℕ, ◌+◌, ◌/◌, ◌%◌, ◌<◌, ◌≤◌, length, take, drop, refl, ap, sym, ◌∙◌, subst, arith}, specs.Prelude.{◌==◌, false, None, Option}, proofs.lemmas.Bool.Decides.{nat_tests}}
+use Rattle.zr_kinds.specs.declared.place.Place.{Place}
+use Rattle.area_layout.specs.Layout.{Shape, IsLayout, LiesIn, begin_of}
+use Rattle.board_face.specs.{AppCalls.{ShowsCopy}, AppEvents.{loan_origin, has_read}, declared.views.parts.{Setting.{Setting}, Making.{Making}}}
+use Rattle.ref_words.specs.{AreaSteps.{part_of, side_at_hand, side_read}, Lines.{begin_line, line_count, joined, text_in}, Runs.{reads_text, gives_lines}}
+use Rattle.ref_words.proofs.AreaLines.{begin-lines}
+use Rattle.word_board.proofs.{Stepping.{loads}, Taking.{app-take, app-give, kept-lines}}
 use Rattle.word_board.proofs.kinds.reads.read_text.Goals as goal
 
-pub load_word-word-requires-clause-reads : goal.load_word-word-requires-clause-reads
-load_word-word-requires-clause-reads c =
-    let mine = c.args.app.now.side in
-    let so_far : List ℕ = take c.loop-done.done c.loop-done.into in
-    subst (λ (me : TheApp). HasReadSoFar me.side.view c.args.loan c.args.from so_far) (sym c.loop-done.invariant.0)
-    (record { before = mine.view.reads; is = refl })
+-- The line in which a part of a place begins, and the byte of it.
+part-at : (setting map : Setting) (layout : Shape) → map ≡ setting → layout ≡ map.layout → IsLayout map.layout → (place : Place) (from n at : ℕ)
+    → at ≡ begin_of layout place.buffer + place.offset
+    → ((at + from) / 64 ≡ begin_line setting.layout (part_of place from n)) × ((part_of place from n).offset % 64 ≡ (at + from) % 64)
+part-at setting map layout same cut good place from n at is =
+    let there : at ≡ begin_of setting.layout place.buffer + place.offset =
+    is ∙ ap (λ (s : Shape). begin_of s place.buffer + place.offset) (cut ∙ ap (λ (s : Setting). s.layout) same) in
+    let whole = begin-lines setting.layout place.buffer (subst (λ (s : Setting). IsLayout s.layout) same good) in
+    (omega (arith, whole, there), omega (arith, whole, there))
 
--- a slice of which a part is written is as long
-length-put_mid : (a k : ℕ) (xs ys : List ℕ) → length ys ≡ k → a + k ≤ length xs → length (put_mid a k xs ys) ≡ length xs
-length-put_mid a k xs ys long fits =
-    omega (
-      arith,
-      long,
-      fits,
-      length-append (take a xs) (ys ++ drop k (drop a xs)),
-      length-append ys (drop k (drop a xs)),
-      length-take-le a xs (omega (arith, fits)),
-      length-drop a xs,
-      length-drop k (drop a xs),
-    )
+part-lies : (layout : Shape) (place : Place) (from n : ℕ) → LiesIn layout place → from + n ≤ place.len → LiesIn layout (part_of place from n)
+part-lies layout place from n lies within = let fits = lies.bytes in record { buffer = lies.buffer; bytes = omega (arith, fits, within) }
 
-pub loop-done-preserved : goal.loop-done-preserved
-loop-done-preserved c =
+filled-by : (n : ℕ) → (n == 0) ≡ false → 0 < n
+filled-by n test = grind (arith, nat_tests)
+
+pub read_text-requires-clause-takes : goal.read_text-requires-clause-takes
+read_text-requires-clause-takes c =
+    let setting = c.args.app.now.board.setting in
     let mine = c.args.app.now.side in
     let loan = c.args.loan in
     let from : ℕ = c.args.from in
-    let done : ℕ = c.loop-done.done in
-    let more : ℕ = c.min-more.result in
-    let so_far : List ℕ = take done c.loop-done.into in
-    let long : length so_far ≡ done = length-take-le done c.loop-done.into c.loop-done.invariant.2 in
-    let part : List ℕ = part_of c.load_word-word.result ((loan.offset + (from + length so_far)) % 8) more in
-    let fits : done + more ≤ length c.loop-done.into = omega (arith, c.min-more.ensures, c.loop-done.invariant.2) in
-    let first : ℕ = (loan.offset + from + done) % 8 in
-    let there : first ≡ (loan.offset + (from + length so_far)) % 8 = omega (arith, long) in
-    let size : length (take (done + more - done) (drop done c.loop-done.into)) ≡ more =
-    length-take-le (done + more - done) (drop done c.loop-done.into) (omega (arith, fits, length-drop done c.loop-done.into)) ∙ omega arith in
-    let same : c.copy_part.new.into ≡ part = c.copy_part.ensures
-    ∙ (ap (part_of c.load_word-word.result first) size ∙ ap (λ i. part_of c.load_word-word.result i more) there) in
-    let many : length c.copy_part.new.into ≡ more = c.copy_part.auto.into ∙ size in
-    let whole : length (put_mid done (done + more - done) c.loop-done.into c.copy_part.new.into) ≡ length c.loop-done.into =
-    length-put_mid done (done + more - done) c.loop-done.into c.copy_part.new.into (omega (arith, many)) (omega (arith, fits)) in
-    let bytes : so_far ++ part ≡ take (done + more) (put_mid done (done + more - done) c.loop-done.into c.copy_part.new.into) =
-    sym (take-put_mid done (done + more - done) c.loop-done.into c.copy_part.new.into (done + more) (omega (arith, many))
-    c.loop-done.invariant.2 ∙ ap (λ xs. so_far ++ xs) same) in (
-      c.load_word-word.ensures.event
-          ∙ (ap (λ (me : TheApp). (record me { side = side_loaded me.side loan from (length so_far) part })) c.loop-done.invariant.0
-          ∙ (ap (λ x. (record c.args.app.now { side = x })) (loaded-is (app_at mine (has_read mine.view loan from so_far)) loan from mine.view.reads so_far part refl)
-          ∙ ap (λ xs. (record c.args.app.now { side = app_at mine (has_read mine.view loan from xs) })) bytes)),
-      subst (ShowsCopy (loan_origin mine.view loan) from) bytes
-          (subst (λ (me : TheApp). ShowsCopy (loan_origin me.side.view loan) from (so_far ++ part)) c.loop-done.invariant.0 c.load_word-word.ensures.copied),
-      omega (arith, whole, fits),
-      whole ∙ c.loop-done.invariant.3,
-    )
+    let n : ℕ = length c.args.into.now in
+    let part = part_of loan from n in
+    let at = part-at setting _ _ c.map.ensures c.layout.ensures.value c.layout.ensures.sound loan from n _ c.byte_of.ensures.value in
+    let filled : 0 < n = filled-by _ (sym c.is_empty.ensures ∙ c.if-is_empty.false) in
+    app-take c.args.app.now _ _ _ _ part (λ lines. side_read mine loan from n lines) joined
+    (λ lines. ShowsCopy (loan_origin mine.view loan) from (text_in part lines)) at.0 (ap (λ x. (x + n + 63) / 64) at.1)
+    (part-lies setting.layout loan from n c.requires.lies c.requires.within) filled c.requires.idle (λ _. refl) (λ _. refl)
+    (λ ws nic apps rule here small.
+    let law = c.app_keeps_the_rule.ensures setting ws nic apps mine (reads_text loan from n) rule here
+    (c.requires.out, filled, c.requires.within, c.requires.idle) in
+    (loads setting ws _ law.rule, law.lines, law.finds))
+
+pub read_text-requires-clause-gives : goal.read_text-requires-clause-gives
+read_text-requires-clause-gives c = λ lines told many wide.
+    let setting = c.args.app.now.board.setting in
+    let mine = c.args.app.now.side in
+    let loan = c.args.loan in
+    let from : ℕ = c.args.from in
+    let n : ℕ = length c.args.into.now in
+    let part = part_of loan from n in
+    let at = part-at setting _ _ c.map.ensures c.layout.ensures.value c.layout.ensures.sound loan from n _ c.byte_of.ensures.value in
+    let filled : 0 < n = filled-by _ (sym c.is_empty.ensures ∙ c.if-is_empty.false) in
+    let lies = part-lies setting.layout loan from n c.requires.lies c.requires.within in
+    let long : length lines ≡ line_count part = many ∙ sym (ap (λ x. (x + n + 63) / 64) at.1) in
+    let begun = side_read mine loan from n lines in
+    app-give (record c.args.app.now { side = begun }) _ part (joined lines) lines (side_at_hand begun None) at.0 lies filled refl long refl
+    (λ ws nic apps rule here.
+    let law = c.app_keeps_the_rule.ensures setting ws nic apps begun (gives_lines part lines) rule here (refl, omega (arith, filled, long), long, wide) in
+    kept-lines setting ws part lines nic apps _ lies filled rule law.finds law.rule)
+
+pub returns : goal.returns
+returns c =
+    let setting = c.args.app.now.board.setting in
+    let mine = c.args.app.now.side in
+    let loan = c.args.loan in
+    let from : ℕ = c.args.from in
+    let n : ℕ = length c.args.into.now in
+    let at = part-at setting _ _ c.map.ensures c.layout.ensures.value c.layout.ensures.sound loan from n _ c.byte_of.ensures.value in
+    let read = c.read_text.ensures.read in
+    let into = c.read_text.new.into in
+    let bytes : into ≡ text_in (part_of loan from n) read.lines =
+    read.bytes
+    ∙ (ap (λ k. take k (drop ((c.byte_of.result + from) % 64) (joined read.lines))) c.read_text.ensures.many
+    ∙ ap (λ k. take n (drop k (joined read.lines))) (sym at.1)) in
+    record {
+      event = read.event
+          ∙ (ap (λ bs. (record c.args.app.now {
+            side = record { view = has_read mine.view loan from bs; inside = record mine.inside { making = None } };
+          })) (sym bytes)
+          ∙ ap (λ (m : Option Making). (record c.args.app.now {
+            side = record { view = has_read mine.view loan from into; inside = record mine.inside { making = m } };
+          })) (sym c.requires.idle));
+      copied = subst (ShowsCopy (loan_origin mine.view loan) from) (sym bytes) read.told;
+    }

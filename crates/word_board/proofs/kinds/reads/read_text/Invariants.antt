@@ -1,13 +1,14 @@
--- So many bytes are read.
-use Rattle.std.specs.Prelude.{◌≡◌, ◌≤◌, ◌-◌, length, take}
-use Rattle.board_face.specs.{AppCalls.{ShowsCopy}, AppEvents.{loan_origin, has_read}, Sides.{app_at}}
+-- The lines that have these bytes, the application's side while it has them and once it gave them back, and what it knows of a copied text.
+use Rattle.std.specs.Prelude.{◌+◌, ◌/◌, length, None}
+use Rattle.board_face.specs.{AppCalls.{ShowsCopy}, AppEvents.{loan_origin}}
+use Rattle.ref_words.specs.{AreaSteps.{part_of, side_at_hand, side_read}, Lines.{text_in}, Seated.{app_view}}
 use Rattle.word_board.proofs.kinds.reads.read_text.Given as goal
 
-abbrev pub invariant-loop-done : goal.invariant-loop-done
-invariant-loop-done l =
-    (l.app ≡ (record l.fn.app { side = app_at l.fn.app.side (has_read l.fn.app.side.view l.loan l.from (take l.done l.into)) }))
-    × ShowsCopy (loan_origin l.fn.app.side.view l.loan) l.from (take l.done l.into)
-    × (l.done ≤ length l.into) × (length l.into ≡ length l.fn.into)
-
-abbrev pub decreases-loop-done : goal.decreases-loop-done
-decreases-loop-done l = length l.initial.into - l.done
+abbrev pub ghosts-read_text : goal.ghosts-read_text
+ghosts-read_text a = record {
+  first = a.first;
+  many = (a.skip + length a.into.now + 63) / 64;
+  begun = λ lines. app_view (side_read a.self.now.side a.about.0 a.about.1 a.about.2 lines);
+  done = λ lines. app_view (side_at_hand (side_read a.self.now.side a.about.0 a.about.1 a.about.2 lines) None);
+  told = λ lines. ShowsCopy (loan_origin a.self.now.side.view a.about.0) a.about.1 (text_in (part_of a.about.0 a.about.1 a.about.2) lines);
+}

@@ -14,6 +14,7 @@ step-requires-clause-may c = app-may (
     let next : ℕ → AppSide = λ n. side_any_looked mine s (n == 0) in
     record {
       number = λ n. any_looked-number mine s (n == 0);
+      making = λ n. grind arith;
       step = λ ws nic apps rule here small.
           let law = c.app_keeps_the_rule.ensures setting ws nic apps mine (looks_any s) rule here c.requires.within in (
             loads setting ws c.refill-word.result

@@ -14,6 +14,7 @@ step-requires-clause-may c = app-may (
     let next : ℕ → AppSide = λ n. side_last_looked mine s (n == 0) in
     record {
       number = λ n. last_looked-number mine s (n == 0);
+      making = λ n. grind arith;
       step = λ ws nic apps rule here small.
           let law = c.app_keeps_the_rule.ensures setting ws nic apps mine (looks_last s) rule here (c.requires.within, c.requires.others) in (
             loads setting ws c.refill-word.result

@@ -1,4 +1,4 @@
-use Rattle.std.{proofs.Common.{ℕ, set, sym, subst, arith, ◌≡◌}, specs.Prelude.{◌==◌, false}}
+use Rattle.std.{proofs.Common.{ℕ, set, refl, sym, subst, arith, ◌≡◌}, specs.Prelude.{◌==◌, false}}
 use Rattle.board_face.specs.declared.views.app.AppSide.{AppSide}
 use Rattle.ref_words.{specs.{RestSteps.{side_raw_looked}, Words.{refill_at}, Rule.{BoardRule}, Runs.{looks_raw}}, proofs.AppNumbers.{raw_looked-number}}
 use Rattle.word_board.proofs.{Telling.{tells-app}, Stepping.{app-may, loads, found-refill}}
@@ -14,6 +14,7 @@ step-requires-clause-may c = app-may (
     let next : ℕ → AppSide = λ n. side_raw_looked mine (n == 0) in
     record {
       number = λ n. raw_looked-number mine (n == 0);
+      making = λ n. refl;
       step = λ ws nic apps rule here small.
           let law = c.app_keeps_the_rule.ensures setting ws nic apps mine (looks_raw s) rule here c.requires.known in (
             loads setting ws c.refill-word.result

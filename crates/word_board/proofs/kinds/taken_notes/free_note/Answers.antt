@@ -15,6 +15,7 @@ step-requires-clause-may c = app-may (
     let next : ℕ → AppSide = λ n. side_took_note mine (loaded_note mine) in
     record {
       number = λ n. refl;
+      making = λ n. refl;
       step = λ ws nic apps rule here small.
           let law = c.app_keeps_the_rule.ensures setting ws nic apps mine takes_note rule here
           (c.requires.seen, c.requires.enough, c.requires.split) in

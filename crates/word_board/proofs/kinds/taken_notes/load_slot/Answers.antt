@@ -17,6 +17,7 @@ step-requires-clause-may c = app-may (
     let next : ℕ → AppSide = λ n. side_slot_loaded mine n in
     record {
       number = λ n. refl;
+      making = λ n. refl;
       step = λ ws nic apps rule here small.
           let law = c.app_keeps_the_rule.ensures setting ws nic apps mine loads_slot rule here (c.requires.seen, more) in (
             loads setting ws c.note-word.result

@@ -1,8 +1,14 @@
--- So many words of the text are stored.
-use Rattle.std.specs.Prelude.{◌≡◌}
-use Rattle.word_board.proofs.TextPlaced.{filling_with, made_so_far}
+-- The lines of the text, and the application's side while it has them and once they have it.
+use Rattle.std.specs.Prelude.{◌+◌, ◌/◌, [], length}
+use Rattle.board_face.specs.AppEvents.{begin_place}
+use Rattle.ref_words.specs.{AreaSteps.{at_hand, side_at_hand, side_spare_filled}, Seated.{app_view}}
 use Rattle.word_board.proofs.kinds.texts.fill_text.Given as goal
 
-abbrev pub invariant-loop-k : goal.invariant-loop-k
-invariant-loop-k l =
-    (l.app ≡ (record l.fn.app { side = filling_with l.fn.app.side (made_so_far l.own l.bytes l.k) }))
+abbrev pub ghosts-store_text : goal.ghosts-store_text
+ghosts-store_text a = record {
+  first = a.first;
+  many = (length a.bytes.now + 63) / 64;
+  begun = λ _. app_view (side_at_hand a.self.now.side (at_hand (begin_place a.about.0.buffer (length a.bytes.now)) []));
+  done = λ _. app_view (side_spare_filled (side_at_hand a.self.now.side (at_hand (begin_place a.about.0.buffer (length a.bytes.now)) [])) a.about.0 a.bytes.now);
+  told = λ _. Unit {0};
+}

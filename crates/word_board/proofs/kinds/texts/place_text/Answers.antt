@@ -1,68 +1,52 @@
-use Rattle.std.{proofs.Common.{◌≡◌, ℕ, ◌+◌, ◌-◌, ◌/◌, List, [], ◌∷◌, ◌++◌, length, take, get_or, ap, sym, ◌∙◌, subst, arith}, specs.Prelude.{Some}}
-use Rattle.std.proofs.lemmas.List.{length-take-le, take_all, Elements.{Contains-push}}
-use Rattle.board_face.specs.{Lists.{without}, NicCalls.{HasOwn}, NicEvents.{placed}, Steps.{side_begun}, Tokens.{filled_by, next_place, same_filling}}
-use Rattle.board_face.specs.declared.views.{parts.Filling.{Filling}, nic.NicSide.{NicSide}}
-use Rattle.word_rings.{specs.Texts.{text_count, text_words}, proofs.TextWords.{length-words_of}}
-use Rattle.ref_words.specs.AreaSteps.{made_words, side_piece_stored, side_piece_placed}
-use Rattle.word_board.{specs.Board.{TheNic}, proofs.TextPlaced.{word-more}}
+use Rattle.std.{proofs.{Common.{◌≡◌, ℕ, ◌+◌, ◌/◌, [], length, refl, ap, sym, ◌∙◌, arith}, lemmas.List.Elements.{Contains-push}}, specs.Prelude.{Option}}
+use Rattle.board_face.specs.{FineSteps.{side_text_done}, Lists.{without}, NicEvents.{placed}, Steps.{side_begun}, Tokens.{filled_by, next_place, same_filling}}
+use Rattle.board_face.{specs.declared.views.parts.{Setting.{Setting}, Making.{Making}}, proofs.FillingsFitLemmas.{FillingsFit-own}}
+use Rattle.area_layout.specs.Layout.{size_of}
+use Rattle.ref_words.specs.{Lines.{begin_line, line_at, line_count}, Runs.{begins, places_piece}, Words.{pool_at}}
+use Rattle.word_board.proofs.{Stepping.{raises}, Taking.{card-take, card-give}}
 use Rattle.word_board.proofs.kinds.texts.place_text.Goals as goal
 
--- how many words the text has
-many : (bytes : List ℕ) → length (text_words bytes) ≡ text_count (length bytes)
-many bytes = length-words_of (text_count (length bytes)) bytes
+pub line-first-requires-clause-offset : goal.line-first-requires-clause-offset
+line-first-requires-clause-offset c = omega (arith, c.requires.lies.bytes, c.requires.some, ap (λ (s : Setting). size_of s.layout c.args.own.buffer) c.map-2.ensures)
 
-pub store_piece-requires-clause-so_far : goal.store_piece-requires-clause-so_far
-store_piece-requires-clause-so_far c =
-    let bytes = c.args.bytes.now in
-    let k : ℕ = c.loop-k.k in
-    sym (ap (λ (me : TheNic). length (made_words me.side.inside.making)) c.loop-k.invariant
-    ∙ length-take-le k (text_words bytes) (omega (arith, many bytes, c.loop-k-test.true, c.requires.some)))
-
-pub loop-k-preserved : goal.loop-k-preserved
-loop-k-preserved c =
+pub store_text-requires-clause-takes : goal.store_text-requires-clause-takes
+store_text-requires-clause-takes c =
+    let setting = c.args.card.now.board.setting in
     let mine = c.args.card.now.side in
-    let bytes = c.args.bytes.now in
     let own = c.args.own in
-    let k : ℕ = c.loop-k.k in
-    let words = text_words bytes in
-    let place = next_place own (length bytes) in
-    let stored : List ℕ → NicSide = λ ws. record (side_begun mine own (length bytes)) {
-      inside = record mine.inside { making = Some (record { place = place; words = ws }) };
-    } in
-    let more : take k words ++ c.text_word.result ∷ [] ≡ take (k + 1) words = ap (λ n. take k words ++ n ∷ []) c.text_word.ensures
-    ∙ word-more words k (omega (arith, many bytes, c.loop-k-test.true, c.requires.some)) in
-    c.store_piece.ensures
-    ∙ (ap (λ (me : TheNic). (record me { side = side_piece_stored me.side place c.text_word.result })) c.loop-k.invariant
-    ∙ ap (λ ws. (record c.args.card.now { side = stored ws })) more)
+    let n : ℕ = length c.args.bytes.now in
+    let place = next_place own n in
+    let at_first : c.line-first.result ≡ begin_line setting.layout place =
+    c.line-first.ensures.value ∙ ap (λ (s : Setting). line_at s.layout own.buffer own.start) c.map-2.ensures in
+    card-take c.args.card.now c.pool-word.result _ c.line-first.result ((n + 63) / 64) place (λ _. side_begun mine own n) (λ _. [])
+    (λ _. line_count place ≡ (n + 63) / 64) at_first c.requires.lies c.requires.some c.requires.idle (λ _. refl) (λ ws apps rule small.
+    let at : c.pool-word.result ≡ pool_at setting own.buffer = cc in
+    let law = c.card_keeps_the_rule.ensures setting ws mine apps (begins own n) rule (c.requires.out, c.requires.some, c.requires.fits, c.requires.idle) in
+    let count : line_count place ≡ (n + 63) / 64 = omega (arith, (FillingsFit-own mine apps own c.requires.out rule.refs.sides.fit).0.aligned) in (
+      raises setting ws own.buffer c.pool-word.result at c.requires.lies.buffer rule law.finds law.rule,
+      count,
+      law.lines,
+      count,
+    ))
 
-pub place_piece-requires-clause-out : goal.place_piece-requires-clause-out
-place_piece-requires-clause-out c =
-    let owns = c.args.card.now.side.view.owns in
-    let filled : Filling = filled_by c.args.own (length c.args.bytes.now) in
-    subst (λ (me : TheNic). HasOwn me.side.view filled) (sym c.loop-k.invariant) (Contains-push (without (same_filling c.args.own) owns) filled)
-
-pub place_piece-requires-clause-so_far : goal.place_piece-requires-clause-so_far
-place_piece-requires-clause-so_far c =
+pub store_text-requires-clause-gives : goal.store_text-requires-clause-gives
+store_text-requires-clause-gives c = λ taken lines told have.
+    let setting = c.args.card.now.board.setting in
+    let mine = c.args.card.now.side in
+    let own = c.args.own in
     let bytes = c.args.bytes.now in
-    let k : ℕ = c.loop-k.k in
-    let there = ap (λ (me : TheNic). length (made_words me.side.inside.making)) c.loop-k.invariant
-    ∙ length-take-le k (text_words bytes) (omega (arith, many bytes, c.loop-k.auto.k-end, c.requires.some)) in
-    omega (arith, there, c.loop-k-test.false, c.loop-k.auto.k-end)
-
-pub place_piece-requires-clause-last : goal.place_piece-requires-clause-last
-place_piece-requires-clause-last c =
-    let bytes = c.args.bytes.now in
-    let k : ℕ = c.loop-k.k in
-    let words = text_words bytes in
-    let same : (length bytes - 1) / 8 ≡ k = omega (arith, c.loop-k-test.false, c.loop-k.auto.k-end) in
-    ap (λ (me : TheNic). made_words me.side.inside.making ++ c.text_word-n.result ∷ []) c.loop-k.invariant
-    ∙ (ap (λ n. take k words ++ n ∷ []) (c.text_word-n.ensures ∙ ap (λ j. get_or words j 0) same)
-    ∙ (word-more words k (omega (arith, many bytes, same, c.requires.some)) ∙ take_all (k + 1) words (omega (arith, many bytes, same, c.requires.some))))
+    let n : ℕ = length bytes in
+    let begun = side_begun mine own n in
+    card-give (record c.args.card.now { side = begun }) c.line-first.result (next_place own n) [] lines (side_text_done begun own bytes)
+    (c.line-first.ensures.value ∙ ap (λ (s : Setting). line_at s.layout own.buffer own.start) c.map-2.ensures)
+    c.requires.lies c.requires.some refl (have.many ∙ sym told) (λ ws apps rule.
+    (c.card_keeps_the_rule.ensures setting ws begun apps (places_piece own bytes lines) rule
+    (Contains-push (without (same_filling own) mine.view.owns) (filled_by own n), refl, have)).rule)
 
 pub returns : goal.returns
 returns c =
     let mine = c.args.card.now.side in
-    let bytes = c.args.bytes.now in
-    c.place_piece.ensures
-    ∙ (ap (λ (me : TheNic). (record me { side = side_piece_placed me.side c.args.own bytes })) c.loop-k.invariant
-    ∙ ap (λ m. (record c.args.card.now { side = record { view = placed mine.view c.args.own bytes; inside = record mine.inside { making = m } } })) (sym c.requires.idle))
+    c.store_text.ensures.event
+    ∙ ap (λ (m : Option Making). (record c.args.card.now {
+      side = record { view = placed mine.view c.args.own c.args.bytes.now; inside = record mine.inside { making = m } };
+    })) (sym c.requires.idle)

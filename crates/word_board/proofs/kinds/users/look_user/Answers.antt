@@ -1,11 +1,11 @@
-use Rattle.std.proofs.Common.{ℕ, ◌==◌, ap, ◌∙◌}
+use Rattle.std.proofs.Common.{ℕ, ◌==◌, ap, ◌∙◌, refl}
 use Rattle.board_face.specs.{declared.views.nic.NicSide.{NicSide}, Steps.{side_judged}}
 use Rattle.ref_words.specs.{Words.{user_at}, Rule.{BoardRule}, Runs.{judges}}
 use Rattle.word_board.proofs.Stepping.{card-may, looks, of-user}
 use Rattle.word_board.proofs.kinds.users.look_user.Goals as goal
 
 pub step-requires-clause-may : goal.step-requires-clause-may
-step-requires-clause-may c = card-may (λ ws apps rule small.
+step-requires-clause-may c = card-may (λ n. refl) (λ ws apps rule small.
     let setting = c.args.card.now.board.setting in
     let mine = c.args.card.now.side in
     let next : ℕ → NicSide = λ n. side_judged mine c.args.app c.args.entry c.args.buffer (n == 0) in

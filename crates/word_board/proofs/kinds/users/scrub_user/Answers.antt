@@ -12,6 +12,7 @@ step-requires-clause-may c = app-may (
     let at : c.user-word.result ≡ user_at setting mine.view.app c.args.buffer = cc in
     record {
       number = λ n. refl;
+      making = λ n. refl;
       step = λ ws nic apps rule here small.
           let law = c.app_keeps_the_rule.ensures setting ws nic apps mine (scrubs c.args.buffer) rule here
           (c.requires.within, c.requires.next, c.requires.quiet, c.requires.lent, c.requires.counted) in (
