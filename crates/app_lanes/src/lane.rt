@@ -171,7 +171,8 @@ pub fn run_lanes<W: Sits + Send, G: Gate + Sync, R: Threads + Wait + Sync>(
 /// Turns of all lanes come behind turns of all. It does nothing: its contract is the law.
 pub fn lanes_go_on<W: Sits>()
     ensures same { (lanes : List W) → All W.fits lanes → AllGo W.goes lanes lanes }
-    ensures more { (first mid last : List W) → AllGo W.goes first mid → AllGo W.goes mid last → AllGo W.goes first last }
+    ensures more { (first mid last : List W) → AllGo W.goes first mid → AllGo W.goes mid last
+        → AllGo W.goes first last }
     ensures again { (was now : List W) → AllGo W.goes was now → All W.fits now }
 {}
 

@@ -120,7 +120,8 @@ fn take_turn<T: Shelf>(alloc: Global, own: &mut Turning<'_, T>) -> Came
     requires fits { Fits T.kept T.counts (Seated.Turning own.old) }
     requires here { own.old.worker.left ≡ false }
     ensures goes { SeatedGoes T.kept T.counts (Seated.Turning own.old) (Seated.Turning own.new) }
-    ensures takes { TakesTurn T.kept T.counts (Seated.Turning own.old) (Seated.Turning own.new) result }
+    ensures takes { TakesTurn T.kept T.counts (Seated.Turning own.old) (Seated.Turning own.new)
+        result }
 {
     let turn = app_turn(alloc, &mut own.seat, &mut own.worker.state, &mut own.shelf);
     own.worker.left = matches!(turn, Turn::Finished);
@@ -132,7 +133,8 @@ fn pour<T: Shelf>(own: &mut Pouring<'_, T>) -> Came
     requires fits { Fits T.kept T.counts (Seated.Pouring own.old) }
     requires here { own.old.poured ≡ None }
     ensures goes { SeatedGoes T.kept T.counts (Seated.Pouring own.old) (Seated.Pouring own.new) }
-    ensures takes { TakesTurn T.kept T.counts (Seated.Pouring own.old) (Seated.Pouring own.new) result }
+    ensures takes { TakesTurn T.kept T.counts (Seated.Pouring own.old) (Seated.Pouring own.new)
+        result }
 {
     match own.stream.turn() {
         PollTurn::Did => Came::Did,
@@ -148,8 +150,10 @@ fn pour<T: Shelf>(own: &mut Pouring<'_, T>) -> Came
 fn forward<T: Shelf>(own: &mut Forwarding<'_, T>) -> Came
     requires fits { Fits T.kept T.counts (Seated.Forwarding own.old) }
     requires here { own.old.poured ≡ None }
-    ensures goes { SeatedGoes T.kept T.counts (Seated.Forwarding own.old) (Seated.Forwarding own.new) }
-    ensures takes { TakesTurn T.kept T.counts (Seated.Forwarding own.old) (Seated.Forwarding own.new) result }
+    ensures goes { SeatedGoes T.kept T.counts (Seated.Forwarding own.old)
+        (Seated.Forwarding own.new) }
+    ensures takes { TakesTurn T.kept T.counts (Seated.Forwarding own.old)
+        (Seated.Forwarding own.new) result }
 {
     match own.forward.turn() {
         PollTurn::Did => Came::Did,
@@ -181,7 +185,8 @@ impl<'b, T: Shelf> Seated<'b, T> {
         requires start { (plan : Plan) × IsStart plan app start }
         ensures seat { seat_of result ≡ seat.entry }
         ensures shelf { shelf_of result ≡ shelf }
-        ensures begins { (plan : Plan) → IsStart plan app start → Begins T.kept T.counts plan result }
+        ensures begins { (plan : Plan) → IsStart plan app start
+            → Begins T.kept T.counts plan result }
     {
         match start {
             Start::Turning(worker) => Seated::Turning(Turning {

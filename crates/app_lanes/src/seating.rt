@@ -29,12 +29,15 @@ pub fn open_lanes<'b, T: Shelf>(
     requires none { lanes.old.items ≡ [] }
     requires room { vec_len starts.old ≤ vec_capacity lanes.old }
     ensures desk { desk.new.board ≡ board.now }
-    ensures back { (desk.new.view.nics ≡ desk.old.view.nics) × (desk.new.view.apps ≡ desk.old.view.apps) }
-    ensures shelves { (shelves.new.items ≡ []) × (vec_capacity shelves.new ≡ vec_capacity shelves.old) }
+    ensures back { (desk.new.view.nics ≡ desk.old.view.nics)
+        × (desk.new.view.apps ≡ desk.old.view.apps) }
+    ensures shelves { (shelves.new.items ≡ [])
+        × (vec_capacity shelves.new ≡ vec_capacity shelves.old) }
     ensures lanes { AreAtOpening board.now 0 (reverse lanes.new.items) }
     ensures begin { (plan : Plan) → AreStarts plan starts.old.items
         → All (λ lane. Begins T.kept T.counts plan lane.seated) lanes.new.items }
-    ensures kept { map (λ lane. shelf_of lane.seated) (reverse lanes.new.items) ≡ shelves.old.items }
+    ensures kept { map (λ lane. shelf_of lane.seated) (reverse lanes.new.items)
+        ≡ shelves.old.items }
 {
     while let Some(start) = starts.pop() {
         let app = starts.len() as u32;
@@ -66,14 +69,18 @@ pub fn close_lanes<T: Shelf>(
     requires served { AreServed desk.old.view }
     requires known { AreOfBoard desk.old.board.setting desk.old.view }
     requires none { (lefts.old.items ≡ []) × (shelves.old.items ≡ []) }
-    requires room { (vec_len lanes ≤ vec_capacity lefts.old) × (vec_len lanes ≤ vec_capacity shelves.old) }
+    requires room { (vec_len lanes ≤ vec_capacity lefts.old)
+        × (vec_len lanes ≤ vec_capacity shelves.old) }
     ensures board { desk.new.board ≡ desk.old.board }
     ensures nics { desk.new.view.nics ≡ desk.old.view.nics }
     ensures served { AreServed desk.new.view }
     ensures known { AreOfBoard desk.new.board.setting desk.new.view }
-    ensures apps { desk.new.view.apps ≡ map (λ lane. (seat_of lane.seated).side) (reverse lanes.entry.items) }
-    ensures ends { map left_end lefts.new.items ≡ map (λ lane. end_of lane.seated) (reverse lanes.entry.items) }
-    ensures shelves { shelves.new.items ≡ map (λ lane. shelf_of lane.seated) (reverse lanes.entry.items) }
+    ensures apps { desk.new.view.apps
+        ≡ map (λ lane. (seat_of lane.seated).side) (reverse lanes.entry.items) }
+    ensures ends { map left_end lefts.new.items
+        ≡ map (λ lane. end_of lane.seated) (reverse lanes.entry.items) }
+    ensures shelves { shelves.new.items
+        ≡ map (λ lane. shelf_of lane.seated) (reverse lanes.entry.items) }
     ensures room { vec_capacity shelves.new ≡ vec_capacity shelves.old }
 {
     let mut lanes = lanes;

@@ -70,7 +70,8 @@ impl<T> Moody<T> {
 
     /// Whether this call fails.
     fn fails(&mut self) -> bool
-        ensures shelf { (self.new.shelf ≡ self.old.shelf) × (self.new.out ≡ self.old.out) × (self.new.looks ≡ self.old.looks)
+        ensures shelf { (self.new.shelf ≡ self.old.shelf) × (self.new.out ≡ self.old.out)
+            × (self.new.looks ≡ self.old.looks)
             × (self.new.appended ≡ self.old.appended) }
         ensures still { result ≡ false → self.new.faults ≡ self.old.faults }
         ensures rose { result ≡ true → Rose self.old.faults self.new.faults }

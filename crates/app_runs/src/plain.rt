@@ -69,7 +69,8 @@ fn with_note(
     frames: &mut Vec<PlainFrame>,
 ) -> Result<(), AllocError>
     ensures { OnOk result
-        (frames.new.items ≡ with_note (record { number = number; note = note.now }) frames.old.items) }
+        (frames.new.items ≡ with_note (record { number = number; note = note.now })
+        frames.old.items) }
 {
     let mut marks = marks_of_note(alloc, number, note.place.len)?;
     if !frames.is_empty() && frames[0].number == note.frame {
@@ -200,7 +201,8 @@ impl PlainPlaced {
 /// What stands after these frames were received.
 fn receive_all(alloc: Global, base: u32, frames: &[PlainFrame]) -> Result<PlainPlaced, AllocError>
     ensures { IfOk result
-        (λ placed. placed_in placed.marks.items placed.top ≡ received_frames base nothing_placed frames.now) }
+        (λ placed. placed_in placed.marks.items placed.top
+        ≡ received_frames base nothing_placed frames.now) }
 {
     let mut placed = PlainPlaced {
         marks: Vec::new(alloc),

@@ -38,8 +38,10 @@ pub fn open(alloc: Global, buffers: u32, size: u32, places: u32) -> Result<(Word
 pub fn seats<'b>(board: &'b WordBoard, desk: &mut Desk) -> Result<(Card<'b>, AppSeat<'b>), Fail>
     requires desk { desk.old ≡ new_desk board.now }
     requires one { apps_of board.now.setting ≡ 1 }
-    ensures card { IfOk result (λ r. r.0.nic ≡ record { board = board.now; side = new_nic board.now.setting }) }
-    ensures app { IfOk result (λ r. r.1 ≡ record { board = board.now; side = new_app board.now.setting 0 }) }
+    ensures card { IfOk result
+        (λ r. r.0.nic ≡ record { board = board.now; side = new_nic board.now.setting }) }
+    ensures app { IfOk result
+        (λ r. r.1 ≡ record { board = board.now; side = new_app board.now.setting 0 }) }
     ensures desk { IfOk result (λ _. desk.new ≡ gave_role (gave_role desk.old 0) 1) }
 {
     let nic = board.nic(desk).ok_or("no seat of the card")?;

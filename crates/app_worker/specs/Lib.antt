@@ -5,6 +5,8 @@ pub mod Steps
 pub mod State
 pub mod StateOf
 pub mod Moves
+pub mod Works
+pub mod ShelfWent
 pub mod Flushing
 pub mod Whole
 pub mod Kept

@@ -5,7 +5,7 @@ use Rattle.zr_io.specs.Moved.{ShelfCounts}
 use Rattle.board_face.specs.{Texts.{unsplit_bytes}, declared.views.app.AppView.{AppView}}
 use Rattle.flow_queues.specs.{Marks.{FramesStandTogether}, Shelves.{AreShelved, AreFronts}, Streams.{HasFronts, HasAll}, Totals.{lent_bytes}}
 use Rattle.app_worker.specs.{declared.turn.Turn.{Turn, TheVariants.{Failed, Finished}}, Streams.{HasCounted}, State.{State, app_steps, furthest}}
-use Rattle.app_worker.specs.{Moves.{CountsOn, reads_of, reserve_loans}, ReadWhole.{GivesRead}, Turns.{ScrubsIfQuiet, Turns}}
+use Rattle.app_worker.specs.{ShelfWent.{ShelfWent}, Moves.{reads_of, reserve_loans}, ReadWhole.{GivesRead}, Turns.{ScrubsIfQuiet, Turns}}
 
 -- an application between two turns
 pub record AtWork (T : Type 0) : Type 0 where
@@ -44,13 +44,6 @@ pub record CountsRight (state : State) (view : AppView) : Type 0 where
   -- One that came to its end without being stopped has written at least as many bytes as loans.
   pub counts : state.bare ≡ true → state.stopped ≡ No → state.loans ≤ state.written
 
--- What the calls of its shelf did in a turn.
-pub record ShelfWent (was now : State) (calls calls_now : ShelfCounts) (turn : Turn) : Type 0 where
-  pub later : calls.faults ≤ calls_now.faults
-  -- No call failed where that didn't stop the application in this turn, and what is written is what the appends took that went well.
-  pub still : turn ≢ Failed Write → calls_now.faults ≡ calls.faults
-  pub appended : CountsOn was.written now.written calls.appended calls_now.appended
-
 pub record TurnMakes {T : Type 0} (kept : T → ℕ → Option (List ℕ)) (calls : T → ShelfCounts) (was now : AtWork T) (turn : Turn) : Type 0 where
   pub turns : Turns was.state now.state was.view now.view (kept was.shelf) (kept now.shelf) (calls was.shelf).faults (calls now.shelf).faults turn
   pub shows : ShowsStreams kept now turn
@@ -62,4 +55,5 @@ pub record TurnMakes {T : Type 0} (kept : T → ℕ → Option (List ℕ)) (call
       → reads_of was.state was.view < reads_of now.state now.view → now.state.how.hold ≤ length now.state.unread
   -- One that was stopped and hadn't scrubbed has, or it saw a refill slot in use.
   pub scrubs : was.state.stopped ≢ No → ScrubsIfQuiet was.view now.view
-  pub went : ShelfWent was.state now.state (calls was.shelf) (calls now.shelf) turn
+  -- No call of the shelf failed where that didn't stop the application in this turn.
+  pub went : ShelfWent (Failed Write) was.state now.state (calls was.shelf) (calls now.shelf) turn

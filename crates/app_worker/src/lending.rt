@@ -24,7 +24,10 @@ fn post<F: AppFace>(
     requires out { HasPlace (F.seen face.now) lending.loan }
     requires few { lending.loan.len ≤ longest_payload }
     requires room { length posted.old.entries ≢ posted.old.places }
-    ensures post { posted.new ≡ ring (posted.old.entries ++ (completion_of (F.seen face.now).setting.layout flow lending, lending) ∷ []) posted.old.places }
+    ensures post { posted.new ≡ ring (posted.old.entries ++ (
+      completion_of (F.seen face.now).setting.layout flow lending,
+      lending,
+    ) ∷ []) posted.old.places }
     ensures flush { flush.new ≡ flush.old || (lending.loan.buffer == reserve_of (F.seen face.now)) }
 {
     let place = lending.loan.place();
@@ -52,14 +55,19 @@ pub fn deliver<F: AppFace>(
     requires counted { (F.seen face.old).scrubbed ≡ false }
     requires apart { LieApart (F.seen face.old) }
     requires owns { (F.seen face.old).owns ≡ [] }
-    requires out { (f : HeldPiece → ℕ) → over_kept f own.old.queue ≤ total f (F.seen face.old).helds }
+    requires out { (f : HeldPiece → ℕ)
+        → over_kept f own.old.queue ≤ total f (F.seen face.old).helds }
     requires notes { Each (λ k. IsOfNote (F.seen face.old).taken k.piece) own.old.queue.kept }
     requires sized { AreSized marks_of_waiting own.old.queue.kept }
-    requires spare { (F.seen face.old).spares + short_bytes own.old.queue ≤ total unsplit_len (F.seen face.old).taken }
-    ensures delivered { Delivered (F.seen face.old) (F.seen face.new) own.old own.new posted.old posted.new copied.old copied.new flush.old flush.new
+    requires spare { (F.seen face.old).spares + short_bytes own.old.queue
+        ≤ total unsplit_len (F.seen face.old).taken }
+    ensures delivered { Delivered (F.seen face.old) (F.seen face.new) own.old own.new posted.old
+        posted.new copied.old copied.new flush.old flush.new
         result }
-    ensures told { result ≡ Delivery.Unsettled → F.tells RawOnItsWay (app_gist (F.seen face.new)) (F.beside face.new) }
-    ensures no_spare { result ≡ Delivery.ReserveHeld → F.tells NoSpare (app_gist (F.seen face.new)) (F.beside face.new) }
+    ensures told { result ≡ Delivery.Unsettled
+        → F.tells RawOnItsWay (app_gist (F.seen face.new)) (F.beside face.new) }
+    ensures no_spare { result ≡ Delivery.ReserveHeld
+        → F.tells NoSpare (app_gist (F.seen face.new)) (F.beside face.new) }
     ensures beside { F.beside face.new ≡ F.beside face.old }
 {
     if posted.is_full() {

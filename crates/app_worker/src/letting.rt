@@ -15,8 +15,11 @@ use zr_kinds::Completion;
 fn abandon_all<F: AppFace>(face: &mut F, unread: &mut HeapCircularBuffer<(Completion, Lending)>)
     requires here { IsHere (F.seen face.old) }
     requires apart { LieApart (F.seen face.old) }
-    requires out { (f : LentPiece → ℕ) → total (λ p. f (lent_piece (F.seen face.old).taken p.1)) unread.old.items ≤ total f (F.seen face.old).loans }
-    ensures abandons { Abandons (F.seen face.old) (F.seen face.new) (λ f. total (λ p. f (lent_piece (F.seen face.old).taken p.1)) unread.old.items) }
+    requires out { (f : LentPiece → ℕ)
+        → total (λ p. f (lent_piece (F.seen face.old).taken p.1)) unread.old.items
+        ≤ total f (F.seen face.old).loans }
+    ensures abandons { Abandons (F.seen face.old) (F.seen face.new)
+        (λ f. total (λ p. f (lent_piece (F.seen face.old).taken p.1)) unread.old.items) }
     ensures empty { unread.new ≡ buffer [] unread.old.capacity }
     ensures beside { F.beside face.new ≡ F.beside face.old }
 {
@@ -29,8 +32,10 @@ fn abandon_all<F: AppFace>(face: &mut F, unread: &mut HeapCircularBuffer<(Comple
 fn abandon_due<F: AppFace>(face: &mut F, due: &mut Option<Lending>)
     requires here { IsHere (F.seen face.old) }
     requires apart { LieApart (F.seen face.old) }
-    requires out { (f : LentPiece → ℕ) → over_due (F.seen face.old).taken f due.old ≤ total f (F.seen face.old).loans }
-    ensures abandons { Abandons (F.seen face.old) (F.seen face.new) (λ f. over_due (F.seen face.old).taken f due.old) }
+    requires out { (f : LentPiece → ℕ)
+        → over_due (F.seen face.old).taken f due.old ≤ total f (F.seen face.old).loans }
+    ensures abandons { Abandons (F.seen face.old) (F.seen face.new)
+        (λ f. over_due (F.seen face.old).taken f due.old) }
     ensures none { due.new ≡ None }
     ensures beside { F.beside face.new ≡ F.beside face.old }
 {
@@ -43,8 +48,10 @@ fn abandon_due<F: AppFace>(face: &mut F, due: &mut Option<Lending>)
 fn abandon_leaked<F: AppFace>(face: &mut F, leaked: &mut HeapCircularBuffer<Lending>)
     requires here { IsHere (F.seen face.old) }
     requires apart { LieApart (F.seen face.old) }
-    requires out { (f : LentPiece → ℕ) → over_read (F.seen face.old).taken f leaked.old.items ≤ total f (F.seen face.old).loans }
-    ensures abandons { Abandons (F.seen face.old) (F.seen face.new) (λ f. over_read (F.seen face.old).taken f leaked.old.items) }
+    requires out { (f : LentPiece → ℕ)
+        → over_read (F.seen face.old).taken f leaked.old.items ≤ total f (F.seen face.old).loans }
+    ensures abandons { Abandons (F.seen face.old) (F.seen face.new)
+        (λ f. over_read (F.seen face.old).taken f leaked.old.items) }
     ensures empty { leaked.new ≡ buffer [] leaked.old.capacity }
     ensures beside { F.beside face.new ≡ F.beside face.old }
 {

@@ -38,15 +38,20 @@ pub fn read_loan<F: AppFace, T: Shelf>(
     ensures whole { OnOk result (bytes.new ≡ bytes.old + most) }
     ensures short { OnErr result (bytes.new < bytes.old + most) }
     ensures gained { Gained (T.kept shelf.old flow) (T.kept shelf.new flow)
-        (λ (read : List ℕ). IsReadOf (F.seen face.old).taken (F.seen face.new).reads lending.now (bytes.new - bytes.old) most read) }
+        (λ (read : List ℕ). IsReadOf (F.seen face.old).taken (F.seen face.new).reads lending.now
+        (bytes.new - bytes.old) most read) }
     ensures exact { OnOk result (Gained (T.kept shelf.old flow) (T.kept shelf.new flow)
-        (λ (read : List ℕ). IsReadOf (F.seen face.old).taken (F.seen face.new).reads lending.now most most read)) }
-    ensures through { OnOk result (IsReadUpTo (F.seen face.new).reads (lent_piece (F.seen face.old).taken lending.now) most) }
-    ensures others { (other : ℕ) → other ≢ flow → Keeps (T.kept shelf.old other) (T.kept shelf.new other) }
+        (λ (read : List ℕ). IsReadOf (F.seen face.old).taken (F.seen face.new).reads lending.now
+        most most read)) }
+    ensures through { OnOk result
+        (IsReadUpTo (F.seen face.new).reads (lent_piece (F.seen face.old).taken lending.now) most) }
+    ensures others { (other : ℕ) → other ≢ flow
+        → Keeps (T.kept shelf.old other) (T.kept shelf.new other) }
     ensures later { (T.counts shelf.old).faults ≤ (T.counts shelf.new).faults }
     ensures still { OnOk result ((T.counts shelf.new).faults ≡ (T.counts shelf.old).faults) }
     ensures cause { OnErr result (Rose (T.counts shelf.old).faults (T.counts shelf.new).faults) }
-    ensures appended { (T.counts shelf.new).appended ≡ raised_by (T.counts shelf.old).appended (bytes.new - bytes.old) }
+    ensures appended { (T.counts shelf.new).appended
+        ≡ raised_by (T.counts shelf.old).appended (bytes.new - bytes.old) }
     ensures beside { F.beside face.new ≡ F.beside face.old }
 {
     let mut done = 0;
@@ -70,7 +75,8 @@ pub fn keep_due(
     leaked: &mut HeapCircularBuffer<Lending>,
 ) -> bool
     requires room { leaked.old.capacity ≡ most }
-    ensures kept { MatchBool result (KeptDue reserve most due.old due.new leaked.old leaked.new) (NotKept reserve most due.old due.new leaked.old leaked.new) }
+    ensures kept { MatchBool result (KeptDue reserve most due.old due.new leaked.old leaked.new)
+        (NotKept reserve most due.old due.new leaked.old leaked.new) }
 {
     let Some(lending) = due.take() else {
         return false;
@@ -98,9 +104,12 @@ pub fn give_due<F: AppFace>(
 ) -> bool
     requires here { IsHere (F.seen face.old) }
     requires apart { LieApart (F.seen face.old) }
-    requires out { IfSome due.old (λ l. IsIn (lent_piece (F.seen face.old).taken l) (F.seen face.old).loans) }
-    ensures given { Given most (F.seen face.old) (F.seen face.new) due.old due.new stray.old stray.new result }
-    ensures told { result ≡ false → F.tells RefillInUse (app_gist (F.seen face.new)) (F.beside face.new) }
+    requires out { IfSome due.old
+        (λ l. IsIn (lent_piece (F.seen face.old).taken l) (F.seen face.old).loans) }
+    ensures given { Given most (F.seen face.old) (F.seen face.new) due.old due.new stray.old
+        stray.new result }
+    ensures told { result ≡ false
+        → F.tells RefillInUse (app_gist (F.seen face.new)) (F.beside face.new) }
     ensures beside { F.beside face.new ≡ F.beside face.old }
 {
     let Some(lending) = due.take() else {
@@ -148,12 +157,14 @@ pub enum Pushed {
 fn push_stray<F: AppFace>(face: &mut F, stray: &Stray) -> bool
     requires here { IsHere (F.seen face.old) }
     requires counted { (F.seen face.old).scrubbed ≡ false }
-    requires names { judged (F.seen face.old).setting.layout stray.now.entry ≡ Some stray.now.buffer }
+    requires names { judged (F.seen face.old).setting.layout stray.now.entry
+        ≡ Some stray.now.buffer }
     ensures view { MatchBool result
         (((F.seen face.new ≡ F.seen face.old) × IsLive (F.seen face.old) stray.now.buffer)
         ⊎ (F.seen face.new ≡ pushed_raw (F.seen face.old) stray.now.entry))
         (AppOnlySaw RefillInUse (F.seen face.old) (F.seen face.new)) }
-    ensures told { result ≡ false → F.tells RefillInUse (app_gist (F.seen face.new)) (F.beside face.new) }
+    ensures told { result ≡ false
+        → F.tells RefillInUse (app_gist (F.seen face.new)) (F.beside face.new) }
     ensures beside { F.beside face.new ≡ F.beside face.old }
 {
     if face.live(stray.buffer) {
@@ -166,9 +177,11 @@ fn push_stray<F: AppFace>(face: &mut F, stray: &Stray) -> bool
 pub fn push_strays<F: AppFace>(face: &mut F, stray: &mut Stray) -> Pushed
     requires here { IsHere (F.seen face.old) }
     requires counted { (F.seen face.old).scrubbed ≡ false }
-    requires names { 0 < stray.old.left → judged (F.seen face.old).setting.layout stray.old.entry ≡ Some stray.old.buffer }
+    requires names { 0 < stray.old.left
+        → judged (F.seen face.old).setting.layout stray.old.entry ≡ Some stray.old.buffer }
     ensures pushes { Pushes (F.seen face.old) (F.seen face.new) stray.old stray.new result }
-    ensures told { result ≡ Pushed.InUse → F.tells RefillInUse (app_gist (F.seen face.new)) (F.beside face.new) }
+    ensures told { result ≡ Pushed.InUse
+        → F.tells RefillInUse (app_gist (F.seen face.new)) (F.beside face.new) }
     ensures beside { F.beside face.new ≡ F.beside face.old }
 {
     let mut did = false;

@@ -1,8 +1,8 @@
 //! The stages of a turn: lending what is in order, and reading what is more than it keeps unread.
-ghost use Rattle.std.specs.Prelude.{◌≡◌, ◌≢◌, false, true, ◌+◌, ◌≤◌, [], ◌++◌, None, length};
+ghost use Rattle.std.specs.Prelude.{◌≡◌, false, true, ◌+◌, ◌≤◌, [], ◌++◌, length};
 ghost use Rattle.completion_ring.specs.Ring.{ring};
 ghost use Rattle.board_face.specs.{AppCalls.{IsHere}, AppEvents.{app_gist}, declared.views.app.AppLook.TheVariants.{RawOnItsWay, NoSpare, NotQuiet}};
-ghost use Rattle.app_worker.specs.{State.{Working, Common}, StateOf.{state_of}, Moves.{CountsOn}, Stages.{kept_of, ReadsTo, LentSome, LendsAll, ScrubsOnce, Leaves}};
+ghost use Rattle.app_worker.specs.{StateOf.{state_of}, Works.{Works, NoneDue, MayLend}, ShelfWent.{ShelfWent}, Stages.{kept_of, ReadsTo, LentSome, LendsAll, ScrubsOnce, Leaves}};
 
 use crate::letting::let_go;
 use crate::stack::{Delivery, Stack};
@@ -47,7 +47,11 @@ pub enum Lent {
 /// Reaps all that is posted.
 fn reap_all(st: &mut Stack)
     requires { length st.old.unread.items + length st.old.posted.entries ≤ st.old.unread.capacity }
-    ensures { state_of st.new ≡ record (state_of st.old) { unread = st.old.unread.items ++ st.old.posted.entries; posted = ring [] st.old.posted.places } }
+    ensures { state_of st.new
+        ≡ record (state_of st.old) {
+          unread = st.old.unread.items ++ st.old.posted.entries;
+          posted = ring [] st.old.posted.places;
+        } }
 {
     while let Some(entry) = st.posted.reap() {
         let _ = st.unread.try_push_back(entry);
@@ -69,18 +73,13 @@ pub fn drain<F: AppFace, T: Shelf>(
     shelf: &mut T,
     keep: usize,
 ) -> Drained
-    requires here { IsHere (F.seen face.old) }
-    requires working { Working (state_of st.old) (F.seen face.old) }
-    requires common { Common (state_of st.old) (F.seen face.old) }
-    requires due { st.old.due ≡ None }
-    requires pushed { st.old.stray.left ≡ 0 }
-    requires reaped { st.old.posted.entries ≡ [] }
+    requires none { NoneDue (state_of st.old) (F.seen face.old) }
     requires keep { st.old.ended ≡ false → st.old.how.hold ≤ keep }
-    ensures reads { ReadsTo keep (state_of st.old) (state_of st.new) (F.seen face.old) (F.seen face.new) (T.kept shelf.old) (T.kept shelf.new)
+    ensures reads { ReadsTo keep (state_of st.old) (state_of st.new) (F.seen face.old)
+        (F.seen face.new) (T.kept shelf.old) (T.kept shelf.new)
         (T.counts shelf.old).faults (T.counts shelf.new).faults result }
-    ensures later { (T.counts shelf.old).faults ≤ (T.counts shelf.new).faults }
-    ensures still { result ≢ Drained.Failed → (T.counts shelf.new).faults ≡ (T.counts shelf.old).faults }
-    ensures appended { CountsOn st.old.written st.new.written (T.counts shelf.old).appended (T.counts shelf.new).appended }
+    ensures went { ShelfWent Drained.Failed (state_of st.old) (state_of st.new) (T.counts shelf.old)
+        (T.counts shelf.new) result }
     ensures beside { F.beside face.new ≡ F.beside face.old }
 {
     let least = least_kept(st, keep);
@@ -110,13 +109,14 @@ pub fn drain<F: AppFace, T: Shelf>(
 
 /// Lends pieces of the active flow, up to one that can't be lent: whether it lent one, and what ended it.
 fn lend_some<F: AppFace>(face: &mut F, st: &mut Stack) -> (bool, Delivery)
-    requires here { IsHere (F.seen face.old) }
-    requires working { Working (state_of st.old) (F.seen face.old) }
-    requires common { Common (state_of st.old) (F.seen face.old) }
+    requires works { Works (state_of st.old) (F.seen face.old) }
     requires more { st.old.ended ≡ false }
-    ensures lends { LentSome (state_of st.old) (state_of st.new) (F.seen face.old) (F.seen face.new) result.0 result.1 }
-    ensures told { result.1 ≡ Delivery.Unsettled → F.tells RawOnItsWay (app_gist (F.seen face.new)) (F.beside face.new) }
-    ensures no_spare { result.1 ≡ Delivery.ReserveHeld → F.tells NoSpare (app_gist (F.seen face.new)) (F.beside face.new) }
+    ensures lends { LentSome (state_of st.old) (state_of st.new) (F.seen face.old) (F.seen face.new)
+        result.0 result.1 }
+    ensures told { result.1 ≡ Delivery.Unsettled
+        → F.tells RawOnItsWay (app_gist (F.seen face.new)) (F.beside face.new) }
+    ensures no_spare { result.1 ≡ Delivery.ReserveHeld
+        → F.tells NoSpare (app_gist (F.seen face.new)) (F.beside face.new) }
     ensures beside { F.beside face.new ≡ F.beside face.old }
 {
     let mut did = false;
@@ -130,22 +130,16 @@ fn lend_some<F: AppFace>(face: &mut F, st: &mut Stack) -> (bool, Delivery)
 
 /// Lends all that is in order, and reads what is more than it keeps unread.
 pub fn lend_all<F: AppFace, T: Shelf>(face: &mut F, st: &mut Stack, shelf: &mut T) -> Lent
-    requires here { IsHere (F.seen face.old) }
-    requires working { Working (state_of st.old) (F.seen face.old) }
-    requires common { Common (state_of st.old) (F.seen face.old) }
-    requires more { st.old.ended ≡ false }
-    requires due { st.old.due ≡ None }
-    requires pushed { st.old.stray.left ≡ 0 }
-    requires reaped { st.old.posted.entries ≡ [] }
-    requires few { length st.old.unread.items ≤ st.old.how.hold }
-    requires flush { st.old.flush ≡ false }
-    ensures lends { LendsAll (state_of st.old) (state_of st.new) (F.seen face.old) (F.seen face.new) (T.kept shelf.old) (T.kept shelf.new) (T.counts shelf.old).faults
+    requires may { MayLend (state_of st.old) (F.seen face.old) }
+    ensures lends { LendsAll (state_of st.old) (state_of st.new) (F.seen face.old) (F.seen face.new)
+        (T.kept shelf.old) (T.kept shelf.new) (T.counts shelf.old).faults
         (T.counts shelf.new).faults result }
-    ensures told { result ≡ Lent.Stuck → F.tells RawOnItsWay (app_gist (F.seen face.new)) (F.beside face.new) }
-    ensures no_spare { result ≡ Lent.NoSpare → F.tells NoSpare (app_gist (F.seen face.new)) (F.beside face.new) }
-    ensures later { (T.counts shelf.old).faults ≤ (T.counts shelf.new).faults }
-    ensures still { result ≢ Lent.Failed → (T.counts shelf.new).faults ≡ (T.counts shelf.old).faults }
-    ensures appended { CountsOn st.old.written st.new.written (T.counts shelf.old).appended (T.counts shelf.new).appended }
+    ensures told { result ≡ Lent.Stuck
+        → F.tells RawOnItsWay (app_gist (F.seen face.new)) (F.beside face.new) }
+    ensures no_spare { result ≡ Lent.NoSpare
+        → F.tells NoSpare (app_gist (F.seen face.new)) (F.beside face.new) }
+    ensures went { ShelfWent Lent.Failed (state_of st.old) (state_of st.new) (T.counts shelf.old)
+        (T.counts shelf.new) result }
     ensures beside { F.beside face.new ≡ F.beside face.old }
 {
     let mut did = false;
@@ -175,8 +169,10 @@ pub fn scrub<F: AppFace>(face: &mut F, scrubbed: &mut bool) -> bool
     requires here { IsHere (F.seen face.old) }
     requires loans { (F.seen face.old).loans ≡ [] }
     requires known { (F.seen face.old).scrubbed ≡ scrubbed.old }
-    ensures scrubs { ScrubsOnce scrubbed.old scrubbed.new (F.seen face.old) (F.seen face.new) result }
-    ensures told { result ≡ false → F.tells NotQuiet (app_gist (F.seen face.new)) (F.beside face.new) }
+    ensures scrubs { ScrubsOnce scrubbed.old scrubbed.new (F.seen face.old) (F.seen face.new)
+        result }
+    ensures told { result ≡ false
+        → F.tells NotQuiet (app_gist (F.seen face.new)) (F.beside face.new) }
     ensures beside { F.beside face.new ≡ F.beside face.old }
 {
     if *scrubbed {
@@ -199,7 +195,8 @@ pub fn leave<F: AppFace>(face: &mut F, scrubbed: &mut bool) -> bool
     requires ended { (F.seen face.old).ended ≡ true }
     requires known { (F.seen face.old).scrubbed ≡ scrubbed.old }
     ensures leaves { Leaves scrubbed.old scrubbed.new (F.seen face.old) (F.seen face.new) result }
-    ensures told { result ≡ false → F.tells NotQuiet (app_gist (F.seen face.new)) (F.beside face.new) }
+    ensures told { result ≡ false
+        → F.tells NotQuiet (app_gist (F.seen face.new)) (F.beside face.new) }
     ensures beside { F.beside face.new ≡ F.beside face.old }
 {
     if !scrub(face, scrubbed) {

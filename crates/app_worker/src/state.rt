@@ -43,7 +43,8 @@ impl AppState {
         ensures state { IfOk result (λ st. st ≡ new_state app places how) }
         ensures stands { IfOk result (λ st. (v : AppView) → IsFresh app v → AppStands st v) }
         // what the shelf has since the first turn is nothing yet
-        ensures shelved { IfOk result (λ st. (kept : ℕ → Option (List ℕ)) → (v : AppView) → AreShelved kept kept st.flows v) }
+        ensures shelved { IfOk result
+            (λ st. (kept : ℕ → Option (List ℕ)) → (v : AppView) → AreShelved kept kept st.flows v) }
     {
         let room = how.hold as usize + places as usize;
         let unread = HeapCircularBuffer::with_capacity(alloc, room)?;
@@ -146,9 +147,11 @@ pub fn app_turn<F: AppFace, T: Shelf>(
 ) -> Turn
     requires here { IsHere (F.seen face.old) }
     requires stands { AppStands st.old (F.seen face.old) }
-    ensures makes { TurnMakes T.kept T.counts (at_work st.old (F.seen face.old) shelf.old) (at_work st.new (F.seen face.new) shelf.new) result }
+    ensures makes { TurnMakes T.kept T.counts (at_work st.old (F.seen face.old) shelf.old)
+        (at_work st.new (F.seen face.new) shelf.new) result }
     // What it saw is so, on a board for one thread.
-    ensures told { (why : Why) → result ≡ Idle why → F.tells (look_of why) (app_gist (F.seen face.new)) (F.beside face.new) }
+    ensures told { (why : Why) → result ≡ Idle why
+        → F.tells (look_of why) (app_gist (F.seen face.new)) (F.beside face.new) }
     ensures beside { F.beside face.new ≡ F.beside face.old }
 {
     turn(alloc, face, &mut st.stack, shelf)

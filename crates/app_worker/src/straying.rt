@@ -1,7 +1,7 @@
 //! Loans that are due are given back, each followed by its stray entries.
-ghost use Rattle.std.specs.Prelude.{◌≡◌, ℕ, List, Option};
-ghost use Rattle.board_face.specs.{AppCalls.{IsHere}, AppEvents.{app_gist}, declared.views.app.AppLook.TheVariants.{RefillInUse}};
-ghost use Rattle.app_worker.specs.{State.{Working, Common}, StateOf.{state_of}, Moves.{Goes}, Whole.{GivesBack, PushesLeft}};
+ghost use Rattle.std.specs.Prelude.{◌≡◌};
+ghost use Rattle.board_face.specs.{AppEvents.{app_gist}, declared.views.app.AppLook.TheVariants.{RefillInUse}};
+ghost use Rattle.app_worker.specs.{StateOf.{state_of}, Works.{Works, StillWorks}, Whole.{GivesBack, PushesLeft}};
 
 use crate::reading::{Pushed, push_strays};
 use crate::stack::Stack;
@@ -23,14 +23,13 @@ pub enum GivenBack {
 
 /// Writes the stray entries that are left.
 fn push_left<F: AppFace>(face: &mut F, st: &mut Stack) -> Pushed
-    requires here { IsHere (F.seen face.old) }
-    requires working { Working (state_of st.old) (F.seen face.old) }
-    requires common { Common (state_of st.old) (F.seen face.old) }
-    ensures working { Working (state_of st.new) (F.seen face.new) }
-    ensures common { Common (state_of st.new) (F.seen face.new) }
-    ensures goes { (kept : ℕ → Option (List ℕ)) → Goes (state_of st.old) (state_of st.new) (F.seen face.old) (F.seen face.new) kept kept }
-    ensures pushes { PushesLeft (state_of st.old) (state_of st.new) (F.seen face.old) (F.seen face.new) result }
-    ensures told { result ≡ Pushed.InUse → F.tells RefillInUse (app_gist (F.seen face.new)) (F.beside face.new) }
+    requires works { Works (state_of st.old) (F.seen face.old) }
+    ensures works { StillWorks (state_of st.old) (state_of st.new) (F.seen face.old)
+        (F.seen face.new) }
+    ensures pushes { PushesLeft (state_of st.old) (state_of st.new) (F.seen face.old)
+        (F.seen face.new) result }
+    ensures told { result ≡ Pushed.InUse
+        → F.tells RefillInUse (app_gist (F.seen face.new)) (F.beside face.new) }
     ensures beside { F.beside face.new ≡ F.beside face.old }
 {
     push_strays(face, &mut st.stray)
@@ -38,14 +37,13 @@ fn push_left<F: AppFace>(face: &mut F, st: &mut Stack) -> Pushed
 
 /// Gives all back that is due, with the entries that follow it. What was left of these comes first.
 pub fn give_back<F: AppFace>(face: &mut F, st: &mut Stack) -> GivenBack
-    requires here { IsHere (F.seen face.old) }
-    requires working { Working (state_of st.old) (F.seen face.old) }
-    requires common { Common (state_of st.old) (F.seen face.old) }
-    ensures working { Working (state_of st.new) (F.seen face.new) }
-    ensures common { Common (state_of st.new) (F.seen face.new) }
-    ensures goes { (kept : ℕ → Option (List ℕ)) → Goes (state_of st.old) (state_of st.new) (F.seen face.old) (F.seen face.new) kept kept }
-    ensures gives { GivesBack (state_of st.old) (state_of st.new) (F.seen face.old) (F.seen face.new) result }
-    ensures told { result ≡ GivenBack.InUse → F.tells RefillInUse (app_gist (F.seen face.new)) (F.beside face.new) }
+    requires works { Works (state_of st.old) (F.seen face.old) }
+    ensures works { StillWorks (state_of st.old) (state_of st.new) (F.seen face.old)
+        (F.seen face.new) }
+    ensures gives { GivesBack (state_of st.old) (state_of st.new) (F.seen face.old)
+        (F.seen face.new) result }
+    ensures told { result ≡ GivenBack.InUse
+        → F.tells RefillInUse (app_gist (F.seen face.new)) (F.beside face.new) }
     ensures beside { F.beside face.new ≡ F.beside face.old }
 {
     match push_left(face, st) {

@@ -1,8 +1,8 @@
 //! The steps of a turn, over all that an application keeps.
-ghost use Rattle.std.specs.Prelude.{◌≡◌, ◌≢◌, false, true, ℕ, ◌-◌, ◌<◌, ◌≤◌, [], List, Option, None, length, ◌^◌, IfSome, ◌⊎◌};
-ghost use Rattle.board_face.specs.{AppCalls.{IsHere, TookLinear}, Texts.{IsLinearNote}, declared.views.app.{AppView.{AppView}, AppLook.TheVariants.{RawOnItsWay, NoNote as no_note, NoSpare, RefillInUse}}, AppEvents.{app_gist}};
+ghost use Rattle.std.specs.Prelude.{◌≡◌, ◌≢◌, false, true, ◌<◌, ◌≤◌, [], length, ◌^◌, IfSome, ◌⊎◌};
+ghost use Rattle.board_face.specs.{AppCalls.{TookLinear}, Texts.{IsLinearNote}, declared.views.app.{AppView.{AppView}, AppLook.TheVariants.{RawOnItsWay, NoNote as no_note, NoSpare, RefillInUse}}, AppEvents.{app_gist}};
 ghost use Rattle.flow_queues.specs.{Core.{Each}, Totals.{wanted_of}, Flows.{IsAtRest, IsIndex}};
-ghost use Rattle.app_worker.specs.{State.{Working, Common}, StateOf.{state_of}, Moves.{CountsOn, Goes}, Whole.{Lends, Gives, Takes, Reads}};
+ghost use Rattle.app_worker.specs.{State.{Working, Common}, StateOf.{state_of}, Works.{Works, NoneDue, StillWorks}, ShelfWent.{ShelfWent}, Whole.{Lends, Gives, Takes, Reads}};
 
 use crate::lending::deliver;
 use crate::reading::{give_due, keep_due, read_loan};
@@ -40,16 +40,16 @@ pub enum Read {
 
 /// Lends the piece that is next in the stream of the active flow, and posts it.
 pub fn deliver_one<F: AppFace>(face: &mut F, st: &mut Stack) -> Delivery
-    requires here { IsHere (F.seen face.old) }
-    requires working { Working (state_of st.old) (F.seen face.old) }
-    requires common { Common (state_of st.old) (F.seen face.old) }
+    requires works { Works (state_of st.old) (F.seen face.old) }
     requires more { st.old.ended ≡ false }
-    ensures working { Working (state_of st.new) (F.seen face.new) }
-    ensures common { Common (state_of st.new) (F.seen face.new) }
-    ensures goes { (kept : ℕ → Option (List ℕ)) → Goes (state_of st.old) (state_of st.new) (F.seen face.old) (F.seen face.new) kept kept }
-    ensures lends { Lends (state_of st.old) (state_of st.new) (F.seen face.old) (F.seen face.new) result }
-    ensures told { result ≡ Delivery.Unsettled → F.tells RawOnItsWay (app_gist (F.seen face.new)) (F.beside face.new) }
-    ensures no_spare { result ≡ Delivery.ReserveHeld → F.tells NoSpare (app_gist (F.seen face.new)) (F.beside face.new) }
+    ensures works { StillWorks (state_of st.old) (state_of st.new) (F.seen face.old)
+        (F.seen face.new) }
+    ensures lends { Lends (state_of st.old) (state_of st.new) (F.seen face.old) (F.seen face.new)
+        result }
+    ensures told { result ≡ Delivery.Unsettled
+        → F.tells RawOnItsWay (app_gist (F.seen face.new)) (F.beside face.new) }
+    ensures no_spare { result ≡ Delivery.ReserveHeld
+        → F.tells NoSpare (app_gist (F.seen face.new)) (F.beside face.new) }
     ensures beside { F.beside face.new ≡ F.beside face.old }
 {
     if st.active >= st.flows.len() {
@@ -65,14 +65,13 @@ pub fn deliver_one<F: AppFace>(face: &mut F, st: &mut Stack) -> Delivery
 
 /// Gives the loan back that is due, if one is, or keeps it to the end: whether none is due any more.
 pub fn give_one<F: AppFace>(face: &mut F, st: &mut Stack) -> bool
-    requires here { IsHere (F.seen face.old) }
-    requires working { Working (state_of st.old) (F.seen face.old) }
-    requires common { Common (state_of st.old) (F.seen face.old) }
-    ensures working { Working (state_of st.new) (F.seen face.new) }
-    ensures common { Common (state_of st.new) (F.seen face.new) }
-    ensures goes { (kept : ℕ → Option (List ℕ)) → Goes (state_of st.old) (state_of st.new) (F.seen face.old) (F.seen face.new) kept kept }
-    ensures gives { Gives (state_of st.old) (state_of st.new) (F.seen face.old) (F.seen face.new) result }
-    ensures told { result ≡ false → F.tells RefillInUse (app_gist (F.seen face.new)) (F.beside face.new) }
+    requires works { Works (state_of st.old) (F.seen face.old) }
+    ensures works { StillWorks (state_of st.old) (state_of st.new) (F.seen face.old)
+        (F.seen face.new) }
+    ensures gives { Gives (state_of st.old) (state_of st.new) (F.seen face.old) (F.seen face.new)
+        result }
+    ensures told { result ≡ false
+        → F.tells RefillInUse (app_gist (F.seen face.new)) (F.beside face.new) }
     ensures beside { F.beside face.new ≡ F.beside face.old }
 {
     let reserve = face.reserve();
@@ -104,18 +103,14 @@ fn wanted(quit: Option<u64>, written: u64, len: u32) -> u32
 /// Reads the oldest loan that isn't read yet, and appends it, up to the byte at which the application quits. Then the
 /// loan is due.
 pub fn read_one<F: AppFace, T: Shelf>(face: &mut F, st: &mut Stack, shelf: &mut T) -> Read
-    requires here { IsHere (F.seen face.old) }
-    requires working { Working (state_of st.old) (F.seen face.old) }
-    requires common { Common (state_of st.old) (F.seen face.old) }
-    requires due { st.old.due ≡ None }
-    requires pushed { st.old.stray.left ≡ 0 }
-    requires reaped { st.old.posted.entries ≡ [] }
-    requires more { st.old.ended ≡ false → st.old.flush ≡ false → st.old.how.hold < length st.old.unread.items }
-    ensures reads { Reads (state_of st.old) (state_of st.new) (F.seen face.old) (F.seen face.new) (T.kept shelf.old) (T.kept shelf.new) (T.counts shelf.old).faults
+    requires none { NoneDue (state_of st.old) (F.seen face.old) }
+    requires more { st.old.ended ≡ false → st.old.flush ≡ false
+        → st.old.how.hold < length st.old.unread.items }
+    ensures reads { Reads (state_of st.old) (state_of st.new) (F.seen face.old) (F.seen face.new)
+        (T.kept shelf.old) (T.kept shelf.new) (T.counts shelf.old).faults
         (T.counts shelf.new).faults result }
-    ensures later { (T.counts shelf.old).faults ≤ (T.counts shelf.new).faults }
-    ensures still { result ≢ Read.Failed → (T.counts shelf.new).faults ≡ (T.counts shelf.old).faults }
-    ensures appended { CountsOn st.old.written st.new.written (T.counts shelf.old).appended (T.counts shelf.new).appended }
+    ensures went { ShelfWent Read.Failed (state_of st.old) (state_of st.new) (T.counts shelf.old)
+        (T.counts shelf.new) result }
     ensures beside { F.beside face.new ≡ F.beside face.old }
 {
     let Some((completion, lending)) = st.unread.pop_front() else {
@@ -159,8 +154,10 @@ fn take_short(alloc: Global, st: &mut Stack, note: &Note, linear: &[u8]) -> Take
     requires fields { IsLinearNote note.now }
     requires long { note.now.total ≤ length linear.now }
     requires index { IsIndex st.old.index.entries st.old.flows.items }
-    ensures takes { (old new : AppView) → Working (state_of st.old) old → Common (state_of st.old) old → Each IsAtRest st.old.flows.items
-        → st.old.ended ≡ false → TookLinear old new linear.now note.now → Takes (state_of st.old) (state_of st.new) old new result }
+    ensures takes { (old new : AppView) → Working (state_of st.old) old
+        → Common (state_of st.old) old → Each IsAtRest st.old.flows.items
+        → st.old.ended ≡ false → TookLinear old new linear.now note.now
+        → Takes (state_of st.old) (state_of st.new) old new result }
     ensures kind { (result ≡ Taken.Did) ⊎ (result ≡ Taken.Memory) }
 {
     let number = st.notes;
@@ -179,13 +176,13 @@ fn take_short(alloc: Global, st: &mut Stack, note: &Note, linear: &[u8]) -> Take
 
 /// Takes a note. What its flow wants of it enters the flow's queue, and the rest of a piece is given up.
 pub fn take_note<F: AppFace>(alloc: Global, face: &mut F, st: &mut Stack) -> Taken
-    requires here { IsHere (F.seen face.old) }
-    requires working { Working (state_of st.old) (F.seen face.old) }
-    requires common { Common (state_of st.old) (F.seen face.old) }
+    requires works { Works (state_of st.old) (F.seen face.old) }
     requires rest { Each IsAtRest st.old.flows.items }
     requires more { st.old.ended ≡ false }
-    ensures takes { Takes (state_of st.old) (state_of st.new) (F.seen face.old) (F.seen face.new) result }
-    ensures told { result ≡ Taken.NoNote → F.tells no_note (app_gist (F.seen face.new)) (F.beside face.new) }
+    ensures takes { Takes (state_of st.old) (state_of st.new) (F.seen face.old) (F.seen face.new)
+        result }
+    ensures told { result ≡ Taken.NoNote
+        → F.tells no_note (app_gist (F.seen face.new)) (F.beside face.new) }
     ensures beside { F.beside face.new ≡ F.beside face.old }
 {
     let mut linear = [0; 256];

@@ -1,7 +1,7 @@
 //! One turn of an application.
-ghost use Rattle.std.specs.Prelude.{◌≡◌, ◌≢◌, false, true, ℕ, ◌≤◌, [], List, Option, Some, None, MatchOption, length, if◌then◌else◌};
+ghost use Rattle.std.specs.Prelude.{◌≡◌, ◌≢◌, true, ℕ, [], List, Option, Some, MatchOption};
 ghost use Rattle.board_face.specs.{AppCalls.{IsHere, ToldEnd}, AppEvents.{app_gist}};
-ghost use Rattle.app_worker.specs.{declared.turn.{Why.{Why}, Turn.{Turn, TheVariants.{Did, Idle, Failed, Finished}}}, State.{Working, Common, Bare, AppStands}, StateOf.{state_of}, Moves.{CountsOn}, Turns.{Passes, Turns, look_of, turn_after}};
+ghost use Rattle.app_worker.specs.{declared.turn.{Why.{Why}, Turn.{Turn, TheVariants.{Did, Idle, Failed, Finished}}}, State.{Common, Bare, AppStands}, StateOf.{state_of}, Works.{NoneDue, MayLend}, ShelfWent.{ShelfWent}, Turns.{Passes, Turns, look_of, turn_after}};
 ghost use Rattle.zr_kinds.specs.declared.fault.Fault.TheVariants.{Write};
 ghost use Rattle.flow_queues.specs.{Core.{Each}, Flows.{IsAtRest}};
 
@@ -31,9 +31,11 @@ fn after(did: bool, turn: Turn) -> Turn
 fn pass_note<F: AppFace>(face: &mut F) -> Option<Turn>
     requires here { IsHere (F.seen face.old) }
     requires helds { (F.seen face.old).helds ≡ [] }
-    ensures passes { MatchOption result (ToldEnd (F.seen face.old) (F.seen face.new)) (λ turn. Passes (F.seen face.old) (F.seen face.new) turn) }
+    ensures passes { MatchOption result (ToldEnd (F.seen face.old) (F.seen face.new))
+        (λ turn. Passes (F.seen face.old) (F.seen face.new) turn) }
     ensures busy { (turn : Turn) → result ≡ Some turn → turn ≢ Finished }
-    ensures told { (why : Why) → result ≡ Some (Idle why) → F.tells (look_of why) (app_gist (F.seen face.new)) (F.beside face.new) }
+    ensures told { (why : Why) → result ≡ Some (Idle why)
+        → F.tells (look_of why) (app_gist (F.seen face.new)) (F.beside face.new) }
     ensures beside { F.beside face.new ≡ F.beside face.old }
 {
     let mut linear = [0; 256];
@@ -57,8 +59,10 @@ fn bare_turn<F: AppFace>(face: &mut F, st: &mut Stack) -> Turn
     requires common { Common (state_of st.old) (F.seen face.old) }
     requires reaped { st.old.posted.entries ≡ [] }
     ensures turns { (kept : ℕ → Option (List ℕ)) (faults : ℕ)
-        → Turns (state_of st.old) (state_of st.new) (F.seen face.old) (F.seen face.new) kept kept faults faults result }
-    ensures told { (why : Why) → result ≡ Idle why → F.tells (look_of why) (app_gist (F.seen face.new)) (F.beside face.new) }
+        → Turns (state_of st.old) (state_of st.new) (F.seen face.old) (F.seen face.new) kept kept
+        faults faults result }
+    ensures told { (why : Why) → result ≡ Idle why
+        → F.tells (look_of why) (app_gist (F.seen face.new)) (F.beside face.new) }
     ensures beside { F.beside face.new ≡ F.beside face.old }
 {
     if st.ended {
@@ -85,20 +89,15 @@ fn bare_turn<F: AppFace>(face: &mut F, st: &mut Stack) -> Turn
 
 /// Reads all that is unread, gives all up and leaves.
 fn close<F: AppFace, T: Shelf>(face: &mut F, st: &mut Stack, shelf: &mut T) -> Turn
-    requires here { IsHere (F.seen face.old) }
-    requires working { Working (state_of st.old) (F.seen face.old) }
-    requires common { Common (state_of st.old) (F.seen face.old) }
+    requires none { NoneDue (state_of st.old) (F.seen face.old) }
     requires ended { st.old.ended ≡ true }
-    requires due { st.old.due ≡ None }
-    requires pushed { st.old.stray.left ≡ 0 }
-    requires reaped { st.old.posted.entries ≡ [] }
-    ensures turns { Turns (state_of st.old) (state_of st.new) (F.seen face.old) (F.seen face.new) (T.kept shelf.old) (T.kept shelf.new) (T.counts shelf.old).faults
+    ensures turns { Turns (state_of st.old) (state_of st.new) (F.seen face.old) (F.seen face.new)
+        (T.kept shelf.old) (T.kept shelf.new) (T.counts shelf.old).faults
         (T.counts shelf.new).faults result }
     ensures busy { (why : Why) → result ≢ Idle why }
     ensures same { (F.seen face.new).taken ≡ (F.seen face.old).taken }
-    ensures later { (T.counts shelf.old).faults ≤ (T.counts shelf.new).faults }
-    ensures still { result ≢ Failed Write → (T.counts shelf.new).faults ≡ (T.counts shelf.old).faults }
-    ensures appended { CountsOn st.old.written st.new.written (T.counts shelf.old).appended (T.counts shelf.new).appended }
+    ensures went { ShelfWent (Failed Write) (state_of st.old) (state_of st.new) (T.counts shelf.old)
+        (T.counts shelf.new) result }
     ensures beside { F.beside face.new ≡ F.beside face.old }
 {
     match drain(face, st, shelf, 0) {
@@ -117,22 +116,15 @@ fn close<F: AppFace, T: Shelf>(face: &mut F, st: &mut Stack, shelf: &mut T) -> T
 
 /// Looks for a note, and goes on with what that brings.
 fn look<F: AppFace, T: Shelf>(alloc: Global, face: &mut F, st: &mut Stack, shelf: &mut T) -> Turn
-    requires here { IsHere (F.seen face.old) }
-    requires working { Working (state_of st.old) (F.seen face.old) }
-    requires common { Common (state_of st.old) (F.seen face.old) }
-    requires more { st.old.ended ≡ false }
+    requires may { MayLend (state_of st.old) (F.seen face.old) }
     requires rest { Each IsAtRest st.old.flows.items }
-    requires due { st.old.due ≡ None }
-    requires pushed { st.old.stray.left ≡ 0 }
-    requires reaped { st.old.posted.entries ≡ [] }
-    requires few { length st.old.unread.items ≤ st.old.how.hold }
-    requires flush { st.old.flush ≡ false }
-    ensures turns { Turns (state_of st.old) (state_of st.new) (F.seen face.old) (F.seen face.new) (T.kept shelf.old) (T.kept shelf.new) (T.counts shelf.old).faults
+    ensures turns { Turns (state_of st.old) (state_of st.new) (F.seen face.old) (F.seen face.new)
+        (T.kept shelf.old) (T.kept shelf.new) (T.counts shelf.old).faults
         (T.counts shelf.new).faults result }
-    ensures told { (why : Why) → result ≡ Idle why → F.tells (look_of why) (app_gist (F.seen face.new)) (F.beside face.new) }
-    ensures later { (T.counts shelf.old).faults ≤ (T.counts shelf.new).faults }
-    ensures still { result ≢ Failed Write → (T.counts shelf.new).faults ≡ (T.counts shelf.old).faults }
-    ensures appended { CountsOn st.old.written st.new.written (T.counts shelf.old).appended (T.counts shelf.new).appended }
+    ensures told { (why : Why) → result ≡ Idle why
+        → F.tells (look_of why) (app_gist (F.seen face.new)) (F.beside face.new) }
+    ensures went { ShelfWent (Failed Write) (state_of st.old) (state_of st.new) (T.counts shelf.old)
+        (T.counts shelf.new) result }
     ensures beside { F.beside face.new ≡ F.beside face.old }
 {
     match take_note(alloc, face, st) {
@@ -155,21 +147,14 @@ fn look<F: AppFace, T: Shelf>(alloc: Global, face: &mut F, st: &mut Stack, shelf
 
 /// Lends what is in order. Where nothing is, looks for a note.
 fn go_on<F: AppFace, T: Shelf>(alloc: Global, face: &mut F, st: &mut Stack, shelf: &mut T) -> Turn
-    requires here { IsHere (F.seen face.old) }
-    requires working { Working (state_of st.old) (F.seen face.old) }
-    requires common { Common (state_of st.old) (F.seen face.old) }
-    requires more { st.old.ended ≡ false }
-    requires due { st.old.due ≡ None }
-    requires pushed { st.old.stray.left ≡ 0 }
-    requires reaped { st.old.posted.entries ≡ [] }
-    requires few { length st.old.unread.items ≤ st.old.how.hold }
-    requires flush { st.old.flush ≡ false }
-    ensures turns { Turns (state_of st.old) (state_of st.new) (F.seen face.old) (F.seen face.new) (T.kept shelf.old) (T.kept shelf.new) (T.counts shelf.old).faults
+    requires may { MayLend (state_of st.old) (F.seen face.old) }
+    ensures turns { Turns (state_of st.old) (state_of st.new) (F.seen face.old) (F.seen face.new)
+        (T.kept shelf.old) (T.kept shelf.new) (T.counts shelf.old).faults
         (T.counts shelf.new).faults result }
-    ensures told { (why : Why) → result ≡ Idle why → F.tells (look_of why) (app_gist (F.seen face.new)) (F.beside face.new) }
-    ensures later { (T.counts shelf.old).faults ≤ (T.counts shelf.new).faults }
-    ensures still { result ≢ Failed Write → (T.counts shelf.new).faults ≡ (T.counts shelf.old).faults }
-    ensures appended { CountsOn st.old.written st.new.written (T.counts shelf.old).appended (T.counts shelf.new).appended }
+    ensures told { (why : Why) → result ≡ Idle why
+        → F.tells (look_of why) (app_gist (F.seen face.new)) (F.beside face.new) }
+    ensures went { ShelfWent (Failed Write) (state_of st.old) (state_of st.new) (T.counts shelf.old)
+        (T.counts shelf.new) result }
     ensures beside { F.beside face.new ≡ F.beside face.old }
 {
     match lend_all(face, st, shelf) {
@@ -184,18 +169,14 @@ fn go_on<F: AppFace, T: Shelf>(alloc: Global, face: &mut F, st: &mut Stack, shel
 
 /// A turn of an application that goes on, once nothing is due.
 fn work<F: AppFace, T: Shelf>(alloc: Global, face: &mut F, st: &mut Stack, shelf: &mut T) -> Turn
-    requires here { IsHere (F.seen face.old) }
-    requires working { Working (state_of st.old) (F.seen face.old) }
-    requires common { Common (state_of st.old) (F.seen face.old) }
-    requires due { st.old.due ≡ None }
-    requires pushed { st.old.stray.left ≡ 0 }
-    requires reaped { st.old.posted.entries ≡ [] }
-    ensures turns { Turns (state_of st.old) (state_of st.new) (F.seen face.old) (F.seen face.new) (T.kept shelf.old) (T.kept shelf.new) (T.counts shelf.old).faults
+    requires none { NoneDue (state_of st.old) (F.seen face.old) }
+    ensures turns { Turns (state_of st.old) (state_of st.new) (F.seen face.old) (F.seen face.new)
+        (T.kept shelf.old) (T.kept shelf.new) (T.counts shelf.old).faults
         (T.counts shelf.new).faults result }
-    ensures told { (why : Why) → result ≡ Idle why → F.tells (look_of why) (app_gist (F.seen face.new)) (F.beside face.new) }
-    ensures later { (T.counts shelf.old).faults ≤ (T.counts shelf.new).faults }
-    ensures still { result ≢ Failed Write → (T.counts shelf.new).faults ≡ (T.counts shelf.old).faults }
-    ensures appended { CountsOn st.old.written st.new.written (T.counts shelf.old).appended (T.counts shelf.new).appended }
+    ensures told { (why : Why) → result ≡ Idle why
+        → F.tells (look_of why) (app_gist (F.seen face.new)) (F.beside face.new) }
+    ensures went { ShelfWent (Failed Write) (state_of st.old) (state_of st.new) (T.counts shelf.old)
+        (T.counts shelf.new) result }
     ensures beside { F.beside face.new ≡ F.beside face.old }
 {
     if st.ended {
@@ -222,12 +203,13 @@ pub fn turn<F: AppFace, T: Shelf>(
 ) -> Turn
     requires here { IsHere (F.seen face.old) }
     requires stands { AppStands (state_of st.old) (F.seen face.old) }
-    ensures turns { Turns (state_of st.old) (state_of st.new) (F.seen face.old) (F.seen face.new) (T.kept shelf.old) (T.kept shelf.new) (T.counts shelf.old).faults
+    ensures turns { Turns (state_of st.old) (state_of st.new) (F.seen face.old) (F.seen face.new)
+        (T.kept shelf.old) (T.kept shelf.new) (T.counts shelf.old).faults
         (T.counts shelf.new).faults result }
-    ensures told { (why : Why) → result ≡ Idle why → F.tells (look_of why) (app_gist (F.seen face.new)) (F.beside face.new) }
-    ensures later { (T.counts shelf.old).faults ≤ (T.counts shelf.new).faults }
-    ensures still { result ≢ Failed Write → (T.counts shelf.new).faults ≡ (T.counts shelf.old).faults }
-    ensures appended { CountsOn st.old.written st.new.written (T.counts shelf.old).appended (T.counts shelf.new).appended }
+    ensures told { (why : Why) → result ≡ Idle why
+        → F.tells (look_of why) (app_gist (F.seen face.new)) (F.beside face.new) }
+    ensures went { ShelfWent (Failed Write) (state_of st.old) (state_of st.new) (T.counts shelf.old)
+        (T.counts shelf.new) result }
     ensures beside { F.beside face.new ≡ F.beside face.old }
 {
     if st.bare {

@@ -22,7 +22,8 @@ pub fn put<T: Copy>(list: &mut Vec<T>, at: usize, value: T)
 pub fn raise(counts: &mut Vec<u64>, at: usize)
     requires there { at < length counts.old.items }
     requires fits { slice_index counts.old.items at + 1 < 2 ^ 64 }
-    ensures { counts.new.items ≡ slice_set counts.old.items at (slice_index counts.old.items at + 1) }
+    ensures { counts.new.items
+        ≡ slice_set counts.old.items at (slice_index counts.old.items at + 1) }
 {
     counts[at] += 1;
 }
@@ -31,7 +32,8 @@ pub fn raise(counts: &mut Vec<u64>, at: usize)
 pub fn lower(counts: &mut Vec<u64>, at: usize) -> u64
     requires there { at < length counts.old.items }
     requires some { 0 < slice_index counts.old.items at }
-    ensures counts { counts.new.items ≡ slice_set counts.old.items at (slice_index counts.old.items at - 1) }
+    ensures counts { counts.new.items
+        ≡ slice_set counts.old.items at (slice_index counts.old.items at - 1) }
     ensures left { result ≡ slice_index counts.old.items at - 1 }
 {
     let count = &mut counts[at];
@@ -42,7 +44,8 @@ pub fn lower(counts: &mut Vec<u64>, at: usize) -> u64
 /// One less at this place, where it isn't 0.
 pub fn lower_if_some(counts: &mut Vec<u32>, at: usize)
     requires { at < length counts.old.items }
-    ensures { counts.new.items ≡ slice_set counts.old.items at (slice_index counts.old.items at - 1) }
+    ensures { counts.new.items
+        ≡ slice_set counts.old.items at (slice_index counts.old.items at - 1) }
 {
     counts[at] = counts[at].saturating_sub(1);
 }

@@ -89,7 +89,8 @@ pub fn diaries(
     apps: u32,
     places: u32,
 ) -> Result<Vec<Diary<AppSide, Brand>>, AllocError>
-    ensures { IfOk result (λ v. v.items ≡ new_apps (record { layout = layout; places = places }) 0 apps) }
+    ensures { IfOk result (λ v.
+        v.items ≡ new_apps (record { layout = layout; places = places }) 0 apps) }
 {
     let mut diaries = Vec::with_capacity(alloc, apps as usize)?;
     for app in 0..apps {

@@ -11,7 +11,8 @@ pub fn owed_buffer(layout: &Layout, users: &[u64], app: u32, entry: &Rqe) -> Opt
     requires app { app < layout.now.reserves }
     requires sizes { length users.now ≡ layout.now.reserves * total layout.now }
     ensures { MatchOption result
-        (IfSome (judged layout.now entry.now) (λ buffer. slice_index users.now (user_at layout.now app buffer) ≡ 0))
+        (IfSome (judged layout.now entry.now)
+        (λ buffer. slice_index users.now (user_at layout.now app buffer) ≡ 0))
         (λ buffer. (judged layout.now entry.now ≡ Some buffer)
         × (buffer < total layout.now)
         × (0 < slice_index users.now (user_at layout.now app buffer))) }

@@ -15,7 +15,8 @@ pub type Cache = ArrayVec<u32, CACHE_ROOM>;
 /// Where a pool buffer came to be free, puts it into the cache, or onto the free list where the cache is full.
 pub fn free_if(free: bool, buffer: u32, cache: &mut Cache, listed: &mut Vec<bool>)
     requires there { IsTrue free → buffer < length listed.old.items }
-    ensures cache { cache.new.items ≡ (if free then cached cache.old.items buffer else cache.old.items) }
+    ensures cache { cache.new.items
+        ≡ (if free then cached cache.old.items buffer else cache.old.items) }
     ensures listed { listed.new.items ≡
         (if free then relisted cache.old.items listed.old.items buffer else listed.old.items) }
 {
@@ -27,7 +28,8 @@ pub fn free_if(free: bool, buffer: u32, cache: &mut Cache, listed: &mut Vec<bool
 /// Where a pool buffer came to be free, puts it onto the free list.
 pub fn list_if(free: bool, buffer: u32, listed: &mut Vec<bool>)
     requires { IsTrue free → buffer < length listed.old.items }
-    ensures { listed.new.items ≡ (if free then slice_set listed.old.items buffer true else listed.old.items) }
+    ensures { listed.new.items
+        ≡ (if free then slice_set listed.old.items buffer true else listed.old.items) }
 {
     if free {
         listed[buffer as usize] = true;
@@ -52,7 +54,8 @@ pub fn move_word(word: u32, cache: &mut Cache, listed: &mut Vec<bool>) -> u32
     ensures cache { cache.new.items ≡ cache.old.items ++ found_in listed.old.items word }
     ensures count { result ≡ length (found_in listed.old.items word) }
     ensures len { length listed.new.items ≡ length listed.old.items }
-    ensures taken { (b : ℕ) → word_bits * word ≤ b → b < word_end listed.old.items word → listed_in listed.new.items b ≡ false }
+    ensures taken { (b : ℕ) → word_bits * word ≤ b → b < word_end listed.old.items word
+        → listed_in listed.new.items b ≡ false }
     ensures others { (b : ℕ) → (b < word_bits * word) ⊎ (word_end listed.old.items word ≤ b)
         → listed_in listed.new.items b ≡ listed_in listed.old.items b }
 {
@@ -76,7 +79,8 @@ fn take_listed(listed: &mut Vec<bool>) -> Option<u32>
     requires { length listed.old.items ≤ 4096 }
     ensures { MatchOption result
         (HasNoneListed listed.old.items × (listed.new.items ≡ listed.old.items))
-        (λ buffer. IsLowest listed.old.items buffer × (listed.new.items ≡ slice_set listed.old.items buffer false)) }
+        (λ buffer. IsLowest listed.old.items buffer
+        × (listed.new.items ≡ slice_set listed.old.items buffer false)) }
 {
     let lowest = listed.iter().position(|listed| *listed)?;
     listed[lowest] = false;
@@ -88,7 +92,8 @@ pub fn pick_spare(listed: &mut Vec<bool>, pool: &[u64], reserve: u32) -> Option<
     requires few { length listed.old.items ≤ 4096 }
     requires reserve { reserve < length pool.now }
     ensures { MatchOption result
-        (HasNoneListed listed.old.items × (0 < slice_index pool.now reserve) × (listed.new.items ≡ listed.old.items))
+        (HasNoneListed listed.old.items × (0 < slice_index pool.now reserve)
+        × (listed.new.items ≡ listed.old.items))
         (IsPicked listed.old.items listed.new.items pool.now reserve) }
 {
     if let Some(lowest) = take_listed(listed) {
@@ -114,7 +119,8 @@ fn append_cached(cache: &Cache, free: &mut Vec<u32>)
 /// Puts the listed buffers behind those that are there, the lowest first.
 fn append_listed(listed: &[bool], free: &mut Vec<u32>)
     requires few { length listed.now ≤ 4096 }
-    requires room { length free.old.items + length (listed_below listed.now (length listed.now)) ≤ vec_capacity free.old }
+    requires room { length free.old.items + length (listed_below listed.now (length listed.now))
+        ≤ vec_capacity free.old }
     ensures items { free.new.items ≡ free.old.items ++ listed_below listed.now (length listed.now) }
     ensures room { vec_capacity free.new ≡ vec_capacity free.old }
 {
@@ -129,7 +135,8 @@ fn append_listed(listed: &[bool], free: &mut Vec<u32>)
 pub fn all_free(cache: &Cache, listed: &[bool], free: &mut Vec<u32>)
     requires empty { free.old.items ≡ [] }
     requires few { length listed.now ≤ 4096 }
-    requires room { length cache.now.items + length (listed_below listed.now (length listed.now)) ≤ vec_capacity free.old }
+    requires room { length cache.now.items + length (listed_below listed.now (length listed.now))
+        ≤ vec_capacity free.old }
     ensures { free.new.items ≡ cache.now.items ++ listed_below listed.now (length listed.now) }
 {
     append_cached(cache, free);

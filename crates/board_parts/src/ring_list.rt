@@ -27,7 +27,8 @@ pub fn put_back<T: Drop>(rings: &mut Vec<HeapCircularBuffer<T>>, at: usize, slot
         (rings.new.items ≡ slice_set rings.old.items at (pushed (ring_in rings.old.items at) slot))
         ((rings.new.items ≡ rings.old.items)
         × ((ring_in rings.old.items at).capacity ≤ length (ring_in rings.old.items at).items)) }
-    ensures room { IsTrue result → length (ring_in rings.old.items at).items < (ring_in rings.old.items at).capacity }
+    ensures room { IsTrue result
+        → length (ring_in rings.old.items at).items < (ring_in rings.old.items at).capacity }
 {
     let ring = &mut rings[at];
     ring.try_push_back(slot).is_ok()
@@ -37,7 +38,8 @@ pub fn put_back<T: Drop>(rings: &mut Vec<HeapCircularBuffer<T>>, at: usize, slot
 pub fn take_front<T: Drop>(rings: &mut Vec<HeapCircularBuffer<T>>, at: usize) -> Option<T>
     requires { at < length rings.old.items }
     ensures front { result ≡ slice_get (ring_in rings.old.items at).items 0 }
-    ensures rings { rings.new.items ≡ slice_set rings.old.items at (popped (ring_in rings.old.items at)) }
+    ensures rings { rings.new.items
+        ≡ slice_set rings.old.items at (popped (ring_in rings.old.items at)) }
 {
     let ring = &mut rings[at];
     ring.pop_front()

@@ -19,7 +19,8 @@ pub fn take_back(
     requires pool { length pool.old.items ≡ total layout.now }
     requires listed { length listed.old.items ≡ pool_buffers layout.now }
     requires few { HasFewUsers layout.now app users.old.items pool.old.items }
-    ensures { TakesBack layout.now app users.old.items users.new.items pool.old.items pool.new.items listed.old.items listed.new.items }
+    ensures { TakesBack layout.now app users.old.items users.new.items pool.old.items pool.new.items
+        listed.old.items listed.new.items }
 {
     for buffer in 0..layout.total() {
         let user = user_index(layout, app, buffer);

@@ -102,7 +102,8 @@ fn face_call<N: NicFace, A: AppFace>(
     ensures card { IsCardHand (N.seen nic.new) card.new }
     ensures app { IsAppHand (A.seen seat.new) app.new }
     ensures number { (A.seen seat.new).app ≡ (A.seen seat.old).app }
-    ensures beside { (N.beside nic.new ≡ N.beside nic.old) × (A.beside seat.new ≡ A.beside seat.old) }
+    ensures beside { (N.beside nic.new ≡ N.beside nic.old)
+        × (A.beside seat.new ≡ A.beside seat.old) }
 {
     match call {
         Call::Card(call) => card_call(nic, card, call),
@@ -125,7 +126,8 @@ pub fn face_rows<N: NicFace, A: AppFace>(
     ensures card { IsCardHand (N.seen nic.new) card.new }
     ensures app { IsAppHand (A.seen seat.new) app.new }
     ensures number { (A.seen seat.new).app ≡ (A.seen seat.old).app }
-    ensures beside { (N.beside nic.new ≡ N.beside nic.old) × (A.beside seat.new ≡ A.beside seat.old) }
+    ensures beside { (N.beside nic.new ≡ N.beside nic.old)
+        × (A.beside seat.new ≡ A.beside seat.old) }
 {
     let mut number = 0u32;
     for row in table {

@@ -11,8 +11,10 @@ use crate::reader::Reader;
 fn drop_next(card: &mut CardLane<'_>)
     requires some { 0 < length (known_items card.old.frames) }
     ensures drops { CardDrops card.old card.new }
-    ensures known { length (known_items card.old.frames) ≡ length (known_items card.new.frames) + 1 }
-    ensures all { received card.new.frames ++ known_items card.new.frames ≡ received card.old.frames ++ known_items card.old.frames }
+    ensures known { length (known_items card.old.frames)
+        ≡ length (known_items card.new.frames) + 1 }
+    ensures all { received card.new.frames ++ known_items card.new.frames
+        ≡ received card.old.frames ++ known_items card.old.frames }
 {
     card.frames.pop_known();
 }

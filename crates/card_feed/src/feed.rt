@@ -42,7 +42,9 @@ impl Feed {
         requires { IsPlan plan.now }
         ensures value { IfOk result (λ feed. feed ≡ new_feed plan.now.ports.items plan.now.split) }
         // It fits each face that is open and has no token out.
-        ensures ready { IfOk result (λ feed. (v : NicView) → IsOpen v → HasNoToken v → length plan.now.ports.items ≡ apps_of v.setting
+        ensures ready { IfOk result
+            (λ feed. (v : NicView) → IsOpen v → HasNoToken v
+            → length plan.now.ports.items ≡ apps_of v.setting
             → IsReady feed v) }
     {
         Ok(Feed {
@@ -109,7 +111,8 @@ impl Feed {
     /// The application that a flow goes to.
     pub fn flow_app(&self, flow: u32) -> u32
         requires { flow < length self.now.flows }
-        ensures app { option_map (λ (f : Flow). f.app) (slice_get self.now.flows flow) ≡ Some result }
+        ensures app { option_map (λ (f : Flow). f.app) (slice_get self.now.flows flow)
+            ≡ Some result }
         ensures port { result < length self.now.ports }
     {
         self.intake.table.line(flow).app
@@ -172,7 +175,8 @@ fn flow_end(flow: &FlowInfo, bytes: u64) -> FlowEnd
 /// The line of a flow, of which so many bytes were written.
 fn flow_line(flow: &FlowInfo, apps: &[AppLine], bytes: u64) -> FlowLine
     requires { flow.now.app < length apps.now }
-    ensures { (f : Flow) (none : AppLine) → info_of f ≡ flow.now → (get_or apps.now f.app none).port ≡ f.key.dport → result ≡ line_of f bytes }
+    ensures { (f : Flow) (none : AppLine) → info_of f ≡ flow.now
+        → (get_or apps.now f.app none).port ≡ f.key.dport → result ≡ line_of f bytes }
 {
     FlowLine {
         port: apps[flow.app as usize].port,
@@ -193,7 +197,8 @@ fn flow_lines(
     requires many { length apps.now ≡ length table.now.ports }
     requires apps { HaveApps table.now.ports table.now.flows }
     requires bytes { length bytes.now ≡ length table.now.flows }
-    ensures { IfOk result (λ lines. HavePorts table.now.ports apps.now → AreLinesOf table.now.flows bytes.now lines.items) }
+    ensures { IfOk result (λ lines. HavePorts table.now.ports apps.now
+        → AreLinesOf table.now.flows bytes.now lines.items) }
 {
     let mut lines = Vec::with_capacity(alloc, bytes.len())?;
     for number in 0..table.count() {

@@ -31,11 +31,13 @@ fn offer<F: NicFace>(route: &Route, frame: &[u8], pool: &mut Pool, face: &mut F)
     requires some { 0 < route.now.len }
     requires most { route.now.len ≤ longest_payload }
     ensures stands { PoolStands pool.new (F.seen face.new) }
-    ensures offers { (o : TheOffer) × (offered o ≡ offered_by route.now (take route.now.len (payload_in frame.now)))
+    ensures offers { (o : TheOffer)
+        × (offered o ≡ offered_by route.now (take route.now.len (payload_in frame.now)))
         × Offers pool.old pool.new (F.seen face.old) (F.seen face.new) o result }
     ensures rest { KeepsRest (F.seen face.old) (F.seen face.new) }
     ensures pending { (app : ℕ) → IsNextApp pool.new app
-        → NicRose (NoteInUse app) (F.seen face.old) (F.seen face.new) × F.tells (NoteInUse app) (nic_gist (F.seen face.new)) (F.beside face.new) }
+        → NicRose (NoteInUse app) (F.seen face.old) (F.seen face.new)
+        × F.tells (NoteInUse app) (nic_gist (F.seen face.new)) (F.beside face.new) }
     ensures beside { F.beside face.new ≡ F.beside face.old }
 {
     let offer = Offer {
@@ -63,16 +65,22 @@ pub fn offer_hand<F: NicFace>(
     requires apps { length intake.old.table.ports ≡ apps_of (F.seen face.old).setting }
     requires split { pool.old.split ≡ intake.old.split }
     ensures stands { PoolStands pool.new (F.seen face.new) }
-    ensures offers { OffersHand (feed_of intake.old pool.old false) (feed_of intake.new pool.new false) (F.seen face.old) (F.seen face.new)
+    ensures offers { OffersHand (feed_of intake.old pool.old false)
+        (feed_of intake.new pool.new false) (F.seen face.old) (F.seen face.new)
         (offered_by route (take route.len (payload_in intake.old.bytes.items))) }
     ensures split { (intake.new.split ≡ intake.old.split) × (pool.new.split ≡ pool.old.split) }
-    ensures same { (intake.new.stage ≡ intake.old.stage) × (intake.new.counting.tally ≡ intake.old.counting.tally)
+    ensures same { (intake.new.stage ≡ intake.old.stage)
+        × (intake.new.counting.tally ≡ intake.old.counting.tally)
         × (intake.new.table.ports ≡ intake.old.table.ports) }
-    ensures setting { ((F.seen face.new).setting ≡ (F.seen face.old).setting) × IsOpen (F.seen face.new) }
+    ensures setting { ((F.seen face.new).setting ≡ (F.seen face.old).setting)
+        × IsOpen (F.seen face.new) }
     ensures waits { intake.new.hand ≢ None → 0 < pending_count pool.new }
     ensures later { card_steps false (F.seen face.old) ≤ card_steps false (F.seen face.new) }
-    ensures rises { result ≡ true → 0 < pending_count pool.old → card_steps false (F.seen face.old) < card_steps false (F.seen face.new) }
-    ensures idle { result ≡ false → IsIdle F.tells (F.beside face.new) (feed_of intake.old pool.old false) (feed_of intake.new pool.new false)
+    ensures rises { result ≡ true → 0 < pending_count pool.old
+        → card_steps false (F.seen face.old) < card_steps false (F.seen face.new) }
+    ensures idle { result ≡ false
+        → IsIdle F.tells (F.beside face.new) (feed_of intake.old pool.old false)
+        (feed_of intake.new pool.new false)
         (F.seen face.old) (F.seen face.new) }
     ensures beside { F.beside face.new ≡ F.beside face.old }
 {
@@ -101,12 +109,14 @@ pub fn finish<F: NicFace>(pool: &mut Pool, closed: &mut bool, face: &mut F) -> b
     requires stands { PoolStands pool.old (F.seen face.old) }
     ensures stands { PoolStands pool.new (F.seen face.new) }
     ensures finishes { (intake : TheIntake) → intake.hand ≡ None
-        → Finishes (feed_of intake pool.old closed.old) (feed_of intake pool.new closed.new) (F.seen face.old) (F.seen face.new) }
+        → Finishes (feed_of intake pool.old closed.old) (feed_of intake pool.new closed.new)
+        (F.seen face.old) (F.seen face.new) }
     ensures split { pool.new.split ≡ pool.old.split }
     ensures setting { (F.seen face.new).setting ≡ (F.seen face.old).setting }
     ensures on { closed.new ≡ false → IsOpen (F.seen face.new) }
     ensures ended { closed.new ≡ true → ((F.seen face.new).ended ≡ true) × HasNonePending pool.new }
-    ensures rises { result ≡ true → card_steps closed.old (F.seen face.old) < card_steps closed.new (F.seen face.new) }
+    ensures rises { result ≡ true
+        → card_steps closed.old (F.seen face.old) < card_steps closed.new (F.seen face.new) }
     ensures idle { result ≡ false → (intake : TheIntake) → IsIdle F.tells (F.beside face.new)
         (feed_of intake pool.old closed.old) (feed_of intake pool.new closed.new)
         (F.seen face.old) (F.seen face.new) }
@@ -127,14 +137,18 @@ pub fn keep_up<F: NicFace>(pool: &mut Pool, face: &mut F) -> bool
     requires open { IsOpen (F.seen face.old) }
     requires stands { PoolStands pool.old (F.seen face.old) }
     ensures stands { PoolStands pool.new (F.seen face.new) }
-    ensures keeps_up { (intake : TheIntake) (closed : Bool) → KeepsUp (feed_of intake pool.old closed) (feed_of intake pool.new closed)
+    ensures keeps_up { (intake : TheIntake) (closed : Bool)
+        → KeepsUp (feed_of intake pool.old closed) (feed_of intake pool.new closed)
         (F.seen face.old) (F.seen face.new) }
     ensures split { pool.new.split ≡ pool.old.split }
     ensures setting { (F.seen face.new).setting ≡ (F.seen face.old).setting }
     ensures open { IsOpen (F.seen face.new) }
-    ensures rises { result ≡ true → card_steps false (F.seen face.old) < card_steps false (F.seen face.new) }
-    ensures idle { result ≡ false → (intake : TheIntake) (closed : Bool) → HasLooked (HasNonePending pool.new) F.tells (F.beside face.new)
-        (feed_of intake pool.old closed) (feed_of intake pool.new closed) (F.seen face.old) (F.seen face.new) }
+    ensures rises { result ≡ true
+        → card_steps false (F.seen face.old) < card_steps false (F.seen face.new) }
+    ensures idle { result ≡ false → (intake : TheIntake) (closed : Bool)
+        → HasLooked (HasNonePending pool.new) F.tells (F.beside face.new)
+        (feed_of intake pool.old closed) (feed_of intake pool.new closed) (F.seen face.old)
+        (F.seen face.new) }
     ensures beside { F.beside face.new ≡ F.beside face.old }
 {
     let pending = pool.pending();
@@ -155,14 +169,18 @@ pub fn play<F: NicFace>(
     ensures fits { FeedFits (feed_of intake.new pool.new closed.new) (F.seen face.new) }
     ensures waits { intake.new.hand ≢ None → 0 < pending_count pool.new }
     ensures split { pool.new.split ≡ intake.new.split }
-    ensures plays { FeedPlays (feed_of intake.old pool.old closed.old) (feed_of intake.new pool.new closed.new) (F.seen face.old) (F.seen face.new) }
-    ensures same { (intake.new.stage ≡ intake.old.stage) × (intake.new.counting.tally ≡ intake.old.counting.tally)
+    ensures plays { FeedPlays (feed_of intake.old pool.old closed.old)
+        (feed_of intake.new pool.new closed.new) (F.seen face.old) (F.seen face.new) }
+    ensures same { (intake.new.stage ≡ intake.old.stage)
+        × (intake.new.counting.tally ≡ intake.old.counting.tally)
         × (intake.new.table.ports ≡ intake.old.table.ports) }
-    ensures later { card_steps closed.old (F.seen face.old) ≤ card_steps closed.new (F.seen face.new) }
+    ensures later { card_steps closed.old (F.seen face.old)
+        ≤ card_steps closed.new (F.seen face.new) }
     ensures rises { result ≡ true → (intake.old.hand ≢ None → 0 < pending_count pool.old)
         → card_steps closed.old (F.seen face.old) < card_steps closed.new (F.seen face.new) }
     ensures idle { result ≡ false → ((intake.old.hand ≡ None) × (is_over intake.old.stage ≡ false))
-        ⊎ IsIdle F.tells (F.beside face.new) (feed_of intake.old pool.old closed.old) (feed_of intake.new pool.new closed.new)
+        ⊎ IsIdle F.tells (F.beside face.new) (feed_of intake.old pool.old closed.old)
+        (feed_of intake.new pool.new closed.new)
         (F.seen face.old) (F.seen face.new) }
     ensures beside { F.beside face.new ≡ F.beside face.old }
 {

@@ -14,7 +14,8 @@ use zr_kinds::PoolStats;
 impl Feed {
     /// How many fresh buffers the payload of a frame needs, if all of it counts.
     pub fn needed<F: NicFace>(&self, frame: &[u8], face: &F) -> u32
-        ensures value { result ≡ fresh_for self.now.pool (least_size (F.seen face.now).setting.layout) (length (payload_in frame.now)) }
+        ensures value { result ≡ fresh_for self.now.pool
+            (least_size (F.seen face.now).setting.layout) (length (payload_in frame.now)) }
         ensures few { result ≤ 64 }
     {
         self.pool
@@ -42,10 +43,13 @@ pub fn nic_prepare<F: NicFace>(feed: &mut Feed, face: &mut F, needed: u32) -> bo
     requires ready { IsReady feed.old (F.seen face.old) }
     requires few { needed ≤ 64 }
     ensures ready { IsReady feed.new (F.seen face.new) }
-    ensures looks { LooksAhead needed feed.old.pool feed.new.pool (F.seen face.old) (F.seen face.new) × (feed.new ≡ record feed.old { pool = feed.new.pool }) }
-    ensures knows { (ports : List ℕ) (split : ℕ) (frames : List (List ℕ)) → FeedKnows ports split frames feed.old (F.seen face.old)
+    ensures looks { LooksAhead needed feed.old.pool feed.new.pool (F.seen face.old)
+        (F.seen face.new) × (feed.new ≡ record feed.old { pool = feed.new.pool }) }
+    ensures knows { (ports : List ℕ) (split : ℕ) (frames : List (List ℕ))
+        → FeedKnows ports split frames feed.old (F.seen face.old)
         → FeedKnows ports split frames feed.new (F.seen face.new) }
-    ensures enough { MatchBool result (needed ≤ length (F.seen face.new).cache) (length (F.seen face.new).cache < needed) }
+    ensures enough { MatchBool result (needed ≤ length (F.seen face.new).cache)
+        (length (F.seen face.new).cache < needed) }
     ensures beside { F.beside face.new ≡ F.beside face.old }
 {
     let found = nic_gather(face, &mut feed.pool, needed);

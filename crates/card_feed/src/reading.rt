@@ -17,7 +17,8 @@ fn open<S: Source>(stage: &mut Stage, alloc: Global, source: &mut S) -> Result<(
     requires goes { is_over stage.old ≡ false }
     ensures opens { (split : ℕ) (first : S) (ports : List ℕ) (frames : List (List ℕ))
         → ComesTo (WantsRoom split ports) S.left S.faults first source.old ports stage.old frames
-        → OpenGives (WantsRoom split ports) S.left S.faults first source.new ports stage.new frames result }
+        → OpenGives (WantsRoom split ports) S.left S.faults first source.new ports stage.new frames
+        result }
     ensures open { OnOk result (is_open stage.new ≡ true) }
     ensures on { is_over stage.new ≡ false }
     ensures further { TookBytes (S.left source.old) (S.left source.new) }
@@ -38,8 +39,11 @@ fn next_record<S: Source>(
     requires open { is_open stage.old ≡ true }
     ensures reads { (split : ℕ) (first : S) (ports : List ℕ) (frames : List (List ℕ))
         → ComesTo (WantsRoom split ports) S.left S.faults first source.old ports stage.old frames
-        → NextGives (WantsRoom split ports) S.left S.faults first source.new ports stage.new frames into.new.items result }
-    ensures bytes { IfOk result (λ found. IfSome found (λ one. (length into.new.items ≡ one.captured) × (one.captured ≤ longest_record))) }
+        → NextGives (WantsRoom split ports) S.left S.faults first source.new ports stage.new frames
+        into.new.items result }
+    ensures bytes { IfOk result
+        (λ found. IfSome found (λ one. (length into.new.items ≡ one.captured)
+        × (one.captured ≤ longest_record))) }
     ensures on { is_over stage.new ≡ false }
     ensures further { TookBytes (S.left source.old) (S.left source.new) }
     ensures later { S.faults source.old ≤ S.faults source.new }
@@ -65,7 +69,8 @@ impl Stage {
         requires goes { is_over self.old ≡ false }
         ensures reads { (split : ℕ) (first : S) (ports : List ℕ) (frames : List (List ℕ))
             → ComesTo (WantsRoom split ports) S.left S.faults first source.old ports self.old frames
-            → Arrives (WantsRoom split ports) S.left S.faults first source.new ports self.new frames result }
+            → Arrives (WantsRoom split ports) S.left S.faults first source.new ports self.new frames
+            result }
         ensures there { result ≢ Nothing }
         ensures bytes { HasItsBytes result }
         ensures on { is_over self.new ≡ false }
@@ -91,8 +96,11 @@ impl Stage {
         requires goes { is_over self.old ≡ false }
         ensures reads { (split : ℕ) (first : S) (ports : List ℕ) (frames : List (List ℕ))
             → ComesTo (WantsRoom split ports) S.left S.faults first source.old ports self.old frames
-            → NextGives (WantsRoom split ports) S.left S.faults first source.new ports self.new frames into.new.items result }
-        ensures bytes { IfOk result (λ found. IfSome found (λ one. (length into.new.items ≡ one.captured) × (one.captured ≤ longest_record))) }
+            → NextGives (WantsRoom split ports) S.left S.faults first source.new ports self.new
+            frames into.new.items result }
+        ensures bytes { IfOk result
+            (λ found. IfSome found (λ one. (length into.new.items ≡ one.captured)
+            × (one.captured ≤ longest_record))) }
         ensures on { is_over self.new ≡ false }
         ensures further { TookBytes (S.left source.old) (S.left source.new) }
         ensures later { S.faults source.old ≤ S.faults source.new }

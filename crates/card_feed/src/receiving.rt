@@ -18,8 +18,10 @@ use zr_kinds::Fault;
 fn may_be_refused(table: &FlowTable, split: u32, segment: &Segment<'_>) -> bool
     requires size { length segment.now.payload.now ≤ longest_payload }
     ensures long { result ≡ true → (frame : ℕ)
-        → Steers split table.now table.now (steered table.now.ports frame (Some (shown segment.now))) (Err Memory) }
-    ensures short { result ≡ false → (frame len : ℕ) → number_for table.now (shown segment.now) frame ≢ Some 65535
+        → Steers split table.now table.now
+        (steered table.now.ports frame (Some (shown segment.now))) (Err Memory) }
+    ensures short { result ≡ false → (frame len : ℕ)
+        → number_for table.now (shown segment.now) frame ≢ Some 65535
         → counted_for table.now (shown segment.now) frame ≡ Some len → len ≤ split }
 {
     matches!(table.admits(segment), Some(len) if len > split)
@@ -39,9 +41,12 @@ fn steer(
     ensures apps { HaveApps table.new.ports table.new.flows }
     ensures ports { table.new.ports ≡ table.old.ports }
     ensures same { refused.new.items ≡ refused.old.items }
-    ensures steers { Steers split table.old table.new (steered table.old.ports frame (Some (shown segment.now))) result }
-    ensures room { IfOk result (λ found. IfSome found (HasRoom split refused.new.items (vec_capacity refused.new))) }
-    ensures fits { IfOk result (λ found. IfSome found (RouteFits table.old.ports segment.now.payload.now)) }
+    ensures steers { Steers split table.old table.new
+        (steered table.old.ports frame (Some (shown segment.now))) result }
+    ensures room { IfOk result
+        (λ found. IfSome found (HasRoom split refused.new.items (vec_capacity refused.new))) }
+    ensures fits { IfOk result
+        (λ found. IfSome found (RouteFits table.old.ports segment.now.payload.now)) }
 {
     let has_room = refused.reserve(1).is_ok();
     if !has_room && may_be_refused(table, split, segment) {
@@ -80,14 +85,18 @@ fn steer_seen(
     frame: u32,
     seen: &Seen<'_>,
 ) -> Result<Option<Route>, Fault>
-    requires size { IfSome (segment_seen seen.now) (λ segment. length segment.payload ≤ longest_payload) }
+    requires size { IfSome (segment_seen seen.now)
+        (λ segment. length segment.payload ≤ longest_payload) }
     requires apps { HaveApps table.old.ports table.old.flows }
     ensures apps { HaveApps table.new.ports table.new.flows }
     ensures ports { table.new.ports ≡ table.old.ports }
     ensures same { refused.new.items ≡ refused.old.items }
-    ensures steers { Steers split table.old table.new (steered table.old.ports frame (segment_seen seen.now)) result }
-    ensures room { IfOk result (λ found. IfSome found (HasRoom split refused.new.items (vec_capacity refused.new))) }
-    ensures fits { IfOk result (λ found. IfSome found (RouteFits table.old.ports (payload_of (segment_seen seen.now)))) }
+    ensures steers { Steers split table.old table.new
+        (steered table.old.ports frame (segment_seen seen.now)) result }
+    ensures room { IfOk result
+        (λ found. IfSome found (HasRoom split refused.new.items (vec_capacity refused.new))) }
+    ensures fits { IfOk result
+        (λ found. IfSome found (RouteFits table.old.ports (payload_of (segment_seen seen.now)))) }
 {
     match seen {
         Seen::Tcp(segment) => steer(table, refused, split, frame, segment),
@@ -126,10 +135,13 @@ impl Intake {
         requires none { self.old.hand ≡ None }
         ensures takes { (ports : List ℕ) (frames : List (List ℕ)) → Knows ports frames self.old
             → TakesFrame self.old.split ports frames self.old.bytes.items self.new result }
-        ensures count { MatchResult result (λ _. self.new.counting.tally.records ≡ self.old.counting.tally.records + 1)
+        ensures count { MatchResult result
+            (λ _. self.new.counting.tally.records ≡ self.old.counting.tally.records + 1)
             (λ _. self.new.counting.tally ≡ self.old.counting.tally) }
-        ensures same { (self.new.stage ≡ self.old.stage) × (self.new.bytes.items ≡ self.old.bytes.items) × (self.new.split ≡ self.old.split)
-            × (self.new.refused.items ≡ self.old.refused.items) × (self.new.table.ports ≡ self.old.table.ports) }
+        ensures same { (self.new.stage ≡ self.old.stage)
+            × (self.new.bytes.items ≡ self.old.bytes.items) × (self.new.split ≡ self.old.split)
+            × (self.new.refused.items ≡ self.old.refused.items)
+            × (self.new.table.ports ≡ self.old.table.ports) }
     {
         if self.counting.is_full() {
             return Err(Fault::TooManyFrames);
@@ -149,8 +161,10 @@ impl Intake {
             → TakesIn self.old.split ports frames self.old.stage self.new arrived }
         ensures nothing { arrived ≡ Nothing → self.new ≡ self.old }
         ensures count { self.new.counting.tally.records + one_if (is_over self.new.stage)
-            ≡ self.old.counting.tally.records + one_if (is_over self.old.stage) + counts_as arrived }
-        ensures same { (self.new.split ≡ self.old.split) × (self.new.refused.items ≡ self.old.refused.items)
+            ≡ self.old.counting.tally.records + one_if (is_over self.old.stage)
+            + counts_as arrived }
+        ensures same { (self.new.split ≡ self.old.split)
+            × (self.new.refused.items ≡ self.old.refused.items)
             × (self.new.table.ports ≡ self.old.table.ports) }
     {
         match arrived {
@@ -175,11 +189,14 @@ impl Intake {
 
     /// Reads the next record, where one is wanted.
     pub fn next<S: Source>(&mut self, source: &mut S) -> Arrived
-        ensures rests { ¬ IsReadable self.old → (result ≡ Nothing) × (source.new ≡ source.old) × (self.new ≡ self.old) }
+        ensures rests { ¬ IsReadable self.old
+            → (result ≡ Nothing) × (source.new ≡ source.old) × (self.new ≡ self.old) }
         ensures there { IsReadable self.old → result ≢ Nothing }
         ensures reads { IsReadable self.old → (first : S) (ports : List ℕ) (frames : List (List ℕ))
-            → ComesTo (WantsRoom self.old.split ports) S.left S.faults first source.old ports self.old.stage frames
-            → Arrives (WantsRoom self.old.split ports) S.left S.faults first source.new ports self.new.stage frames result }
+            → ComesTo (WantsRoom self.old.split ports) S.left S.faults first source.old ports
+            self.old.stage frames
+            → Arrives (WantsRoom self.old.split ports) S.left S.faults first source.new ports
+            self.new.stage frames result }
         ensures on { is_over self.new.stage ≡ is_over self.old.stage }
         ensures same { OnlyOpens self.old self.new }
     {

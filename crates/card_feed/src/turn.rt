@@ -17,13 +17,16 @@ pub fn nic_step<F: NicFace>(feed: &mut Feed, arrived: Arrived, face: &mut F) -> 
     requires ready { IsReady feed.old (F.seen face.old) }
     requires arrived { MayArrive feed.old arrived }
     ensures ready { IsReady feed.new (F.seen face.new) }
-    ensures steps { (ports : List ℕ) (split : ℕ) (frames : List (List ℕ)) → FeedKnows ports split frames feed.old (F.seen face.old)
-        → FeedSteps ports split frames arrived feed.old feed.new (F.seen face.old) (F.seen face.new) }
+    ensures steps { (ports : List ℕ) (split : ℕ) (frames : List (List ℕ))
+        → FeedKnows ports split frames feed.old (F.seen face.old)
+        → FeedSteps ports split frames arrived feed.old feed.new (F.seen face.old)
+        (F.seen face.new) }
     ensures ports { feed.new.ports ≡ feed.old.ports }
     ensures took { arrived ≢ Nothing → result ≡ true }
     ensures answer { MatchBool result
         (feed_steps feed.old (F.seen face.old) < feed_steps feed.new (F.seen face.new))
-        (HasLooked (HasRested feed.old feed.new arrived) F.tells (F.beside face.new) feed.old feed.new (F.seen face.old) (F.seen face.new)) }
+        (HasLooked (HasRested feed.old feed.new arrived) F.tells (F.beside face.new) feed.old
+        feed.new (F.seen face.old) (F.seen face.new)) }
     ensures beside { F.beside face.new ≡ F.beside face.old }
 {
     let nothing = matches!(arrived, Arrived::Nothing);
@@ -46,7 +49,8 @@ pub fn nic_turn<S: Source, F: NicFace>(feed: &mut Feed, source: &mut S, face: &m
     ensures ready { IsReady feed.new (F.seen face.new) }
     ensures turns { (first : S) (ports : List ℕ) (split : ℕ) (frames : List (List ℕ))
         → FeedStands S.left S.faults first source.old ports split frames feed.old (F.seen face.old)
-        → FeedTurns S.left S.faults first source.new ports split frames feed.old feed.new (F.seen face.old) (F.seen face.new) }
+        → FeedTurns S.left S.faults first source.new ports split frames feed.old feed.new
+        (F.seen face.old) (F.seen face.new) }
     ensures ports { feed.new.ports ≡ feed.old.ports }
     ensures source { ¬ WantsRecord feed.old → source.new ≡ source.old }
     ensures answer { MatchBool result

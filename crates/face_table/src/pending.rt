@@ -18,10 +18,13 @@ pub struct Pending {
 pub fn flush<F: NicFace>(face: &mut F, pending: &mut VecDeque<Pending>) -> Option<Pending>
     requires open { IsOpen (F.seen face.old) }
     requires ready { IsReady (F.seen face.old) pending.old.items }
-    ensures sends { Sends (F.seen face.old) (F.seen face.new) pending.old.items (option_to_list result ++ pending.new.items) }
+    ensures sends { Sends (F.seen face.old) (F.seen face.new) pending.old.items
+        (option_to_list result ++ pending.new.items) }
     ensures ready { IsReady (F.seen face.new) (option_to_list result ++ pending.new.items) }
-    ensures stopped { MatchOption result (pending.new.items ≡ []) (λ back. NicRose (NoteInUse back.app) (F.seen face.old) (F.seen face.new)) }
-    ensures told { IfSome result (λ back. F.tells (NoteInUse back.app) (nic_gist (F.seen face.new)) (F.beside face.new)) }
+    ensures stopped { MatchOption result (pending.new.items ≡ [])
+        (λ back. NicRose (NoteInUse back.app) (F.seen face.old) (F.seen face.new)) }
+    ensures told { IfSome result
+        (λ back. F.tells (NoteInUse back.app) (nic_gist (F.seen face.new)) (F.beside face.new)) }
     ensures beside { F.beside face.new ≡ F.beside face.old }
 {
     while let Some(next) = pending.pop_front() {

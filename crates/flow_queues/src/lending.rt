@@ -28,10 +28,12 @@ fn lend_piece<F: AppFace>(face: &mut F, own: &mut FlowQueue) -> Lending
     requires settled { (F.seen face.old).settled ≡ true }
     requires counted { (F.seen face.old).scrubbed ≡ false }
     requires apart { LieApart (F.seen face.old) }
-    requires out { (f : HeldPiece → ℕ) → over_kept f own.old.queue ≤ total f (F.seen face.old).helds }
+    requires out { (f : HeldPiece → ℕ)
+        → over_kept f own.old.queue ≤ total f (F.seen face.old).helds }
     requires notes { Each (λ k. IsOfNote (F.seen face.old).taken k.piece) own.old.queue.kept }
     requires next { IsNext false own.old.queue }
-    ensures lent { LentNext (F.seen face.old) (F.seen face.new) own.old own.new result × (is_copy (lent_piece (F.seen face.old).taken result) ≡ 0) }
+    ensures lent { LentNext (F.seen face.old) (F.seen face.new) own.old own.new result
+        × (is_copy (lent_piece (F.seen face.old).taken result) ≡ 0) }
     ensures beside { F.beside face.new ≡ F.beside face.old }
 {
     let Some((waiting, _)) = own.queue.pop_front() else {
@@ -59,11 +61,15 @@ fn lend_copy<F: AppFace>(face: &mut F, own: &mut FlowQueue) -> Option<Lending>
     requires owns { (F.seen face.old).owns ≡ [] }
     requires notes { Each (λ k. IsOfNote (F.seen face.old).taken k.piece) own.old.queue.kept }
     requires sized { AreSized marks_of_waiting own.old.queue.kept }
-    requires spare { (F.seen face.old).spares + short_bytes own.old.queue ≤ total unsplit_len (F.seen face.old).taken }
+    requires spare { (F.seen face.old).spares + short_bytes own.old.queue
+        ≤ total unsplit_len (F.seen face.old).taken }
     requires next { IsNext true own.old.queue }
-    ensures lent { MatchOption result (SawNoSpare (F.seen face.old) (F.seen face.new) × (own.new ≡ own.old))
-        (λ l. LentNext (F.seen face.old) (F.seen face.new) own.old own.new l × (is_copy (lent_piece (F.seen face.old).taken l) ≡ 1)) }
-    ensures told { result ≡ None → F.tells NoSpare (app_gist (F.seen face.new)) (F.beside face.new) }
+    ensures lent { MatchOption result
+        (SawNoSpare (F.seen face.old) (F.seen face.new) × (own.new ≡ own.old))
+        (λ l. LentNext (F.seen face.old) (F.seen face.new) own.old own.new l
+        × (is_copy (lent_piece (F.seen face.old).taken l) ≡ 1)) }
+    ensures told { result ≡ None
+        → F.tells NoSpare (app_gist (F.seen face.new)) (F.beside face.new) }
     ensures beside { F.beside face.new ≡ F.beside face.old }
 {
     let _reserve = face.reserve();
@@ -90,14 +96,18 @@ pub fn lend_next<F: AppFace>(face: &mut F, own: &mut FlowQueue) -> Next
     requires counted { (F.seen face.old).scrubbed ≡ false }
     requires apart { LieApart (F.seen face.old) }
     requires owns { (F.seen face.old).owns ≡ [] }
-    requires out { (f : HeldPiece → ℕ) → over_kept f own.old.queue ≤ total f (F.seen face.old).helds }
+    requires out { (f : HeldPiece → ℕ)
+        → over_kept f own.old.queue ≤ total f (F.seen face.old).helds }
     requires notes { Each (λ k. IsOfNote (F.seen face.old).taken k.piece) own.old.queue.kept }
     requires sized { AreSized marks_of_waiting own.old.queue.kept }
-    requires spare { (F.seen face.old).spares + short_bytes own.old.queue ≤ total unsplit_len (F.seen face.old).taken }
+    requires spare { (F.seen face.old).spares + short_bytes own.old.queue
+        ≤ total unsplit_len (F.seen face.old).taken }
     ensures lends { LendsNext (F.seen face.old) (F.seen face.new) own.old own.new result }
     ensures unsettled { result ≡ Next.Unsettled → (F.seen face.old).settled ≡ false }
-    ensures told { result ≡ Next.Unsettled → F.tells RawOnItsWay (app_gist (F.seen face.new)) (F.beside face.new) }
-    ensures no_spare { result ≡ Next.ReserveHeld → F.tells NoSpare (app_gist (F.seen face.new)) (F.beside face.new) }
+    ensures told { result ≡ Next.Unsettled
+        → F.tells RawOnItsWay (app_gist (F.seen face.new)) (F.beside face.new) }
+    ensures no_spare { result ≡ Next.ReserveHeld
+        → F.tells NoSpare (app_gist (F.seen face.new)) (F.beside face.new) }
     ensures beside { F.beside face.new ≡ F.beside face.old }
 {
     let Some(first) = own.queue.front_piece() else {

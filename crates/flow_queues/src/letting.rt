@@ -12,7 +12,8 @@ fn release_kept<F: AppFace>(face: &mut F, queue: &mut RecvQueue<Waiting>)
     requires here { IsHere (F.seen face.old) }
     requires apart { LieApart (F.seen face.old) }
     requires out { (f : HeldPiece → ℕ) → over_kept f queue.old ≤ total f (F.seen face.old).helds }
-    ensures only { OnlyHelds (F.seen face.old) (F.seen face.new) (λ f. over_kept f queue.old) (λ f. 0) }
+    ensures only { OnlyHelds (F.seen face.old) (F.seen face.new) (λ f. over_kept f queue.old)
+        (λ f. 0) }
     ensures empty { queue.new.kept ≡ [] }
     ensures base { queue.new.base ≡ queue.old.base }
     ensures beside { F.beside face.new ≡ F.beside face.old }
@@ -26,7 +27,8 @@ fn release_kept<F: AppFace>(face: &mut F, queue: &mut RecvQueue<Waiting>)
 pub fn release_all<F: AppFace>(face: &mut F, flows: &mut Vec<FlowQueue>)
     requires here { IsHere (F.seen face.old) }
     requires apart { LieApart (F.seen face.old) }
-    requires out { (f : HeldPiece → ℕ) → total f (F.seen face.old).helds ≡ total (λ flow. over_kept f flow.queue) flows.old.items }
+    requires out { (f : HeldPiece → ℕ)
+        → total f (F.seen face.old).helds ≡ total (λ flow. over_kept f flow.queue) flows.old.items }
     ensures view { F.seen face.new ≡ record (F.seen face.old) { helds = [] } }
     ensures facts { map facts_of flows.new.items ≡ map facts_of flows.old.items }
     ensures short { total (λ f. short_bytes f.queue) flows.new.items ≡ 0 }

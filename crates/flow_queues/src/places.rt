@@ -23,7 +23,8 @@ pub fn place_for(
     note: &Note,
 ) -> Result<usize, Wanting>
     requires { IsIndex index.old.entries flows.old.items }
-    ensures chosen { MatchResult result (λ i. (i < length flows.new.items) × IsChosen flows.old.items flows.new.items note.now i)
+    ensures chosen { MatchResult result
+        (λ i. (i < length flows.new.items) × IsChosen flows.old.items flows.new.items note.now i)
         (λ _. (flows.new.items ≡ flows.old.items) × (index.new.entries ≡ index.old.entries)) }
     ensures index { OnOk result (IsIndex index.new.entries flows.new.items) }
 {

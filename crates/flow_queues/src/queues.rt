@@ -132,15 +132,20 @@ pub fn enter<F: AppFace>(
     requires fields { IsSplitNote note.now }
     requires place { held ≡ note.now.place }
     requires out { IsIn (held_piece (whole_piece number held)) (F.seen face.old).helds }
-    ensures only { OnlyHelds (F.seen face.old) (F.seen face.new) (λ f. f (held_piece (whole_piece number held)) + over_kept f queue.old)
+    ensures only { OnlyHelds (F.seen face.old) (F.seen face.new)
+        (λ f. f (held_piece (whole_piece number held)) + over_kept f queue.old)
         (λ f. over_kept f queue.new) }
-    ensures fewer { total held_len (F.seen face.new).helds ≤ total held_len (F.seen face.old).helds }
+    ensures fewer { total held_len (F.seen face.new).helds
+        ≤ total held_len (F.seen face.old).helds }
     ensures same { (queue.new.base ≡ queue.old.base) × (queue.new.popped ≡ queue.old.popped) }
     ensures enters { OnOk result ((placed : Placed Mark) → Holds marks_of_waiting queue.old placed →
-        Holds marks_of_waiting queue.new (received_note queue.old.base placed (record { number = number; note = note.now }))) }
+        Holds marks_of_waiting queue.new
+        (received_note queue.old.base placed (record { number = number; note = note.now }))) }
     ensures short { short_bytes queue.new ≡ short_bytes queue.old }
-    ensures notes { (taken : List TakenNote) (t : TakenNote) → slice_get taken number ≡ Some t → t.note.split ≡ true
-        → Each (λ k. IsOfNote taken k.piece) queue.old.kept → Each (λ k. IsOfNote taken k.piece) queue.new.kept }
+    ensures notes { (taken : List TakenNote) (t : TakenNote) → slice_get taken number ≡ Some t
+        → t.note.split ≡ true
+        → Each (λ k. IsOfNote taken k.piece) queue.old.kept
+        → Each (λ k. IsOfNote taken k.piece) queue.new.kept }
     ensures beside { F.beside face.new ≡ F.beside face.old }
 {
     if !queue.accepts(note.seq, note.total) {
@@ -193,7 +198,8 @@ fn give_up<F: AppFace>(face: &mut F, piece: Option<NotePiece>)
     requires here { IsHere (F.seen face.old) }
     requires apart { LieApart (F.seen face.old) }
     requires out { IfSome piece (λ p. IsIn (held_piece p) (F.seen face.old).helds) }
-    ensures only { OnlyHelds (F.seen face.old) (F.seen face.new) (λ f. over_others f piece) (λ f. 0) }
+    ensures only { OnlyHelds (F.seen face.old) (F.seen face.new) (λ f. over_others f piece)
+        (λ f. 0) }
     ensures beside { F.beside face.new ≡ F.beside face.old }
 {
     if let Some(piece) = piece {

@@ -24,9 +24,12 @@ pub fn enter_short(
     ensures short { short_bytes queue.new ≤ short_bytes queue.old + note.now.total }
     ensures same { (queue.new.base ≡ queue.old.base) × (queue.new.popped ≡ queue.old.popped) }
     ensures enters { OnOk result ((placed : Placed Mark) → Holds marks_of_waiting queue.old placed →
-        Holds marks_of_waiting queue.new (received_note queue.old.base placed (record { number = number; note = note.now }))) }
-    ensures notes { (taken : List TakenNote) (t : TakenNote) → slice_get taken number ≡ Some t → t.note.split ≡ false → t.bytes ≡ payload.now
-        → Each (λ k. IsOfNote taken k.piece) queue.old.kept → Each (λ k. IsOfNote taken k.piece) queue.new.kept }
+        Holds marks_of_waiting queue.new
+        (received_note queue.old.base placed (record { number = number; note = note.now }))) }
+    ensures notes { (taken : List TakenNote) (t : TakenNote) → slice_get taken number ≡ Some t
+        → t.note.split ≡ false → t.bytes ≡ payload.now
+        → Each (λ k. IsOfNote taken k.piece) queue.old.kept
+        → Each (λ k. IsOfNote taken k.piece) queue.new.kept }
 {
     let total = note.total;
     if !queue.accepts(note.seq, total) {

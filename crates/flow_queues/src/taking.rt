@@ -30,12 +30,16 @@ pub fn take_piece<F: AppFace>(
     requires out { IsIn (held_piece (whole_piece number held)) (F.seen face.old).helds }
     requires index { IsIndex index.old.entries flows.old.items }
     ensures takes { MatchResult result
-        (λ i. TakesPiece (F.seen face.old) (F.seen face.new) flows.old.items flows.new.items index.new.entries note.now number held i)
-        (λ _. LosesPiece (F.seen face.old) (F.seen face.new) flows.old.items flows.new.items index.old.entries index.new.entries note.now number held) }
+        (λ i. TakesPiece (F.seen face.old) (F.seen face.new) flows.old.items flows.new.items
+        index.new.entries note.now number held i)
+        (λ _. LosesPiece (F.seen face.old) (F.seen face.new) flows.old.items flows.new.items
+        index.old.entries index.new.entries note.now number held) }
     // what stood before the note came stands with it, and at want of memory all that is out is kept
-    ensures stands { (old : AppView) (ring : List (Completion × Lending)) (read : List Lending) → TookNote old (F.seen face.old) note.now held
+    ensures stands { (old : AppView) (ring : List (Completion × Lending)) (read : List Lending)
+        → TookNote old (F.seen face.old) note.now held
         → Stands number flows.old.items ring read old
-        → MatchResult result (λ _. Stands (number + 1) flows.new.items ring read (F.seen face.new)) (λ _. HasTokens flows.new.items ring read (F.seen face.new)) }
+        → MatchResult result (λ _. Stands (number + 1) flows.new.items ring read (F.seen face.new))
+        (λ _. HasTokens flows.new.items ring read (F.seen face.new)) }
     ensures beside { F.beside face.new ≡ F.beside face.old }
 {
     let Ok(i) = place_for(alloc, flows, index, note) else {
@@ -61,12 +65,17 @@ pub fn take_payload(
     requires payload { length payload.now ≡ note.now.total }
     requires index { IsIndex index.old.entries flows.old.items }
     ensures takes { MatchResult result
-        (λ i. TakesPayload flows.old.items flows.new.items index.new.entries note.now number payload.now i)
-        (λ _. LosesPayload flows.old.items flows.new.items index.old.entries index.new.entries note.now) }
+        (λ i. TakesPayload flows.old.items flows.new.items index.new.entries note.now number
+        payload.now i)
+        (λ _. LosesPayload flows.old.items flows.new.items index.old.entries index.new.entries
+        note.now) }
     // what stood before the note came stands with it, and at want of memory all that is out is kept
-    ensures stands { (old new : AppView) (linear : List ℕ) (ring : List (Completion × Lending)) (read : List Lending)
-        → TookLinear old new linear note.now → take note.now.total linear ≡ payload.now → Stands number flows.old.items ring read old
-        → MatchResult result (λ _. Stands (number + 1) flows.new.items ring read new) (λ _. HasTokens flows.new.items ring read new) }
+    ensures stands { (old new : AppView) (linear : List ℕ) (ring : List (Completion × Lending))
+        (read : List Lending)
+        → TookLinear old new linear note.now → take note.now.total linear ≡ payload.now
+        → Stands number flows.old.items ring read old
+        → MatchResult result (λ _. Stands (number + 1) flows.new.items ring read new)
+        (λ _. HasTokens flows.new.items ring read new) }
 {
     let i = match place_for(alloc, flows, index, note) {
         Ok(i) => i,

@@ -56,7 +56,8 @@ impl Receiver {
         requires { IsReceiver (F.seen face.old) self.old.loan }
         ensures hand { IsReceiver (F.seen face.new) self.new.loan }
         ensures number { (F.seen face.new).app ≡ (F.seen face.old).app }
-        ensures ended { result ≡ Took.End → ((F.seen face.new).ended ≡ true) × (self.new.loan ≡ None) }
+        ensures ended { result ≡ Took.End
+            → ((F.seen face.new).ended ≡ true) × (self.new.loan ≡ None) }
         ensures beside { F.beside face.new ≡ F.beside face.old }
     {
         if !self.give_back(face) {

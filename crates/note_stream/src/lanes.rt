@@ -46,8 +46,10 @@ pub(crate) fn open_lanes<'b>(
     requires desk { desk.old.board ≡ board.now }
     requires apps { apps ≡ apps_of board.now.setting }
     ensures desk { desk.new.board ≡ board.now }
-    ensures sides { (desk.new.view.nics ≡ desk.old.view.nics) × (desk.new.view.apps ≡ desk.old.view.apps) }
-    ensures ready { IfOk result (λ found. IfSome found (λ lanes. AreReady board.now apps lanes.items)) }
+    ensures sides { (desk.new.view.nics ≡ desk.old.view.nics)
+        × (desk.new.view.apps ≡ desk.old.view.apps) }
+    ensures ready { IfOk result
+        (λ found. IfSome found (λ lanes. AreReady board.now apps lanes.items)) }
 {
     let mut lanes = Vec::with_capacity(alloc, apps as usize)?;
     for app in 0..apps {

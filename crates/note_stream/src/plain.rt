@@ -40,7 +40,8 @@ fn take_turn(board: PlainBoard, receiver: &mut Receiver, into: &mut [u8]) -> (Pl
     requires app { IsReceiver (side_of board 0).view receiver.old.loan }
     ensures few { 0 < result.0.arrays.layout.reserves }
     ensures app { IsReceiver (side_of result.0 0).view receiver.new.loan }
-    ensures ended { IsTrue result.1 → ((side_of result.0 0).view.ended ≡ true) × (receiver.new.loan ≡ None) }
+    ensures ended { IsTrue result.1
+        → ((side_of result.0 0).view.ended ≡ true) × (receiver.new.loan ≡ None) }
     ensures card { result.0.nic ≡ board.nic }
 {
     let mut part = board.app(0);

@@ -89,7 +89,8 @@ fn all_back(
     requires all { length lanes.items ≡ apps_of nic.board.setting }
     requires left { SayLeft lanes.items }
     ensures desk { desk.new.board ≡ desk.old.board }
-    ensures back { IfOk result (λ done. IsTrue done → AllAreBack desk.old.board.setting desk.new.view) }
+    ensures back { IfOk result
+        (λ done. IsTrue done → AllAreBack desk.old.board.setting desk.new.view) }
 {
     nic.back(desk);
     let mut lanes = lanes;

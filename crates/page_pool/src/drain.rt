@@ -19,9 +19,11 @@ pub(crate) fn drain_ring<F: NicFace>(
     enough: u32,
 ) -> u32
     requires app { app < apps_of (F.seen face.old).setting }
-    ensures drains { DrainsRing stats.old stats.new (F.seen face.old) (F.seen face.new) app enough result }
+    ensures drains { DrainsRing stats.old stats.new (F.seen face.old) (F.seen face.new) app enough
+        result }
     ensures none { result ≡ 0 → 128 < enough →
-        NicOnlySaw (RingEmpty app) (F.seen face.old) (F.seen face.new) × F.tells (RingEmpty app) (nic_gist (F.seen face.new)) (F.beside face.new) }
+        NicOnlySaw (RingEmpty app) (F.seen face.old) (F.seen face.new)
+        × F.tells (RingEmpty app) (nic_gist (F.seen face.new)) (F.beside face.new) }
     ensures beside { F.beside face.new ≡ F.beside face.old }
 {
     let places = face.places();
@@ -45,10 +47,12 @@ pub(crate) fn drain_ring<F: NicFace>(
 pub fn nic_drain<F: NicFace>(face: &mut F, pool: &mut Pool) -> u32
     requires stands { PoolStands pool.old (F.seen face.old) }
     ensures stands { PoolStands pool.new (F.seen face.new) }
-    ensures drains { DrainsRings pool.old.stats pool.new.stats (F.seen face.old) (F.seen face.new) result }
+    ensures drains { DrainsRings pool.old.stats pool.new.stats (F.seen face.old) (F.seen face.new)
+        result }
     ensures pool { pool.new ≡ record pool.old { stats = pool.new.stats } }
     ensures none { result ≡ 0 → (a : ℕ) → a < apps_of (F.seen face.old).setting →
-        NicRose (RingEmpty a) (F.seen face.old) (F.seen face.new) × F.tells (RingEmpty a) (nic_gist (F.seen face.new)) (F.beside face.new) }
+        NicRose (RingEmpty a) (F.seen face.old) (F.seen face.new)
+        × F.tells (RingEmpty a) (nic_gist (F.seen face.new)) (F.beside face.new) }
     ensures still { result ≡ 0 → nic_gist (F.seen face.new) ≡ nic_gist (F.seen face.old) }
     ensures beside { F.beside face.new ≡ F.beside face.old }
 {

@@ -14,7 +14,8 @@ pub fn nic_flush<F: NicFace>(face: &mut F, pool: &mut Pool) -> bool
     ensures sends { OnlySends pool.old pool.new (F.seen face.old) (F.seen face.new) }
     ensures answer { MatchBool result
         (HasNonePending pool.new)
-        ((app : ℕ) × IsNextApp pool.new app × NicRose (NoteInUse app) (F.seen face.old) (F.seen face.new)
+        ((app : ℕ) × IsNextApp pool.new app
+        × NicRose (NoteInUse app) (F.seen face.old) (F.seen face.new)
         × F.tells (NoteInUse app) (nic_gist (F.seen face.new)) (F.beside face.new)) }
     ensures beside { F.beside face.new ≡ F.beside face.old }
 {

@@ -12,7 +12,8 @@ pub fn nic_gather<F: NicFace>(face: &mut F, pool: &mut Pool, needed: u32) -> boo
     requires few { needed ≤ 64 }
     ensures stands { PoolStands pool.new (F.seen face.new) }
     ensures looks { LooksAhead needed pool.old pool.new (F.seen face.old) (F.seen face.new) }
-    ensures enough { MatchBool result (needed ≤ length (F.seen face.new).cache) (length (F.seen face.new).cache < needed) }
+    ensures enough { MatchBool result (needed ≤ length (F.seen face.new).cache)
+        (length (F.seen face.new).cache < needed) }
     ensures beside { F.beside face.new ≡ F.beside face.old }
 {
     let end = find_fresh(face, &mut pool.stats, needed);

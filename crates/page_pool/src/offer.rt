@@ -57,8 +57,10 @@ pub(crate) fn send_short<F: NicFace>(
     requires some { 0 < length offer.now.payload.now }
     requires few { length offer.now.payload.now ≤ 256 }
     ensures answer { MatchBool result
-        ((short.new ≡ None) × (F.seen face.new ≡ sent_linear (F.seen face.old) offer.now.app (short_note offer.now) offer.now.payload.now))
-        ((kept : TheShort) × (short.new ≡ Some kept) × KeepsShort offer.now kept × NicOnlySaw (NoteInUse offer.now.app) (F.seen face.old) (F.seen face.new)
+        ((short.new ≡ None) × (F.seen face.new
+        ≡ sent_linear (F.seen face.old) offer.now.app (short_note offer.now) offer.now.payload.now))
+        ((kept : TheShort) × (short.new ≡ Some kept) × KeepsShort offer.now kept
+        × NicOnlySaw (NoteInUse offer.now.app) (F.seen face.old) (F.seen face.new)
         × F.tells (NoteInUse offer.now.app) (nic_gist (F.seen face.new)) (F.beside face.new)) }
     ensures beside { F.beside face.new ≡ F.beside face.old }
 {
@@ -103,8 +105,10 @@ pub(crate) fn place_in_current<F: NicFace>(
     requires some { 0 < length offer.now.payload.now }
     requires most { length offer.now.payload.now ≤ longest_payload }
     ensures answer { MatchBool result
-        (FillsCurrent offer.now current.old current.new (F.seen face.old) (F.seen face.new) pieces.new)
-        (LeavesCurrent offer.now current.old current.new (F.seen face.old) (F.seen face.new) pieces.new) }
+        (FillsCurrent offer.now current.old current.new (F.seen face.old) (F.seen face.new)
+        pieces.new)
+        (LeavesCurrent offer.now current.old current.new (F.seen face.old) (F.seen face.new)
+        pieces.new) }
     ensures beside { F.beside face.new ≡ F.beside face.old }
 {
     let len = offer.payload.len() as u32;
@@ -146,7 +150,8 @@ pub(crate) fn place_split<F: NicFace>(
     requires most { length offer.now.payload.now ≤ longest_payload }
     ensures answer { MatchResult result
         (λ _. PlacesSplit pool.old pool.new (F.seen face.old) (F.seen face.new) offer.now)
-        (λ short. LacksRoom pool.old pool.new (F.seen face.old) (F.seen face.new) offer.now short.cached short.needed) }
+        (λ short. LacksRoom pool.old pool.new (F.seen face.old) (F.seen face.new) offer.now
+        short.cached short.needed) }
     ensures beside { F.beside face.new ≡ F.beside face.old }
 {
     let ahead = pool.ahead;
@@ -182,7 +187,8 @@ pub fn nic_offer<F: NicFace>(face: &mut F, pool: &mut Pool, offer: &Offer<'_>) -
     ensures rest { KeepsRest (F.seen face.old) (F.seen face.new) }
     // Notes stay pending only where the slot of the next one was seen in use in this call.
     ensures pending { (app : ℕ) → IsNextApp pool.new app
-        → NicRose (NoteInUse app) (F.seen face.old) (F.seen face.new) × F.tells (NoteInUse app) (nic_gist (F.seen face.new)) (F.beside face.new) }
+        → NicRose (NoteInUse app) (F.seen face.old) (F.seen face.new)
+        × F.tells (NoteInUse app) (nic_gist (F.seen face.new)) (F.beside face.new) }
     ensures beside { F.beside face.new ≡ F.beside face.old }
 {
     if !nic_flush(face, pool) {

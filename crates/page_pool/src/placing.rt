@@ -25,7 +25,8 @@ pub(crate) fn place_part<F: NicFace>(
     requires most { length offer.now.payload.now ≤ longest_payload }
     requires fits { own.old.start + len ≤ own.old.size }
     requires room { length pieces.old < 64 }
-    ensures view { F.seen face.new ≡ placed (F.seen face.old) own.old (take len (drop at offer.now.payload.now)) }
+    ensures view { F.seen face.new
+        ≡ placed (F.seen face.old) own.old (take len (drop at offer.now.payload.now)) }
     ensures own { own.new ≡ filled_by own.old len }
     ensures pieces { pieces.new ≡ pieces.old ++ part_of offer.now at (next_place own.old len) ∷ [] }
     ensures beside { F.beside face.new ≡ F.beside face.old }
@@ -57,13 +58,16 @@ pub(crate) fn place_fresh<F: NicFace>(
     offer: &Offer<'_>,
 ) -> Option<Own>
     requires open { IsOpen (F.seen face.old) }
-    requires out { ((F.seen face.old).owns ≡ []) × ((F.seen face.old).pieces ≡ []) × (pieces.old ≡ []) }
+    requires out { ((F.seen face.old).owns ≡ []) × ((F.seen face.old).pieces ≡ [])
+        × (pieces.old ≡ []) }
     requires app { offer.now.app < apps_of (F.seen face.old).setting }
     requires some { 0 < length offer.now.payload.now }
     requires most { length offer.now.payload.now ≤ longest_payload }
     requires sound { IsLayout (F.seen face.old).setting.layout }
-    requires few { buffers_for (least_size (F.seen face.old).setting.layout) (length offer.now.payload.now) ≤ 64 }
-    requires enough { buffers_for (least_size (F.seen face.old).setting.layout) (length offer.now.payload.now) ≤ length (F.seen face.old).cache }
+    requires few { buffers_for (least_size (F.seen face.old).setting.layout)
+        (length offer.now.payload.now) ≤ 64 }
+    requires enough { buffers_for (least_size (F.seen face.old).setting.layout)
+        (length offer.now.payload.now) ≤ length (F.seen face.old).cache }
     ensures places { FillsFresh offer.now (F.seen face.old) (F.seen face.new) pieces.new result }
     ensures out { (F.seen face.new).owns ≡ option_to_list result }
     ensures few { length pieces.new ≤ 64 }

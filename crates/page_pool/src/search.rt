@@ -12,7 +12,8 @@ const ENOUGH: u32 = 64;
 
 /// Deals with refill entries of each application, from 0, until 64 buffers are cached.
 pub(crate) fn refill<F: NicFace>(face: &mut F, stats: &mut PoolStats)
-    ensures refills { RefillsFirst stats.old stats.new (F.seen face.old) (F.seen face.new) 64 (apps_of (F.seen face.old).setting) }
+    ensures refills { RefillsFirst stats.old stats.new (F.seen face.old) (F.seen face.new) 64
+        (apps_of (F.seen face.old).setting) }
     ensures beside { F.beside face.new ≡ F.beside face.old }
 {
     // Its answer says that at most 128 are cached.
@@ -24,7 +25,8 @@ pub(crate) fn refill<F: NicFace>(face: &mut F, stats: &mut PoolStats)
 
 /// Sweeps the words of the free list, from 0, until 64 buffers are cached.
 pub(crate) fn sweep<F: NicFace>(face: &mut F)
-    ensures sweeps { SweepsFirst (F.seen face.old) (F.seen face.new) 64 (free_words_of (F.seen face.old).setting) }
+    ensures sweeps { SweepsFirst (F.seen face.old) (F.seen face.new) 64
+        (free_words_of (F.seen face.old).setting) }
     ensures some { 0 < free_words_of (F.seen face.old).setting }
     ensures beside { F.beside face.new ≡ F.beside face.old }
 {
@@ -41,7 +43,8 @@ pub(crate) fn sweep<F: NicFace>(face: &mut F)
 /// ended, which isn't counted.
 pub fn find_fresh<F: NicFace>(face: &mut F, stats: &mut PoolStats, needed: u32) -> SearchEnd
     requires few { needed ≤ 64 }
-    ensures searches { Searches needed stats.old stats.new (F.seen face.old) (F.seen face.new) result }
+    ensures searches { Searches needed stats.old stats.new (F.seen face.old) (F.seen face.new)
+        result }
     ensures enough { result ≢ Empty → needed ≤ length (F.seen face.new).cache }
     ensures lacks { result ≡ Empty → length (F.seen face.new).cache < needed }
     ensures beside { F.beside face.new ≡ F.beside face.old }

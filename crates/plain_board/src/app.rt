@@ -186,7 +186,8 @@ impl AppFace for PlainApp {
         ensures full { IfErr result (λ _. HasWrittenRingful (view_of self.old)) }
         ensures told { SawSo self.old self.new }
         ensures beside { beside_of self.new ≡ beside_of self.old }
-        ensures log { MatchResult result (λ _. AppTells (gives loan) self.old self.new) (λ _. self.new.board.log ≡ self.old.board.log) }
+        ensures log { MatchResult result (λ _. AppTells (gives loan) self.old self.new)
+            (λ _. self.new.board.log ≡ self.old.board.log) }
     {
         self.board.contents.sound();
         let place = loan.place();
@@ -212,7 +213,8 @@ impl AppFace for PlainApp {
         requires counted { (view_of self.old).scrubbed ≡ false }
         ensures view { MatchResult result
             (λ _. view_of self.new ≡ pushed_raw (view_of self.old) entry)
-            (λ back. (back ≡ entry) × AppOnlySaw RefillInUse (view_of self.old) (view_of self.new)) }
+            (λ back. (back ≡ entry) × AppOnlySaw RefillInUse (view_of self.old)
+            (view_of self.new)) }
         ensures full { IfErr result (λ _. HasWrittenRingful (view_of self.old)) }
         ensures told { SawSo self.old self.new }
         ensures beside { beside_of self.new ≡ beside_of self.old }
@@ -249,10 +251,12 @@ impl AppFace for PlainApp {
             (AppOnlySaw NoSpare (view_of self.old) (view_of self.new))
             (λ own. GotSpare (view_of self.old) (view_of self.new) own) }
         ensures held { IfNone result (HasUsedReserve (view_of self.old)) }
-        ensures lowest { IfSome result (λ own. IsFoundLowest own.buffer (app_gist (view_of self.old)) (beside_of self.old)) }
+        ensures lowest { IfSome result
+            (λ own. IsFoundLowest own.buffer (app_gist (view_of self.old)) (beside_of self.old)) }
         ensures told { SawSo self.old self.new }
         ensures beside { beside_of self.new ≡ beside_of self.old }
-        ensures log { MatchOption result (self.new.board.log ≡ self.old.board.log) (λ own. AppTells (spares own.buffer) self.old self.new) }
+        ensures log { MatchOption result (self.new.board.log ≡ self.old.board.log)
+            (λ own. AppTells (spares own.buffer) self.old self.new) }
     {
         self.board.contents.sound();
         let own = self.board.contents.spare(self.app)?;
@@ -286,7 +290,8 @@ impl AppFace for PlainApp {
         requires out { HasSpare (view_of self.old) own }
         requires can { CanLend (view_of self.old) }
         requires filled { IsFilled (view_of self.old) own }
-        ensures place { result ≡ begin_place own.buffer (length (own_bytes (view_of self.old) own)) }
+        ensures place { result ≡ begin_place own.buffer
+            (length (own_bytes (view_of self.old) own)) }
         ensures view { view_of self.new ≡ lent_own (view_of self.old) own }
         ensures beside { beside_of self.new ≡ beside_of self.old }
         ensures log { AppTells (lends_own own) self.old self.new }

@@ -16,7 +16,8 @@ impl Contents {
         requires counted { (side_of self.old app).view.scrubbed ≡ false }
         ensures view { MatchResult result
             (λ _. (side_of self.new app).view ≡ pushed_raw (side_of self.old app).view entry)
-            (λ back. (back ≡ entry) × AppOnlySaw RefillInUse (side_of self.old app).view (side_of self.new app).view) }
+            (λ back. (back ≡ entry) × AppOnlySaw RefillInUse (side_of self.old app).view
+            (side_of self.new app).view) }
         ensures full { IfErr result (λ _. HasWrittenRingful (side_of self.old app).view) }
         ensures told { AppSawSo self.old self.new app }
         ensures inside { (side_of self.new app).inside ≡ (side_of self.old app).inside }

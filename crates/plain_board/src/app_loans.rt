@@ -15,8 +15,10 @@ impl Contents {
         requires here { IsHere (side_of self.old app).view }
         requires out { HasLoan (side_of self.old app).view loan.now }
         requires within { from + length into.old ≤ loan.now.len }
-        ensures view { (side_of self.new app).view ≡ has_read (side_of self.old app).view loan.now from into.new }
-        ensures copied { ShowsCopy (loan_origin (side_of self.old app).view loan.now) from into.new }
+        ensures view { (side_of self.new app).view
+            ≡ has_read (side_of self.old app).view loan.now from into.new }
+        ensures copied { ShowsCopy (loan_origin (side_of self.old app).view loan.now) from
+            into.new }
         ensures inside { (side_of self.new app).inside ≡ (side_of self.old app).inside }
         ensures others { others_of self.new app ≡ others_of self.old app }
         ensures layout { self.new.arrays.layout ≡ self.old.arrays.layout }
@@ -34,7 +36,8 @@ impl Contents {
         requires out { HasLoan (side_of self.old app).view loan }
         ensures view { MatchResult result
             (λ _. (side_of self.new app).view ≡ gave (side_of self.old app).view loan)
-            (λ back. (back ≡ loan) × AppOnlySaw RefillInUse (side_of self.old app).view (side_of self.new app).view) }
+            (λ back. (back ≡ loan) × AppOnlySaw RefillInUse (side_of self.old app).view
+            (side_of self.new app).view) }
         ensures full { IfErr result (λ _. HasWrittenRingful (side_of self.old app).view) }
         ensures told { AppSawSo self.old self.new app }
         ensures inside { (side_of self.new app).inside ≡ (side_of self.old app).inside }

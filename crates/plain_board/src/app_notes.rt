@@ -13,7 +13,8 @@ impl Contents {
     pub(crate) fn poll(&mut self, app: u32, linear: &mut [u8; 256]) -> Polled
         requires app { app < self.old.arrays.layout.reserves }
         requires here { IsHere (side_of self.old app).view }
-        ensures view { Looked (side_of self.old app).view (side_of self.new app).view linear.new result }
+        ensures view { Looked (side_of self.old app).view (side_of self.new app).view linear.new
+            result }
         ensures untold { result ≡ got_none → (side_of self.old app).view.ended ≡ false }
         ensures told { AppSawSo self.old self.new app }
         ensures inside { (side_of self.new app).inside ≡ (side_of self.old app).inside }

@@ -18,8 +18,11 @@ impl Contents {
             (AppOnlySaw NoSpare (side_of self.old app).view (side_of self.new app).view)
             (λ own. GotSpare (side_of self.old app).view (side_of self.new app).view own) }
         ensures held { IfNone result (HasUsedReserve (side_of self.old app).view) }
-        ensures unheld { IfSome result (λ own. pool_count own.buffer self.old.nic self.old.apps ≡ 0) }
-        ensures lowest { IfSome result (λ own. IsFoundLowest own.buffer (app_gist (side_of self.old app).view) (others_of self.old app)) }
+        ensures unheld { IfSome result
+            (λ own. pool_count own.buffer self.old.nic self.old.apps ≡ 0) }
+        ensures lowest { IfSome result
+            (λ own. IsFoundLowest own.buffer (app_gist (side_of self.old app).view)
+            (others_of self.old app)) }
         ensures told { AppSawSo self.old self.new app }
         ensures inside { (side_of self.new app).inside ≡ (side_of self.old app).inside }
         ensures others { others_of self.new app ≡ others_of self.old app }
@@ -46,7 +49,8 @@ impl Contents {
         requires some { 0 < length bytes.now }
         requires few { length bytes.now ≤ 256 }
         ensures own { own.new ≡ filled_by own.old (length bytes.now) }
-        ensures view { (side_of self.new app).view ≡ filled (side_of self.old app).view own.old bytes.now }
+        ensures view { (side_of self.new app).view
+            ≡ filled (side_of self.old app).view own.old bytes.now }
         ensures inside { (side_of self.new app).inside ≡ (side_of self.old app).inside }
         ensures others { others_of self.new app ≡ others_of self.old app }
         ensures layout { self.new.arrays.layout ≡ self.old.arrays.layout }
@@ -71,7 +75,8 @@ impl Contents {
         requires out { HasSpare (side_of self.old app).view own }
         requires can { CanLend (side_of self.old app).view }
         requires filled { IsFilled (side_of self.old app).view own }
-        ensures place { result ≡ begin_place own.buffer (length (own_bytes (side_of self.old app).view own)) }
+        ensures place { result ≡ begin_place own.buffer
+            (length (own_bytes (side_of self.old app).view own)) }
         ensures view { (side_of self.new app).view ≡ lent_own (side_of self.old app).view own }
         ensures inside { (side_of self.new app).inside ≡ (side_of self.old app).inside }
         ensures others { others_of self.new app ≡ others_of self.old app }

@@ -16,7 +16,8 @@ impl Contents {
         ensures view { DealtWith self.old.nic.view self.new.nic.view app result.0 }
         ensures stray { result.0 ≡ Entry.Stray → SameBuffers self.old.arrays self.new.arrays }
         ensures judged { result.0 ≢ Entry.Empty → IsJudged self.old self.new app }
-        ensures returned { MatchOption result.1 (IsNoReturn result.0) (λ buffer. IsReturn result.0 × GaveBack self.old self.new app buffer) }
+        ensures returned { MatchOption result.1 (IsNoReturn result.0)
+            (λ buffer. IsReturn result.0 × GaveBack self.old self.new app buffer) }
         ensures told { CardSawSo self.old self.new }
         ensures apps { self.new.apps ≡ self.old.apps }
     {

@@ -18,7 +18,8 @@ impl Contents {
         requires place { note.place ≡ piece }
         ensures view { MatchResult result
             (λ _. self.new.nic ≡ nic_at self.old.nic (sent self.old.nic.view app note))
-            (λ back. (back ≡ piece) × (self.new.nic ≡ nic_at self.old.nic (nic_saw self.old.nic.view (NoteInUse app)))) }
+            (λ back. (back ≡ piece) × (self.new.nic
+            ≡ nic_at self.old.nic (nic_saw self.old.nic.view (NoteInUse app)))) }
         ensures full { IfErr result (λ _. HasSentRingful self.old.nic.view app) }
         ensures told { CardSawSo self.old self.new }
         ensures apps { self.new.apps ≡ self.old.apps }

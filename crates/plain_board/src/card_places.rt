@@ -16,7 +16,8 @@ impl Contents {
         requires fits { own.old.start + length bytes.now ≤ own.old.size }
         ensures piece { result ≡ next_place own.old (length bytes.now) }
         ensures own { own.new ≡ filled_by own.old (length bytes.now) }
-        ensures view { self.new.nic ≡ nic_at self.old.nic (placed self.old.nic.view own.old bytes.now) }
+        ensures view { self.new.nic
+            ≡ nic_at self.old.nic (placed self.old.nic.view own.old bytes.now) }
         ensures apps { self.new.apps ≡ self.old.apps }
     {
         let filling = filling_of(own);

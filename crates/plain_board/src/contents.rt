@@ -127,7 +127,8 @@ impl Contents {
         ensures view { MatchOption result
             ((self.old.nic.view.cache ≡ []) × (self.new ≡ self.old))
             (λ own. TookBuffer self.old.nic.view self.new.nic.view own) }
-        ensures unheld { IfSome result (λ own. pool_count own.buffer self.old.nic self.old.apps ≡ 0) }
+        ensures unheld { IfSome result
+            (λ own. pool_count own.buffer self.old.nic self.old.apps ≡ 0) }
         ensures apps { self.new.apps ≡ self.old.apps }
     {
         let Some(buffer) = self.cache.pop() else {
@@ -165,7 +166,8 @@ impl Contents {
         requires word { word < free_words_of self.old.nic.view.setting }
         ensures view { SweptWord self.old.nic.view self.new.nic.view word result }
         ensures bound { lost_of self.new.nic.view ≤ sent_unsplit_bytes self.new.nic.view }
-        ensures emptied { (b : ℕ) → b / word_bits ≡ word → listed_in self.new.arrays.listed b ≡ false }
+        ensures emptied { (b : ℕ) → b / word_bits ≡ word
+            → listed_in self.new.arrays.listed b ≡ false }
         ensures told { CardSawSo self.old self.new }
         ensures apps { self.new.apps ≡ self.old.apps }
     {

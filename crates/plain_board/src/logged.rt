@@ -24,7 +24,8 @@ impl Logged {
         ensures contents { self.new.contents ≡ self.old.contents }
         ensures room { self.new.log.room ≡ self.old.log.room }
         ensures log { (after : AllSides) → Scrubs app (sides_of self.old.contents) after
-            → self.new.log ≡ scrub_logged (sides_of self.old.contents) after app self.old.log (total self.old.contents.arrays.layout) }
+            → self.new.log ≡ scrub_logged (sides_of self.old.contents) after app self.old.log
+            (total self.old.contents.arrays.layout) }
     {
         for buffer in 0..self.contents.layout.total() {
             let user = self.contents.user_count(app, buffer);

@@ -82,7 +82,8 @@ impl NicFace for PlainNic {
             ((self.old.nic.view.cache ≡ []) × (self.new.nic.view ≡ self.old.nic.view))
             (λ own. TookBuffer self.old.nic.view self.new.nic.view own) }
         ensures beside { applications_of self.new ≡ applications_of self.old }
-        ensures log { MatchOption result (self.new.log ≡ self.old.log) (λ own. CardTells (takes own.buffer) self.old self.new) }
+        ensures log { MatchOption result (self.new.log ≡ self.old.log)
+            (λ own. CardTells (takes own.buffer) self.old self.new) }
     {
         self.board.contents.sound();
         let own = self.board.contents.take()?;
@@ -101,7 +102,8 @@ impl NicFace for PlainNic {
         ensures bound { lost_of self.new.nic.view ≤ sent_unsplit_bytes self.new.nic.view }
         ensures told { CardSawSo (stand_of self.old) (stand_of self.new) }
         ensures beside { applications_of self.new ≡ applications_of self.old }
-        ensures emptied { (b : ℕ) → b / word_bits ≡ word → listed_in self.new.arrays.listed b ≡ false }
+        ensures emptied { (b : ℕ) → b / word_bits ≡ word
+            → listed_in self.new.arrays.listed b ≡ false }
         ensures log { self.new.log ≡ self.old.log }
     {
         self.board.contents.sound();
@@ -118,7 +120,8 @@ impl NicFace for PlainNic {
         ensures told { CardSawSo (stand_of self.old) (stand_of self.new) }
         ensures beside { applications_of self.new ≡ applications_of self.old }
         ensures stray { result ≡ Entry.Stray → SameBuffers self.old.arrays self.new.arrays }
-        ensures judged { result ≢ Entry.Empty → IsJudged (stand_of self.old) (stand_of self.new) app }
+        ensures judged { result ≢ Entry.Empty
+            → IsJudged (stand_of self.old) (stand_of self.new) app }
         ensures log { EntryTells app result self.old self.new }
     {
         self.board.contents.sound();
@@ -172,11 +175,13 @@ impl NicFace for PlainNic {
         requires place { note.place ≡ piece }
         ensures view { MatchResult result
             (λ _. self.new.nic.view ≡ sent self.old.nic.view app note)
-            (λ back. (back ≡ piece) × NicOnlySaw (NoteInUse app) self.old.nic.view self.new.nic.view) }
+            (λ back. (back ≡ piece) × NicOnlySaw (NoteInUse app) self.old.nic.view
+            self.new.nic.view) }
         ensures full { IfErr result (λ _. HasSentRingful self.old.nic.view app) }
         ensures told { CardSawSo (stand_of self.old) (stand_of self.new) }
         ensures beside { applications_of self.new ≡ applications_of self.old }
-        ensures log { MatchResult result (λ _. CardTells (sends app note) self.old self.new) (λ _. self.new.log ≡ self.old.log) }
+        ensures log { MatchResult result (λ _. CardTells (sends app note) self.old self.new)
+            (λ _. self.new.log ≡ self.old.log) }
     {
         self.board.contents.sound();
         self.board.contents.send(app, note, piece)?;

@@ -7,7 +7,8 @@ pub fn move_last<T>(from: &mut Vec<T>, keep: usize, to: &mut Vec<T>)
     requires room { vec_len to.old + (vec_len from.old - keep) ≤ vec_capacity to.old }
     ensures many { vec_len to.new + keep ≡ vec_len to.old + vec_len from.old }
     ensures kept { vec_len from.new ≡ keep }
-    ensures moved { to.new.items ++ reverse from.new.items ≡ to.old.items ++ reverse from.old.items }
+    ensures moved { to.new.items ++ reverse from.new.items
+        ≡ to.old.items ++ reverse from.old.items }
     ensures room { vec_capacity from.new ≡ vec_capacity from.old }
 {
     while from.len() > keep {

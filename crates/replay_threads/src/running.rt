@@ -72,15 +72,19 @@ fn play_seated<'b, S: Source + Send, T: Shelf + Send, G: Gate + Sync, R: Threads
 ) -> (Feed, Vec<Left>)
     requires plan { IsPlan plan.now }
     requires desk { desk.old ≡ new_desk board.now }
-    requires setting { board.now.setting ≡ record { layout = layout_of plan.now; places = plan.now.ring } }
+    requires setting { board.now.setting
+        ≡ record { layout = layout_of plan.now; places = plan.now.ring } }
     requires feed { begun.feed ≡ new_feed plan.now.ports.items plan.now.split }
-    requires ready { (v : NicView) → IsOpen v → HasNoToken v → length plan.now.ports.items ≡ apps_of v.setting → IsReady begun.feed v }
+    requires ready { (v : NicView) → IsOpen v → HasNoToken v
+        → length plan.now.ports.items ≡ apps_of v.setting → IsReady begun.feed v }
     requires starts { AreStarts plan.now begun.starts.items }
-    requires lefts { (begun.lefts.items ≡ []) × (length plan.now.ports.items ≤ vec_capacity begun.lefts) }
+    requires lefts { (begun.lefts.items ≡ [])
+        × (length plan.now.ports.items ≤ vec_capacity begun.lefts) }
     requires shelves { vec_len shelves.old ≡ length plan.now.ports.items }
     requires lanes { (lanes.items ≡ []) × (length plan.now.ports.items ≤ vec_capacity lanes) }
     requires reading { IsOpened reading }
-    ensures played { HasPlayed S.left S.faults T.kept T.counts source.old source.new shelves.old.items shelves.new.items plan.now desk.new
+    ensures played { HasPlayed S.left S.faults T.kept T.counts source.old source.new
+        shelves.old.items shelves.new.items plan.now desk.new
         result.0 (map left_end result.1.items) }
     ensures board { desk.new.board ≡ desk.old.board }
     ensures many { vec_len shelves.new ≡ vec_len shelves.old }
@@ -152,13 +156,17 @@ pub fn run_threads<S: Source + Send, T: Shelf + Send, G: Gate + Sync, R: Threads
     // The stream theorem, what the outcome says, and that all is over at the board and it accounts for the run. `at` is the source as
     // the ending of the reading left it.
     ensures ran { IfOk result (λ it. (at : S) × HasReadOn S.left S.faults at source.new it.0.end
-        × Ran S.left S.faults T.kept T.counts source.old at shelves.old.items shelves.new.items plan.now
+        × Ran S.left S.faults T.kept T.counts source.old at shelves.old.items shelves.new.items
+        plan.now
         (told_of it.0) (card_of it.2.view) it.2.view.apps) }
     // The board is the plan's, and every role is back at its desk, so it may be finished.
-    ensures setting { IfOk result (λ it. it.1.setting ≡ record { layout = layout_of plan.now; places = plan.now.ring }) }
+    ensures setting { IfOk result
+        (λ it. it.1.setting ≡ record { layout = layout_of plan.now; places = plan.now.ring }) }
     ensures back { IfOk result (λ it. (it.2.board ≡ it.1) × AllAreBack it.1.setting it.2.view) }
     // Want of memory comes before the first turn or behind the last.
-    ensures lacks { OnErr result (LacksMemoryBeside S.left S.faults T.kept T.counts source.old source.new shelves.old.items shelves.new.items plan.now) }
+    ensures lacks { OnErr result
+        (LacksMemoryBeside S.left S.faults T.kept T.counts source.old source.new shelves.old.items
+        shelves.new.items plan.now) }
 {
     let layout = plan.layout().unwrap();
     let apps = plan.ports.len();

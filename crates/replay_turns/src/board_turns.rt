@@ -24,7 +24,8 @@ pub(crate) fn card_step<S: Source>(
     ensures ready { IsReady feed.new result.0.nic.view }
     ensures turns { (first : S) (ports : List ℕ) (split : ℕ) (frames : List (List ℕ))
         → FeedStands S.left S.faults first source.old ports split frames feed.old board.nic.view
-        → FeedTurns S.left S.faults first source.new ports split frames feed.old feed.new board.nic.view result.0.nic.view }
+        → FeedTurns S.left S.faults first source.new ports split frames feed.old feed.new
+        board.nic.view result.0.nic.view }
     ensures ports { feed.new.ports ≡ feed.old.ports }
     ensures source { ¬ WantsRecord feed.old → source.new ≡ source.old }
     // What it saw in a turn that did nothing is so.
@@ -47,7 +48,8 @@ pub(crate) fn card_step<S: Source>(
 pub(crate) fn card_keeps_up(board: PlainBoard, feed: &mut Feed) -> PlainBoard
     requires ready { IsReady feed.old board.nic.view }
     ensures ready { IsReady feed.new result.nic.view }
-    ensures steps { (ports : List ℕ) (split : ℕ) (frames : List (List ℕ)) → FeedKnows ports split frames feed.old board.nic.view
+    ensures steps { (ports : List ℕ) (split : ℕ) (frames : List (List ℕ))
+        → FeedKnows ports split frames feed.old board.nic.view
         → FeedSteps ports split frames Nothing feed.old feed.new board.nic.view result.nic.view }
     ensures later { feed_steps feed.old board.nic.view ≤ feed_steps feed.new result.nic.view }
     ensures apps { result.apps ≡ board.apps }

@@ -32,11 +32,14 @@ pub fn open<S: Source, T: Shelf>(
 ) -> Result<(PlainBoard, Run), AllocError>
     requires plan { IsPlan plan.now }
     requires turns_only { TakesTurns plan.now }
-    ensures fits { IfOk result (λ it. (shelves : ℕ) → length plan.now.ports.items ≤ shelves → RunFits it.0 it.1 shelves) }
+    ensures fits { IfOk result
+        (λ it. (shelves : ℕ) → length plan.now.ports.items ≤ shelves → RunFits it.0 it.1 shelves) }
     ensures opened { IfOk result (λ it. IsNewRun plan.now it.0 it.1) }
     ensures many { IfOk result (λ it. length it.1.workers.items ≡ length plan.now.ports.items) }
-    ensures runs { IfOk result (λ it. (source : S) (shelves : List T) → length plan.now.ports.items ≤ length shelves
-        → Running S.left S.faults T.kept T.counts source source shelves shelves plan.now it.0.nic it.0.apps it.1) }
+    ensures runs { IfOk result
+        (λ it. (source : S) (shelves : List T) → length plan.now.ports.items ≤ length shelves
+        → Running S.left S.faults T.kept T.counts source source shelves shelves plan.now it.0.nic
+        it.0.apps it.1) }
 {
     let layout = plan.layout().unwrap();
     let apps = plan.ports.len() as u32;

@@ -23,8 +23,10 @@ pub fn play_text<S: Source, T: Shelf>(
 ) -> PlainBoard
     requires fits { RunFits board run.old (length shelves.old) }
     requires turns { AreTurns (length run.old.workers.items) turns.now }
-    ensures plays { Plays S.left S.faults T.kept T.counts source.old source.new shelves.old shelves.new board result run.old run.new }
-    ensures follows { Follows S.left S.faults T.kept T.counts (map role_of turns.now) (moment source.old shelves.old board run.old)
+    ensures plays { Plays S.left S.faults T.kept T.counts source.old source.new shelves.old
+        shelves.new board result run.old run.new }
+    ensures follows { Follows S.left S.faults T.kept T.counts (map role_of turns.now)
+        (moment source.old shelves.old board run.old)
         (moment source.new shelves.new result run.new) }
 {
     let apps = run.workers.len() as u32;
@@ -44,10 +46,14 @@ pub(crate) fn play_round<S: Source, T: Shelf>(
     shelves: &mut [T],
 ) -> (PlainBoard, bool)
     requires fits { RunFits board run.old (length shelves.old) }
-    ensures plays { Plays S.left S.faults T.kept T.counts source.old source.new shelves.old shelves.new board result.0 run.old run.new }
-    ensures follows { Follows S.left S.faults T.kept T.counts (round_of (length run.old.workers.items))
-        (moment source.old shelves.old board run.old) (moment source.new shelves.new result.0 run.new) }
-    ensures answer { MatchBool result.1 (run_steps board run.old < run_steps result.0 run.new) (AreStuck result.0 run.new) }
+    ensures plays { Plays S.left S.faults T.kept T.counts source.old source.new shelves.old
+        shelves.new board result.0 run.old run.new }
+    ensures follows { Follows S.left S.faults T.kept T.counts
+        (round_of (length run.old.workers.items))
+        (moment source.old shelves.old board run.old)
+        (moment source.new shelves.new result.0 run.new) }
+    ensures answer { MatchBool result.1 (run_steps board run.old < run_steps result.0 run.new)
+        (AreStuck result.0 run.new) }
 {
     let apps = run.workers.len() as u32;
     let (mut board, mut did) = step(alloc, board, run, source, shelves, Role::Card);
@@ -70,9 +76,12 @@ pub fn play_rounds<S: Source, T: Shelf>(
     requires fits { RunFits board run.old (length shelves.old) }
     requires plan { IsOfPlan S.left S.faults T.kept T.counts source.old shelves.old board run.old }
     ensures over { AreOver run.new }
-    ensures plays { Plays S.left S.faults T.kept T.counts source.old source.new shelves.old shelves.new board result run.old run.new }
-    ensures follows { (rounds : ℕ) × Follows S.left S.faults T.kept T.counts (rounds_of (length run.old.workers.items) rounds)
-        (moment source.old shelves.old board run.old) (moment source.new shelves.new result run.new) }
+    ensures plays { Plays S.left S.faults T.kept T.counts source.old source.new shelves.old
+        shelves.new board result run.old run.new }
+    ensures follows { (rounds : ℕ)
+        × Follows S.left S.faults T.kept T.counts (rounds_of (length run.old.workers.items) rounds)
+        (moment source.old shelves.old board run.old)
+        (moment source.new shelves.new result run.new) }
 {
     loop {
         let (next, did) = play_round(alloc, board, run, source, shelves);

@@ -36,10 +36,14 @@ pub fn run_turns<S: Source, T: Shelf>(
     requires turns { AreTurns (length plan.now.ports.items) turns.now }
     ensures many { vec_len shelves.new ≡ vec_len shelves.old }
     // The stream theorem, what the outcome says, and that all is over at the board and it accounts for the run.
-    ensures ran { IfOk result (λ it. Ran S.left S.faults T.kept T.counts source.old source.new shelves.old.items shelves.new.items plan.now
+    ensures ran { IfOk result
+        (λ it. Ran S.left S.faults T.kept T.counts source.old source.new shelves.old.items
+        shelves.new.items plan.now
         (told_of it.0) it.1.nic it.1.apps) }
     // Its turns were those of the text, one a letter, and then whole rounds.
-    ensures follows { IfOk result (λ it. RunsBy S.left S.faults T.kept T.counts source.old source.new shelves.old.items shelves.new.items plan.now
+    ensures follows { IfOk result
+        (λ it. RunsBy S.left S.faults T.kept T.counts source.old source.new shelves.old.items
+        shelves.new.items plan.now
         turns.now (told_of it.0) it.1) }
     // Each sweep of the free list was made by a search that is counted as one that swept it.
     ensures swept { IfOk result (λ it. sweeping_in it.0.pool ≡ sweeps_in it.1.nic.view) }
@@ -49,7 +53,9 @@ pub fn run_turns<S: Source, T: Shelf>(
     ensures recorded { IfOk result (λ it. IsRecorded (sides_of it.1) it.1.log) }
     ensures room { IfOk result (λ it. it.1.log.room ≡ room_of plan.now) }
     // Want of memory comes before the first turn or behind the last.
-    ensures lacks { OnErr result (LacksMemory S.left S.faults T.kept T.counts source.old source.new shelves.old.items shelves.new.items plan.now) }
+    ensures lacks { OnErr result
+        (LacksMemory S.left S.faults T.kept T.counts source.old source.new shelves.old.items
+        shelves.new.items plan.now) }
 {
     let (mut board, mut run) = open::<S, T>(alloc, random, plan)?;
     board = play_text(alloc, board, &mut run, source, shelves, turns);
@@ -79,14 +85,18 @@ pub fn run_rounds<S: Source, T: Shelf, G: Gate>(
     requires shelves { length plan.now.ports.items ≤ vec_len shelves.old }
     ensures many { vec_len shelves.new ≡ vec_len shelves.old }
     // The stream theorem, what the outcome says, and that all is over at the board and it accounts for the run.
-    ensures ran { IfOk result (λ it. Ran S.left S.faults T.kept T.counts source.old source.new shelves.old.items shelves.new.items plan.now
+    ensures ran { IfOk result
+        (λ it. Ran S.left S.faults T.kept T.counts source.old source.new shelves.old.items
+        shelves.new.items plan.now
         (told_of it.0) it.1.nic it.1.apps) }
     // The board is sound too, its log tells of it, and has the room that the plan asks for.
     ensures sound { IfOk result (λ it. IsSound (stand_of it.1)) }
     ensures recorded { IfOk result (λ it. IsRecorded (sides_of it.1) it.1.log) }
     ensures room { IfOk result (λ it. it.1.log.room ≡ room_of plan.now) }
     // Want of memory comes before the first turn or behind the last.
-    ensures lacks { OnErr result (LacksMemory S.left S.faults T.kept T.counts source.old source.new shelves.old.items shelves.new.items plan.now) }
+    ensures lacks { OnErr result
+        (LacksMemory S.left S.faults T.kept T.counts source.old source.new shelves.old.items
+        shelves.new.items plan.now) }
 {
     let (mut board, mut run) = open::<S, T>(alloc, random, plan)?;
     board = play_waiting(alloc, gate, board, &mut run, source, shelves);

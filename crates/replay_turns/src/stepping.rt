@@ -21,10 +21,13 @@ fn app_turn<S: Source, T: Shelf>(
 ) -> (PlainBoard, bool)
     requires fits { RunFits board run.old (length shelves.old) }
     requires app { app < length run.old.workers.items }
-    ensures plays { (source : S) → Plays S.left S.faults T.kept T.counts source source shelves.old shelves.new board result.0 run.old run.new }
+    ensures plays { (source : S)
+        → Plays S.left S.faults T.kept T.counts source source shelves.old shelves.new board result.0
+        run.old run.new }
     ensures answer { MatchBool result.1 (run_steps board run.old < run_steps result.0 run.new)
         (DidNothing (App app) board result.0 run.old run.new) }
-    ensures moves { (source : S) → Moves S.left S.faults T.kept T.counts (App app) (moment source shelves.old board run.old)
+    ensures moves { (source : S)
+        → Moves S.left S.faults T.kept T.counts (App app) (moment source shelves.old board run.old)
         (moment source shelves.new result.0 run.new) }
 {
     if run.workers[app as usize].left {
@@ -55,10 +58,12 @@ pub fn step<S: Source, T: Shelf>(
 ) -> (PlainBoard, bool)
     requires fits { RunFits board run.old (length shelves.old) }
     requires role { IsRole (length run.old.workers.items) role }
-    ensures plays { Plays S.left S.faults T.kept T.counts source.old source.new shelves.old shelves.new board result.0 run.old run.new }
+    ensures plays { Plays S.left S.faults T.kept T.counts source.old source.new shelves.old
+        shelves.new board result.0 run.old run.new }
     ensures answer { MatchBool result.1 (run_steps board run.old < run_steps result.0 run.new)
         (DidNothing role board result.0 run.old run.new) }
-    ensures moves { Moves S.left S.faults T.kept T.counts role (moment source.old shelves.old board run.old)
+    ensures moves { Moves S.left S.faults T.kept T.counts role
+        (moment source.old shelves.old board run.old)
         (moment source.new shelves.new result.0 run.new) }
 {
     match role {

@@ -45,7 +45,8 @@ fn ask_apps<G: Gate>(gate: &G, taken: &mut Taken, run: &Run) {
 fn keep_up<S: Source, T: Shelf>(board: PlainBoard, run: &mut Run) -> PlainBoard
     requires ready { IsReady run.old.feed board.nic.view }
     ensures plays { (source : S) (shelves : List T) → RunFits board run.old (length shelves)
-        → Plays S.left S.faults T.kept T.counts source source shelves shelves board result run.old run.new }
+        → Plays S.left S.faults T.kept T.counts source source shelves shelves board result run.old
+        run.new }
     ensures later { run_steps board run.old ≤ run_steps result run.new }
 {
     card_keeps_up(board, &mut run.feed)
@@ -60,7 +61,8 @@ fn app_round<S: Source, T: Shelf>(
     shelves: &mut [T],
 ) -> (PlainBoard, bool)
     requires fits { RunFits board run.old (length shelves.old) }
-    ensures plays { Plays S.left S.faults T.kept T.counts source.old source.new shelves.old shelves.new board result.0 run.old run.new }
+    ensures plays { Plays S.left S.faults T.kept T.counts source.old source.new shelves.old
+        shelves.new board result.0 run.old run.new }
     ensures later { run_steps board run.old ≤ run_steps result.0 run.new }
     ensures rises { result.1 ≡ true → run_steps board run.old < run_steps result.0 run.new }
 {
@@ -85,7 +87,8 @@ fn settle<S: Source, T: Shelf, G: Gate>(
     shelves: &mut [T],
 ) -> (PlainBoard, bool)
     requires fits { RunFits board run.old (length shelves.old) }
-    ensures plays { Plays S.left S.faults T.kept T.counts source.old source.new shelves.old shelves.new board result.0 run.old run.new }
+    ensures plays { Plays S.left S.faults T.kept T.counts source.old source.new shelves.old
+        shelves.new board result.0 run.old run.new }
     ensures later { run_steps board run.old ≤ run_steps result.0 run.new }
     ensures rises { result.1 ≡ true → run_steps board run.old < run_steps result.0 run.new }
 {
@@ -110,8 +113,10 @@ fn waiting_round<S: Source, T: Shelf, G: Gate>(
     shelves: &mut [T],
 ) -> (PlainBoard, bool)
     requires fits { RunFits board run.old (length shelves.old) }
-    ensures plays { Plays S.left S.faults T.kept T.counts source.old source.new shelves.old shelves.new board result.0 run.old run.new }
-    ensures answer { MatchBool result.1 (run_steps board run.old < run_steps result.0 run.new) (AreStuck result.0 run.new) }
+    ensures plays { Plays S.left S.faults T.kept T.counts source.old source.new shelves.old
+        shelves.new board result.0 run.old run.new }
+    ensures answer { MatchBool result.1 (run_steps board run.old < run_steps result.0 run.new)
+        (AreStuck result.0 run.new) }
 {
     let (board, did) = settle(alloc, gate, taken, board, run, source, shelves);
     if did {
@@ -134,7 +139,8 @@ pub fn play_waiting<S: Source, T: Shelf, G: Gate>(
     requires fits { RunFits board run.old (length shelves.old) }
     requires plan { IsOfPlan S.left S.faults T.kept T.counts source.old shelves.old board run.old }
     ensures over { AreOver run.new }
-    ensures plays { Plays S.left S.faults T.kept T.counts source.old source.new shelves.old shelves.new board result run.old run.new }
+    ensures plays { Plays S.left S.faults T.kept T.counts source.old source.new shelves.old
+        shelves.new board result run.old run.new }
 {
     let mut taken = Taken { card: 0, app: 0 };
     loop {

@@ -41,7 +41,8 @@ pub(crate) fn check_record<S: Source, O: Sink>(
     card: &mut Card,
 ) -> u8
     requires { card.old ≡ Card.Blank }
-    ensures checks { Checks (source_seen S.left S.faults) (sink_seen O.sent O.faults) source.old source.new out.old out.new card.new result }
+    ensures checks { Checks (source_seen S.left S.faults) (sink_seen O.sent O.faults) source.old
+        source.new out.old out.new card.new result }
     ensures closed { IsClosed card.new }
 {
     let found = match check(alloc, source) {

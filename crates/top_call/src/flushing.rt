@@ -11,7 +11,8 @@ use zr_kinds::{AppLine, Stopped};
 fn flush_shelf<T: Shelf>(shelf: &mut T, line: &mut AppLine) -> bool
     ensures keeps { (flow : ℕ) → Keeps (T.kept shelf.old flow) (T.kept shelf.new flow) }
     ensures later { (T.counts shelf.old).faults ≤ (T.counts shelf.new).faults }
-    ensures flushed { HasFlushed (T.counts shelf.old).faults (T.counts shelf.new).faults line.old line.new result }
+    ensures flushed { HasFlushed (T.counts shelf.old).faults (T.counts shelf.new).faults line.old
+        line.new result }
     ensures appended { (T.counts shelf.new).appended ≡ (T.counts shelf.old).appended }
 {
     match shelf.flush() {
@@ -29,7 +30,8 @@ fn flush_shelf<T: Shelf>(shelf: &mut T, line: &mut AppLine) -> bool
 /// failed at one.
 pub(crate) fn flush_shelves<T: Shelf>(shelves: &mut [T], lines: &mut [AppLine]) -> bool
     requires { length lines.old ≤ length shelves.old }
-    ensures { Flushes (shelf_seen T.kept T.counts) (length lines.old) shelves.old shelves.new lines.old lines.new result }
+    ensures { Flushes (shelf_seen T.kept T.counts) (length lines.old) shelves.old shelves.new
+        lines.old lines.new result }
 {
     let mut lost = false;
     for app in 0..lines.len() {

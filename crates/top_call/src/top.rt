@@ -31,7 +31,8 @@ use zr_kinds::Fault;
 /// Writes the record of the run, where it is asked for.
 fn write_events<O: Sink>(plan: &Plan, card: &Card, out: &mut O) -> Result<(), Failed>
     requires plan { IsPlan plan.now }
-    ensures bytes { AddsPiece (O.sent out.old) (O.sent out.new) result (record_in plan.now card.now) }
+    ensures bytes { AddsPiece (O.sent out.old) (O.sent out.new) result
+        (record_in plan.now card.now) }
     ensures cause { HasCause (O.faults out.old) (O.faults out.new) result }
 {
     match card {
@@ -53,7 +54,8 @@ fn write_told<O: Sink>(
     requires plan { IsPlan plan.now }
     ensures gained { let r = report.now in
         let text = report_of r.tally.now r.apps.now r.flows.now r.refused.now r.pool.now r.status in
-        Reports (O.sent out.old) (O.sent out.new) (O.faults out.old) (O.faults out.new) (text ++ record_in plan.now card.now) result }
+        Reports (O.sent out.old) (O.sent out.new) (O.faults out.old) (O.faults out.new)
+        (text ++ record_in plan.now card.now) result }
     ensures still { OnOk result (O.faults out.new ≡ O.faults out.old) }
 {
     write_report(alloc, report, out)?;
@@ -74,7 +76,8 @@ fn tell<O: Sink>(
 ) -> u8
     requires plan { IsPlan plan.now }
     ensures { let m = sink_seen O.sent O.faults in
-        Tells (sunk m out.old) (sunk m out.new) (told_of outcome.now) lost (record_in plan.now card.now) result }
+        Tells (sunk m out.old) (sunk m out.new) (told_of outcome.now) lost
+        (record_in plan.now card.now) result }
 {
     let status = status_of(outcome, lost);
     let report = Report {
@@ -100,7 +103,8 @@ fn finish<T: Shelf, O: Sink>(
     requires plan { IsPlan plan.now }
     requires shelves { length outcome.apps.items ≤ length shelves.old }
     ensures { let m = sink_seen O.sent O.faults in
-        Finishes (shelf_seen T.kept T.counts) shelves.old shelves.new (sunk m out.old) (sunk m out.new)
+        Finishes (shelf_seen T.kept T.counts) shelves.old shelves.new (sunk m out.old)
+        (sunk m out.new)
         (told_of outcome, record_in plan.now card.now) result }
 {
     let lost = flush_shelves(shelves, &mut outcome.apps);
@@ -112,7 +116,8 @@ fn plan_of(command: Asked) -> Plan
     requires areas { MakeLayout command.areas.items (length command.ports.items) }
     requires options { AreInRange command.options }
     ensures plan { IsPlan result }
-    ensures told { (turns : Option (List ℕ)) → IsPlanOf (asked_by command.ports.items command.areas.items command.options turns) result }
+    ensures told { (turns : Option (List ℕ))
+        → IsPlanOf (asked_by command.ports.items command.areas.items command.options turns) result }
 {
     let Asked {
         ports,
@@ -154,7 +159,8 @@ fn play_turns<S: Source, T: Shelf>(
     requires turns { AreTurns (length plan.now.ports.items) turns.now }
     ensures many { vec_len shelves.new ≡ vec_len shelves.old }
     ensures plays { let m = streams (source_seen S.left S.faults) (shelf_seen T.kept T.counts) in
-        Plays (ends_at m source.old shelves.old.items) (ends_at m source.new shelves.new.items) card.old card.new (Some turns.now) plan.now result }
+        Plays (ends_at m source.old shelves.old.items) (ends_at m source.new shelves.new.items)
+        card.old card.new (Some turns.now) plan.now result }
 {
     let (outcome, board) = run_turns(alloc, random, source, shelves, plan, turns)?;
     *card = Card::Plain(board);
@@ -176,7 +182,8 @@ fn play_beside<S: Source + Send, T: Shelf + Send, G: Gate + Sync, R: Threads + W
     requires shelves { length plan.now.ports.items ≤ vec_len shelves.old }
     ensures many { vec_len shelves.new ≡ vec_len shelves.old }
     ensures plays { let m = streams (source_seen S.left S.faults) (shelf_seen T.kept T.counts) in
-        Plays (ends_at m source.old shelves.old.items) (ends_at m source.new shelves.new.items) card.old card.new None plan.now result }
+        Plays (ends_at m source.old shelves.old.items) (ends_at m source.new shelves.new.items)
+        card.old card.new None plan.now result }
 {
     let (outcome, board, desk) = run_threads(rt, alloc, random, source, shelves, plan, gate)?;
     board.uncounted(&desk);
@@ -199,7 +206,8 @@ fn play_rounds<S: Source, T: Shelf, G: Gate>(
     requires shelves { length plan.now.ports.items ≤ vec_len shelves.old }
     ensures many { vec_len shelves.new ≡ vec_len shelves.old }
     ensures plays { let m = streams (source_seen S.left S.faults) (shelf_seen T.kept T.counts) in
-        Plays (ends_at m source.old shelves.old.items) (ends_at m source.new shelves.new.items) card.old card.new None plan.now result }
+        Plays (ends_at m source.old shelves.old.items) (ends_at m source.new shelves.new.items)
+        card.old card.new None plan.now result }
 {
     let (outcome, plain) = run_rounds(alloc, random, source, shelves, plan, gate)?;
     *card = Card::Plain(plain);
@@ -229,7 +237,8 @@ fn play_freely<S: Source + Send, T: Shelf + Send, G: Gate + Sync, R: Threads + W
     requires shelves { length plan.now.ports.items ≤ vec_len shelves.old }
     ensures many { vec_len shelves.new ≡ vec_len shelves.old }
     ensures plays { let m = streams (source_seen S.left S.faults) (shelf_seen T.kept T.counts) in
-        Plays (ends_at m source.old shelves.old.items) (ends_at m source.new shelves.new.items) card.old card.new None plan.now result }
+        Plays (ends_at m source.old shelves.old.items) (ends_at m source.new shelves.new.items)
+        card.old card.new None plan.now result }
 {
     if takes_turns(plan) && processors(rt, gate) == 1 {
         play_rounds(alloc, random, source, shelves, plan, gate, card)
@@ -264,8 +273,10 @@ fn replay_alone<S: Source, T: Shelf, O: Sink>(
     requires turns { AreTurns (length command.ports.items) turns.now }
     requires shelves { vec_len shelves.old ≡ 8 }
     requires blank { card.old ≡ Card.Blank }
-    ensures replays { let m = seen (source_seen S.left S.faults) (shelf_seen T.kept T.counts) (sink_seen O.sent O.faults) in
-        RepliesTo (world_at m source.old shelves.old.items out.old card.old) (world_at m source.new shelves.new.items out.new card.new)
+    ensures replays { let m = seen (source_seen S.left S.faults) (shelf_seen T.kept T.counts)
+        (sink_seen O.sent O.faults) in
+        RepliesTo (world_at m source.old shelves.old.items out.old card.old)
+        (world_at m source.new shelves.new.items out.new card.new)
         (asked_by command.ports.items command.areas.items command.options (Some turns.now)) result }
 {
     let plan = plan_of(command);
@@ -292,8 +303,10 @@ fn replay<S: Source + Send, T: Shelf + Send, O: Sink, G: Gate + Sync, R: Threads
     requires options { AreInRange command.options }
     requires shelves { vec_len shelves.old ≡ 8 }
     requires blank { card.old ≡ Card.Blank }
-    ensures replays { let m = seen (source_seen S.left S.faults) (shelf_seen T.kept T.counts) (sink_seen O.sent O.faults) in
-        RepliesTo (world_at m source.old shelves.old.items out.old card.old) (world_at m source.new shelves.new.items out.new card.new)
+    ensures replays { let m = seen (source_seen S.left S.faults) (shelf_seen T.kept T.counts)
+        (sink_seen O.sent O.faults) in
+        RepliesTo (world_at m source.old shelves.old.items out.old card.old)
+        (world_at m source.new shelves.new.items out.new card.new)
         (asked_by command.ports.items command.areas.items command.options None) result }
 {
     let plan = plan_of(command);
@@ -306,8 +319,12 @@ fn replay<S: Source + Send, T: Shelf + Send, O: Sink, G: Gate + Sync, R: Threads
 /// Writes the capture of a seed and a number of frames: the answer.
 fn write_capture<O: Sink>(seed: u32, frames: u32, out: &mut O) -> u8
     ensures kind { (result ≡ 0) ⊎ (result ≡ 9) }
-    ensures whole { result ≡ 0 → Appends (O.sent out.old) (O.sent out.new) (generated_capture seed frames) × (O.faults out.new ≡ O.faults out.old) }
-    ensures lost { result ≡ 9 → ((n : ℕ) × Appends (O.sent out.old) (O.sent out.new) (take n (generated_capture seed frames)))
+    ensures whole { result ≡ 0
+        → Appends (O.sent out.old) (O.sent out.new) (generated_capture seed frames)
+        × (O.faults out.new ≡ O.faults out.old) }
+    ensures lost { result ≡ 9
+        → ((n : ℕ) × Appends (O.sent out.old) (O.sent out.new)
+        (take n (generated_capture seed frames)))
         × Rose (O.faults out.old) (O.faults out.new) }
 {
     match make(seed, frames, out) {
@@ -335,13 +352,21 @@ fn run_alone<S: Source, T: Shelf, O: Sink>(
 ) -> Result<u8, Threaded>
     requires shelves { vec_len shelves.old ≡ 8 }
     requires blank { card.old ≡ Card.Blank }
-    ensures answers { let m = seen (source_seen S.left S.faults) (shelf_seen T.kept T.counts) (sink_seen O.sent O.faults) in
+    ensures answers { let m = seen (source_seen S.left S.faults) (shelf_seen T.kept T.counts)
+        (sink_seen O.sent O.faults) in
         let before = world_at m source.old shelves.old.items out.old card.old in
         let after = world_at m source.new shelves.new.items out.new card.new in
-        MatchResult result (Answers before after (reading_of (map (λ w. w.now) words.now))) (λ _. IsUntouched before after) }
-    ensures alone { IfOk result (λ answer. IsThreaded (reading_of (map (λ w. w.now) words.now)) → answer ≡ 1) }
-    ensures asks { IfErr result (λ t. reading_of (map (λ w. w.now) words.now) ≡ Some (replay (asked_by t.command.ports.items t.command.areas.items t.command.options None))) }
-    ensures asked { IfErr result (λ t. IsPortList t.command.ports.items × MakeLayout t.command.areas.items (length t.command.ports.items)
+        MatchResult result (Answers before after (reading_of (map (λ w. w.now) words.now)))
+        (λ _. IsUntouched before after) }
+    ensures alone { IfOk result
+        (λ answer. IsThreaded (reading_of (map (λ w. w.now) words.now)) → answer ≡ 1) }
+    ensures asks { IfErr result
+        (λ t. reading_of (map (λ w. w.now) words.now)
+        ≡ Some
+        (replay (asked_by t.command.ports.items t.command.areas.items t.command.options None))) }
+    ensures asked { IfErr result
+        (λ t. IsPortList t.command.ports.items
+        × MakeLayout t.command.areas.items (length t.command.ports.items)
         × AreInRange t.command.options) }
     ensures shelves { OnErr result (vec_len shelves.new ≡ 8) }
 {
@@ -390,8 +415,10 @@ pub fn zcrx_alone<S: Source, T: Shelf, O: Sink>(
 ) -> Option<u8>
     requires shelves { vec_len shelves.old ≡ 8 }
     requires blank { card.old ≡ Card.Blank }
-    ensures { let m = seen (source_seen S.left S.faults) (shelf_seen T.kept T.counts) (sink_seen O.sent O.faults) in
-        AnswersAlone (world_at m source.old shelves.old.items out.old card.old) (world_at m source.new shelves.new.items out.new card.new)
+    ensures { let m = seen (source_seen S.left S.faults) (shelf_seen T.kept T.counts)
+        (sink_seen O.sent O.faults) in
+        AnswersAlone (world_at m source.old shelves.old.items out.old card.old)
+        (world_at m source.new shelves.new.items out.new card.new)
         (reading_of (map (λ w. w.now) words.now)) result }
 {
     run_alone(alloc, random, words, source, shelves, out, card).ok()
@@ -417,8 +444,10 @@ pub fn zcrx<S: Source + Send, T: Shelf + Send, O: Sink, G: Gate + Sync, R: Threa
     requires shelves { vec_len shelves.old ≡ 8 }
     requires blank { card.old ≡ Card.Blank }
     // `card.new` may be finished; the rest of what the answer says stands in `Answers`.
-    ensures { let m = seen (source_seen S.left S.faults) (shelf_seen T.kept T.counts) (sink_seen O.sent O.faults) in
-        Answers (world_at m source.old shelves.old.items out.old card.old) (world_at m source.new shelves.new.items out.new card.new)
+    ensures { let m = seen (source_seen S.left S.faults) (shelf_seen T.kept T.counts)
+        (sink_seen O.sent O.faults) in
+        Answers (world_at m source.old shelves.old.items out.old card.old)
+        (world_at m source.new shelves.new.items out.new card.new)
         (reading_of (map (λ w. w.now) words.now)) result }
 {
     match run_alone(alloc, random, words, source, shelves, out, card) {

@@ -11,8 +11,10 @@ use futures::task::{Context, Poll};
 /// Asks for a notice.
 pub fn ask<C: Carrier>(carrier: &mut C, work: &Outbox) -> Option<u32>
     ensures by { AskedBy C.answers (outbox_of work.now) carrier.old carrier.new result }
-    ensures asked { Asked (outbox_of work.now) (C.got carrier.old) (C.got carrier.new) (C.tags carrier.old) (C.tags carrier.new) result }
-    ensures looked { IfNone result (work.now.tally.due ≡ None → Rose (C.pace carrier.old).looks (C.pace carrier.new).looks) }
+    ensures asked { Asked (outbox_of work.now) (C.got carrier.old) (C.got carrier.new)
+        (C.tags carrier.old) (C.tags carrier.new) result }
+    ensures looked { IfNone result
+        (work.now.tally.due ≡ None → Rose (C.pace carrier.old).looks (C.pace carrier.new).looks) }
     ensures counts { C.counts carrier.new ≡ C.counts carrier.old }
     ensures pace { PaceGoes (C.pace carrier.old) (C.pace carrier.new) }
 {
@@ -25,8 +27,10 @@ pub fn ask<C: Carrier>(carrier: &mut C, work: &Outbox) -> Option<u32>
 /// Asks for a notice by a poll.
 pub fn poll_ask<C: Carrier>(carrier: &mut C, work: &Outbox, cx: &mut Context<'_>) -> Option<u32>
     ensures by { AskedBy C.answers (outbox_of work.now) carrier.old carrier.new result }
-    ensures asked { Asked (outbox_of work.now) (C.got carrier.old) (C.got carrier.new) (C.tags carrier.old) (C.tags carrier.new) result }
-    ensures looked { IfNone result (work.now.tally.due ≡ None → Rose (C.pace carrier.old).looks (C.pace carrier.new).looks) }
+    ensures asked { Asked (outbox_of work.now) (C.got carrier.old) (C.got carrier.new)
+        (C.tags carrier.old) (C.tags carrier.new) result }
+    ensures looked { IfNone result
+        (work.now.tally.due ≡ None → Rose (C.pace carrier.old).looks (C.pace carrier.new).looks) }
     ensures counts { C.counts carrier.new ≡ C.counts carrier.old }
     ensures pace { PaceGoes (C.pace carrier.old) (C.pace carrier.new) }
     ensures kept { Keeps cx.old cx.new }

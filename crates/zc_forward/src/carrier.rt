@@ -33,7 +33,8 @@ pub trait Carrier {
     fn begin(&mut self, tag: u32, flow: u32) -> Result<(), Failed>
         requires free { lookup (nat_eq tag) (tags self.old) ≡ None }
         requires few { length (tags self.old) < 64 }
-        ensures tags { tags self.new ≡ (if is_ok result then tags self.old ++ (tag, flow) ∷ [] else tags self.old) }
+        ensures tags { tags self.new
+            ≡ (if is_ok result then tags self.old ++ (tag, flow) ∷ [] else tags self.old) }
         ensures got { FlowsKeep (got self.old) (got self.new) }
         ensures cause { HasCause (counts self.old).faults (counts self.new).faults result }
         ensures counted { (counts self.new).appended ≡ (counts self.old).appended }
@@ -42,11 +43,15 @@ pub trait Carrier {
     /// Carries a piece of the tag's buffer, or at `Failed` a front of it. Other flows stay as they were.
     fn carry(&mut self, tag: u32, piece: &[u8]) -> Result<(), Failed>
         requires { IsSome (lookup (nat_eq tag) (tags self.old)) }
-        ensures bytes { IfSome (lookup (nat_eq tag) (tags self.old)) (λ flow. AddsPiece (got self.old flow) (got self.new flow) result piece.now) }
-        ensures others { IfSome (lookup (nat_eq tag) (tags self.old)) (λ flow. (other : ℕ) → other ≢ flow → KeepsBytes (got self.old other) (got self.new other)) }
+        ensures bytes { IfSome (lookup (nat_eq tag) (tags self.old))
+            (λ flow. AddsPiece (got self.old flow) (got self.new flow) result piece.now) }
+        ensures others { IfSome (lookup (nat_eq tag) (tags self.old))
+            (λ flow. (other : ℕ) → other ≢ flow
+            → KeepsBytes (got self.old other) (got self.new other)) }
         ensures tags { tags self.new ≡ tags self.old }
         ensures cause { HasCause (counts self.old).faults (counts self.new).faults result }
-        ensures counted { CountsPiece (counts self.old).appended (counts self.new).appended result piece.now }
+        ensures counted { CountsPiece (counts self.old).appended (counts self.new).appended result
+            piece.now }
         ensures pace { pace self.new ≡ pace self.old };
 
     /// A tag whose buffer the carrier needs no more. It is out no longer. With `urge` it is told as soon as it can be.

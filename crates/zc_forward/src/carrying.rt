@@ -29,7 +29,8 @@ fn carry_loan<F: AppFace, C: Carrier>(
     ensures stands { StreamStands stream.new.desk (F.seen stream.new.face) }
     ensures desk { stream.new.desk ≡ stream.old.desk }
     ensures carries { let seen = carrying C.got C.counts C.pace in
-        Carries (F.seen stream.old.face) (F.seen stream.new.face) (seen carrier.old) (seen carrier.new) sent.now result }
+        Carries (F.seen stream.old.face) (F.seen stream.new.face) (seen carrier.old)
+        (seen carrier.new) sent.now result }
     ensures tags { C.tags carrier.new ≡ C.tags carrier.old }
     ensures beside { F.beside stream.new.face ≡ F.beside stream.old.face }
 {
@@ -58,8 +59,10 @@ pub fn send<F: AppFace, C: Carrier>(stream: &mut LoanStream<F>, carrier: &mut C,
     ensures stands { StreamStands stream.new.desk (F.seen stream.new.face) }
     ensures desk { stream.new.desk ≡ stream.old.desk }
     ensures carries { let seen = carrying C.got C.counts C.pace in
-        Carries (F.seen stream.old.face) (F.seen stream.new.face) (seen carrier.old) (seen carrier.new) sent.now result }
-    ensures tags { result ≡ sent.now.loan.len → C.tags carrier.new ≡ C.tags carrier.old ++ (sent.now.tag, sent.now.flow) ∷ [] }
+        Carries (F.seen stream.old.face) (F.seen stream.new.face) (seen carrier.old)
+        (seen carrier.new) sent.now result }
+    ensures tags { result ≡ sent.now.loan.len
+        → C.tags carrier.new ≡ C.tags carrier.old ++ (sent.now.tag, sent.now.flow) ∷ [] }
     ensures beside { F.beside stream.new.face ≡ F.beside stream.old.face }
 {
     if carrier.begin(sent.tag, sent.flow).is_err() {
@@ -71,7 +74,9 @@ pub fn send<F: AppFace, C: Carrier>(stream: &mut LoanStream<F>, carrier: &mut C,
 /// Gives up all loans that are out by their tags.
 pub fn give_up<F: AppFace>(stream: &mut LoanStream<F>, out: &mut Vec<Sent>)
     requires stands { StreamStands stream.old.desk (F.seen stream.old.face) }
-    requires loans { (f : Place → ℕ) → total (λ (l : LentPiece). f l.place) (F.seen stream.old.face).loans ≡ of_sent f out.old.items }
+    requires loans { (f : Place → ℕ)
+        → total (λ (l : LentPiece). f l.place) (F.seen stream.old.face).loans
+        ≡ of_sent f out.old.items }
     ensures stands { StreamStands stream.new.desk (F.seen stream.new.face) }
     ensures desk { stream.new.desk ≡ stream.old.desk }
     ensures gave_up { GaveUp (F.seen stream.old.face) (F.seen stream.new.face) }
@@ -86,14 +91,18 @@ pub fn give_up<F: AppFace>(stream: &mut LoanStream<F>, out: &mut Vec<Sent>)
 /// The carrier failed: no tag is out any more, all loans are given up, and the stream is stopped.
 pub fn fail<F: AppFace, C: Carrier>(stream: &mut LoanStream<F>, carrier: &mut C, work: &mut Outbox)
     requires stands { StreamStands stream.old.desk (F.seen stream.old.face) }
-    requires loans { (f : Place → ℕ) → total (λ (l : LentPiece). f l.place) (F.seen stream.old.face).loans ≡ of_sent f work.old.out.items }
+    requires loans { (f : Place → ℕ)
+        → total (λ (l : LentPiece). f l.place) (F.seen stream.old.face).loans
+        ≡ of_sent f work.old.out.items }
     ensures stands { StreamStands stream.new.desk (F.seen stream.new.face) }
     ensures stopped { stream.new.desk ≡ stopped_with stream.old.desk stream.new.desk.flows }
     ensures gave_up { GaveAllUp (F.seen stream.old.face) (F.seen stream.new.face) }
     ensures none { (F.seen stream.new.face).loans ≡ [] }
-    ensures items { (items : List Given) → HasGiven items stream.old.desk.flows (F.seen stream.old.face).taken
+    ensures items { (items : List Given)
+        → HasGiven items stream.old.desk.flows (F.seen stream.old.face).taken
         → HasGiven items stream.new.desk.flows (F.seen stream.new.face).taken }
-    ensures work { (work.new.tally ≡ record work.old.tally { stopped = Write }) × (work.new.out.items ≡ [])
+    ensures work { (work.new.tally ≡ record work.old.tally { stopped = Write })
+        × (work.new.out.items ≡ [])
         × (work.new.uncarried ≡ work.old.uncarried) × (work.new.pressed ≡ work.old.pressed) }
     ensures tags { C.tags carrier.new ≡ [] }
     ensures got { FlowsKeep (C.got carrier.old) (C.got carrier.new) }

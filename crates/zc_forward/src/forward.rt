@@ -40,12 +40,15 @@ impl<F, C> Model for Forward<F, C> {
 impl<F: AppFace, C: Carrier> Forward<F, C> {
     /// Nothing was handed out yet. Takes no memory.
     pub fn new(stream: LoanStream<F>, carrier: C) -> Forward<F, C>
-        requires fresh { (app : ℕ) × (stream.desk ≡ new_desk app) × HasDoneNothing app (F.seen stream.face) }
+        requires fresh { (app : ℕ) × (stream.desk ≡ new_desk app)
+            × HasDoneNothing app (F.seen stream.face) }
         requires stands { StreamStands stream.desk (F.seen stream.face) }
         requires none { C.tags carrier ≡ [] }
-        ensures parts { (result.face ≡ stream.face) × (result.carrier ≡ carrier) × (result.desk ≡ stream.desk)
+        ensures parts { (result.face ≡ stream.face) × (result.carrier ≡ carrier)
+            × (result.desk ≡ stream.desk)
             × (result.work ≡ new_outbox result.work.tally.room) }
-        ensures stands { ForwardStands (C.got carrier) (C.counts carrier) result.work result.desk (C.tags result.carrier) (C.got result.carrier)
+        ensures stands { ForwardStands (C.got carrier) (C.counts carrier) result.work result.desk
+            (C.tags result.carrier) (C.got result.carrier)
             (C.counts result.carrier) (F.seen result.face) }
     {
         let alloc = stream.alloc();
@@ -74,28 +77,37 @@ impl<F: AppFace, C: Carrier> Forward<F, C> {
     /// as no tag is out and each refill slot is free, also while notes still come.
     pub fn turn(&mut self) -> PollTurn
         requires stands { (first : ℕ → Option (List ℕ)) × (losses : ShelfCounts)
-            × ForwardStands first losses self.old.work self.old.desk (C.tags self.old.carrier) (C.got self.old.carrier)
+            × ForwardStands first losses self.old.work self.old.desk (C.tags self.old.carrier)
+            (C.got self.old.carrier)
             (C.counts self.old.carrier) (F.seen self.old.face) }
         ensures gives { (first : ℕ → Option (List ℕ)) (losses : ShelfCounts)
-            → ForwardStands first losses self.old.work self.old.desk (C.tags self.old.carrier) (C.got self.old.carrier)
+            → ForwardStands first losses self.old.work self.old.desk (C.tags self.old.carrier)
+            (C.got self.old.carrier)
             (C.counts self.old.carrier) (F.seen self.old.face)
-            → ForwardGives first losses self.new.work self.new.desk (C.tags self.new.carrier) (C.got self.new.carrier)
+            → ForwardGives first losses self.new.work self.new.desk (C.tags self.new.carrier)
+            (C.got self.new.carrier)
             (C.counts self.new.carrier) (F.seen self.new.face) result }
         // Why it did something, waited, or ended, and which loan went back.
         ensures does { TurnDoes
-            (stage_of self.old.work self.old.desk (C.tags self.old.carrier) (C.pace self.old.carrier) (F.seen self.old.face))
-            (stage_of self.new.work self.new.desk (C.tags self.new.carrier) (C.pace self.new.carrier) (F.seen self.new.face)) result }
+            (stage_of self.old.work self.old.desk (C.tags self.old.carrier)
+            (C.pace self.old.carrier) (F.seen self.old.face))
+            (stage_of self.new.work self.new.desk (C.tags self.new.carrier)
+            (C.pace self.new.carrier) (F.seen self.new.face)) result }
         ensures pace { PaceGoes (C.pace self.old.carrier) (C.pace self.new.carrier) }
         // With which urge it asked the carrier for a notice.
         ensures asks { Asks C.answers C.tags C.pace
-            (stage_of self.old.work self.old.desk (C.tags self.old.carrier) (C.pace self.old.carrier) (F.seen self.old.face))
-            (stage_of self.new.work self.new.desk (C.tags self.new.carrier) (C.pace self.new.carrier) (F.seen self.new.face))
+            (stage_of self.old.work self.old.desk (C.tags self.old.carrier)
+            (C.pace self.old.carrier) (F.seen self.old.face))
+            (stage_of self.new.work self.new.desk (C.tags self.new.carrier)
+            (C.pace self.new.carrier) (F.seen self.new.face))
             self.old.carrier self.new.carrier }
         // One that was stopped and hadn't scrubbed has, where no tag is out and no loan is due, or it saw a refill slot in use.
-        ensures scrubs { self.old.work.tally.stopped ≢ No → self.old.work.tally.due ≡ None → self.old.work.out ≡ []
+        ensures scrubs { self.old.work.tally.stopped ≢ No → self.old.work.tally.due ≡ None
+            → self.old.work.out ≡ []
             → ScrubsIfQuiet (F.seen self.old.face) (F.seen self.new.face) }
         // The board says of the look on which it rests that it is so.
-        ensures told { IsTold (λ look. F.tells look (app_gist (F.seen self.new.face)) (F.beside self.new.face)) result }
+        ensures told { IsTold (λ look.
+            F.tells look (app_gist (F.seen self.new.face)) (F.beside self.new.face)) result }
         // The same application at the same board.
         ensures same { (F.seen self.new.face).app ≡ (F.seen self.old.face).app }
         ensures beside { F.beside self.new.face ≡ F.beside self.old.face }
@@ -107,25 +119,34 @@ impl<F: AppFace, C: Carrier> Forward<F, C> {
     /// A turn that asks for a notice by a poll.
     pub(crate) fn poll_turn(&mut self, cx: &mut Context<'_>) -> PollTurn
         requires stands { (first : ℕ → Option (List ℕ)) × (losses : ShelfCounts)
-            × ForwardStands first losses self.old.work self.old.desk (C.tags self.old.carrier) (C.got self.old.carrier)
+            × ForwardStands first losses self.old.work self.old.desk (C.tags self.old.carrier)
+            (C.got self.old.carrier)
             (C.counts self.old.carrier) (F.seen self.old.face) }
         ensures gives { (first : ℕ → Option (List ℕ)) (losses : ShelfCounts)
-            → ForwardStands first losses self.old.work self.old.desk (C.tags self.old.carrier) (C.got self.old.carrier)
+            → ForwardStands first losses self.old.work self.old.desk (C.tags self.old.carrier)
+            (C.got self.old.carrier)
             (C.counts self.old.carrier) (F.seen self.old.face)
-            → ForwardGives first losses self.new.work self.new.desk (C.tags self.new.carrier) (C.got self.new.carrier)
+            → ForwardGives first losses self.new.work self.new.desk (C.tags self.new.carrier)
+            (C.got self.new.carrier)
             (C.counts self.new.carrier) (F.seen self.new.face) result }
         ensures does { TurnDoes
-            (stage_of self.old.work self.old.desk (C.tags self.old.carrier) (C.pace self.old.carrier) (F.seen self.old.face))
-            (stage_of self.new.work self.new.desk (C.tags self.new.carrier) (C.pace self.new.carrier) (F.seen self.new.face)) result }
+            (stage_of self.old.work self.old.desk (C.tags self.old.carrier)
+            (C.pace self.old.carrier) (F.seen self.old.face))
+            (stage_of self.new.work self.new.desk (C.tags self.new.carrier)
+            (C.pace self.new.carrier) (F.seen self.new.face)) result }
         ensures pace { PaceGoes (C.pace self.old.carrier) (C.pace self.new.carrier) }
         // With which urge it asked the carrier for a notice.
         ensures asks { Asks C.answers C.tags C.pace
-            (stage_of self.old.work self.old.desk (C.tags self.old.carrier) (C.pace self.old.carrier) (F.seen self.old.face))
-            (stage_of self.new.work self.new.desk (C.tags self.new.carrier) (C.pace self.new.carrier) (F.seen self.new.face))
+            (stage_of self.old.work self.old.desk (C.tags self.old.carrier)
+            (C.pace self.old.carrier) (F.seen self.old.face))
+            (stage_of self.new.work self.new.desk (C.tags self.new.carrier)
+            (C.pace self.new.carrier) (F.seen self.new.face))
             self.old.carrier self.new.carrier }
-        ensures scrubs { self.old.work.tally.stopped ≢ No → self.old.work.tally.due ≡ None → self.old.work.out ≡ []
+        ensures scrubs { self.old.work.tally.stopped ≢ No → self.old.work.tally.due ≡ None
+            → self.old.work.out ≡ []
             → ScrubsIfQuiet (F.seen self.old.face) (F.seen self.new.face) }
-        ensures told { IsTold (λ look. F.tells look (app_gist (F.seen self.new.face)) (F.beside self.new.face)) result }
+        ensures told { IsTold (λ look.
+            F.tells look (app_gist (F.seen self.new.face)) (F.beside self.new.face)) result }
         ensures same { (F.seen self.new.face).app ≡ (F.seen self.old.face).app }
         ensures kept { Keeps cx.old cx.new }
         ensures beside { F.beside self.new.face ≡ F.beside self.old.face }
@@ -138,17 +159,20 @@ impl<F: AppFace, C: Carrier> Forward<F, C> {
     /// which is stopped, and the carrier. `leaving` gives the face of that stream back.
     pub fn stop(self) -> (Poured, LoanStream<F>, C)
         requires stands { (first : ℕ → Option (List ℕ)) × (losses : ShelfCounts)
-            × ForwardStands first losses self.work self.desk (C.tags self.carrier) (C.got self.carrier) (C.counts self.carrier)
+            × ForwardStands first losses self.work self.desk (C.tags self.carrier)
+            (C.got self.carrier) (C.counts self.carrier)
             (F.seen self.face) }
         // No loan and no tag is out.
         ensures still { IsStill result.1.desk (F.seen result.1.face) }
         ensures gave_up { GaveAllUp (F.seen self.face) (F.seen result.1.face) }
         ensures stops { (first : ℕ → Option (List ℕ)) (losses : ShelfCounts)
-            → ForwardStands first losses self.work self.desk (C.tags self.carrier) (C.got self.carrier) (C.counts self.carrier)
+            → ForwardStands first losses self.work self.desk (C.tags self.carrier)
+            (C.got self.carrier) (C.counts self.carrier)
             (F.seen self.face)
             → HasStopped first (C.got result.2) (F.seen result.1.face) (pour_end result.0) }
         ensures cause { result.0.stopped ≡ quit_by self.work.tally.stopped }
-        ensures carrier { (C.tags result.2 ≡ []) × FlowsKeep (C.got self.carrier) (C.got result.2) × (C.counts result.2 ≡ C.counts self.carrier) }
+        ensures carrier { (C.tags result.2 ≡ []) × FlowsKeep (C.got self.carrier) (C.got result.2)
+            × (C.counts result.2 ≡ C.counts self.carrier) }
         ensures beside { F.beside result.1.face ≡ F.beside self.face }
     {
         let Forward {
@@ -189,37 +213,50 @@ impl<F: AppFace + Drop, C: Carrier + Drop> Future for Forward<F, C> {
     /// One turn, which asks for a notice by `poll_notice`.
     fn poll(&mut self, cx: &mut Context<'_>) -> Poll<Poured>
         requires { (first : ℕ → Option (List ℕ)) × (losses : ShelfCounts)
-            × ForwardStands first losses self.old.work self.old.desk (C.tags self.old.carrier) (C.got self.old.carrier)
+            × ForwardStands first losses self.old.work self.old.desk (C.tags self.old.carrier)
+            (C.got self.old.carrier)
             (C.counts self.old.carrier) (F.seen self.old.face) }
-        ensures value { IfReady result (Tells self.old.work self.old.desk (C.tags self.old.carrier) (C.got self.old.carrier)
+        ensures value { IfReady result
+            (Tells self.old.work self.old.desk (C.tags self.old.carrier) (C.got self.old.carrier)
             (C.counts self.old.carrier) (F.seen self.old.face)) }
         ensures same { OnPending result ((x : Told)
-            → Tells self.new.work self.new.desk (C.tags self.new.carrier) (C.got self.new.carrier) (C.counts self.new.carrier)
+            → Tells self.new.work self.new.desk (C.tags self.new.carrier) (C.got self.new.carrier)
+            (C.counts self.new.carrier)
             (F.seen self.new.face) x
-            → Tells self.old.work self.old.desk (C.tags self.old.carrier) (C.got self.old.carrier) (C.counts self.old.carrier)
+            → Tells self.old.work self.old.desk (C.tags self.old.carrier) (C.got self.old.carrier)
+            (C.counts self.old.carrier)
             (F.seen self.old.face) x) }
         ensures again { OnPending result ((first : ℕ → Option (List ℕ)) × (losses : ShelfCounts)
-            × ForwardStands first losses self.new.work self.new.desk (C.tags self.new.carrier) (C.got self.new.carrier)
+            × ForwardStands first losses self.new.work self.new.desk (C.tags self.new.carrier)
+            (C.got self.new.carrier)
             (C.counts self.new.carrier) (F.seen self.new.face)) }
         // A poll that is pending asks for another, whatever its sources do.
         ensures woken { OnPending result (cx.new.is_woken ≡ true) }
         ensures registered { OnPending result (Covers cx.new (λ source. ⊤)) }
         ensures kept { Keeps cx.old cx.new }
         ensures gives { (first : ℕ → Option (List ℕ)) (losses : ShelfCounts)
-            → ForwardStands first losses self.old.work self.old.desk (C.tags self.old.carrier) (C.got self.old.carrier)
+            → ForwardStands first losses self.old.work self.old.desk (C.tags self.old.carrier)
+            (C.got self.old.carrier)
             (C.counts self.old.carrier) (F.seen self.old.face)
-            → PollForwards first losses self.new.work self.new.desk (C.tags self.new.carrier) (C.got self.new.carrier)
+            → PollForwards first losses self.new.work self.new.desk (C.tags self.new.carrier)
+            (C.got self.new.carrier)
             (C.counts self.new.carrier) (F.seen self.new.face) result }
-        ensures does { PollDoes (λ look. F.tells look (app_gist (F.seen self.new.face)) (F.beside self.new.face))
-            (stage_of self.old.work self.old.desk (C.tags self.old.carrier) (C.pace self.old.carrier) (F.seen self.old.face))
-            (stage_of self.new.work self.new.desk (C.tags self.new.carrier) (C.pace self.new.carrier) (F.seen self.new.face)) result }
+        ensures does { PollDoes (λ look.
+            F.tells look (app_gist (F.seen self.new.face)) (F.beside self.new.face))
+            (stage_of self.old.work self.old.desk (C.tags self.old.carrier)
+            (C.pace self.old.carrier) (F.seen self.old.face))
+            (stage_of self.new.work self.new.desk (C.tags self.new.carrier)
+            (C.pace self.new.carrier) (F.seen self.new.face)) result }
         ensures pace { PaceGoes (C.pace self.old.carrier) (C.pace self.new.carrier) }
         // With which urge it asked the carrier for a notice.
         ensures asks { Asks C.answers C.tags C.pace
-            (stage_of self.old.work self.old.desk (C.tags self.old.carrier) (C.pace self.old.carrier) (F.seen self.old.face))
-            (stage_of self.new.work self.new.desk (C.tags self.new.carrier) (C.pace self.new.carrier) (F.seen self.new.face))
+            (stage_of self.old.work self.old.desk (C.tags self.old.carrier)
+            (C.pace self.old.carrier) (F.seen self.old.face))
+            (stage_of self.new.work self.new.desk (C.tags self.new.carrier)
+            (C.pace self.new.carrier) (F.seen self.new.face))
             self.old.carrier self.new.carrier }
-        ensures scrubs { self.old.work.tally.stopped ≢ No → self.old.work.tally.due ≡ None → self.old.work.out ≡ []
+        ensures scrubs { self.old.work.tally.stopped ≢ No → self.old.work.tally.due ≡ None
+            → self.old.work.out ≡ []
             → ScrubsIfQuiet (F.seen self.old.face) (F.seen self.new.face) }
         ensures beside { F.beside self.new.face ≡ F.beside self.old.face }
     {

@@ -21,11 +21,15 @@ fn give_back<F: AppFace>(stream: &mut LoanStream<F>, work: &mut Outbox, loan: Lo
     requires out { HasLoan (F.seen stream.old.face) loan }
     requires due { work.old.tally.due ≡ None }
     ensures gives { (first got : ℕ → Option (List ℕ)) (losses now : ShelfCounts) (tags : Tags)
-        → ForwardStands first losses (with_due (outbox_of work.old) (Some loan)) stream.old.desk tags got now (F.seen stream.old.face)
-        → ForwardStands first losses (outbox_of work.new) stream.new.desk tags got now (F.seen stream.new.face) }
-    ensures back { GivesBack loan (outbox_of work.old) (outbox_of work.new) (F.seen stream.old.face) (F.seen stream.new.face) result }
+        → ForwardStands first losses (with_due (outbox_of work.old) (Some loan)) stream.old.desk
+        tags got now (F.seen stream.old.face)
+        → ForwardStands first losses (outbox_of work.new) stream.new.desk tags got now
+        (F.seen stream.new.face) }
+    ensures back { GivesBack loan (outbox_of work.old) (outbox_of work.new) (F.seen stream.old.face)
+        (F.seen stream.new.face) result }
     ensures desk { stream.new.desk ≡ stream.old.desk }
-    ensures told { IsTold (λ look. F.tells look (app_gist (F.seen stream.new.face)) (F.beside stream.new.face)) result }
+    ensures told { IsTold (λ look.
+        F.tells look (app_gist (F.seen stream.new.face)) (F.beside stream.new.face)) result }
     ensures same { (F.seen stream.new.face).app ≡ (F.seen stream.old.face).app }
     ensures beside { F.beside stream.new.face ≡ F.beside stream.old.face }
 {
@@ -40,14 +44,18 @@ fn give_back<F: AppFace>(stream: &mut LoanStream<F>, work: &mut Outbox, loan: Lo
 
 /// Gives the loan back whose tag the carrier told.
 fn take_notice<F: AppFace>(stream: &mut LoanStream<F>, work: &mut Outbox, tag: u32)
-    requires stands { (first got : ℕ → Option (List ℕ)) × (losses now : ShelfCounts) × (was tags : Tags)
-        × ForwardStands first losses (outbox_of work.old) stream.old.desk was got now (F.seen stream.old.face)
+    requires stands { (first got : ℕ → Option (List ℕ)) × (losses now : ShelfCounts)
+        × (was tags : Tags)
+        × ForwardStands first losses (outbox_of work.old) stream.old.desk was got now
+        (F.seen stream.old.face)
         × TakesTag was tags (Some tag) }
     requires due { work.old.tally.due ≡ None }
     ensures gives { (first got : ℕ → Option (List ℕ)) (losses now : ShelfCounts) (was tags : Tags)
-        → ForwardStands first losses (outbox_of work.old) stream.old.desk was got now (F.seen stream.old.face)
+        → ForwardStands first losses (outbox_of work.old) stream.old.desk was got now
+        (F.seen stream.old.face)
         → TakesTag was tags (Some tag)
-        → ForwardStands first losses (outbox_of work.new) stream.new.desk tags got now (F.seen stream.new.face) }
+        → ForwardStands first losses (outbox_of work.new) stream.new.desk tags got now
+        (F.seen stream.new.face) }
     ensures told { (was tags : Tags) (pace later : Pace) → TakesTag was tags (Some tag)
         → Told (stage_of (outbox_of work.old) stream.old.desk was pace (F.seen stream.old.face))
         (stage_of (outbox_of work.new) stream.new.desk tags later (F.seen stream.new.face)) }
@@ -64,7 +72,8 @@ pub fn give_up_uncarried<F: AppFace>(stream: &mut LoanStream<F>, work: &mut Outb
     requires out { IfSome work.old.uncarried (λ loan. HasLoan (F.seen stream.old.face) loan) }
     ensures stands { StreamStands stream.new.desk (F.seen stream.new.face) }
     ensures desk { stream.new.desk ≡ stream.old.desk }
-    ensures view { F.seen stream.new.face ≡ without_uncarried work.old.uncarried (F.seen stream.old.face) }
+    ensures view { F.seen stream.new.face
+        ≡ without_uncarried work.old.uncarried (F.seen stream.old.face) }
     ensures work { work.new ≡ record work.old { uncarried = None } }
     ensures beside { F.beside stream.new.face ≡ F.beside stream.old.face }
 {
@@ -76,19 +85,26 @@ pub fn give_up_uncarried<F: AppFace>(stream: &mut LoanStream<F>, work: &mut Outb
 /// Lets the face leave, once all is given back. A loan that wasn't carried is given up before.
 fn leave<F: AppFace>(stream: &mut LoanStream<F>, work: &mut Outbox) -> PollTurn
     requires stands { (first got : ℕ → Option (List ℕ)) × (losses now : ShelfCounts) × (tags : Tags)
-        × ForwardStands first losses (outbox_of work.old) stream.old.desk tags got now (F.seen stream.old.face) }
+        × ForwardStands first losses (outbox_of work.old) stream.old.desk tags got now
+        (F.seen stream.old.face) }
     requires ended { stream.old.desk.ended ≡ true }
     requires none { work.old.out.items ≡ [] }
     requires due { work.old.tally.due ≡ None }
     ensures gives { (first got : ℕ → Option (List ℕ)) (losses now : ShelfCounts) (tags : Tags)
-        → ForwardStands first losses (outbox_of work.old) stream.old.desk tags got now (F.seen stream.old.face)
-        → ForwardGives first losses (outbox_of work.new) stream.new.desk tags got now (F.seen stream.new.face) result }
-    ensures does { (first got : ℕ → Option (List ℕ)) (losses now : ShelfCounts) (tags : Tags) (pace later : Pace)
-        → ForwardStands first losses (outbox_of work.old) stream.old.desk tags got now (F.seen stream.old.face)
-        → TurnDoes (stage_of (outbox_of work.old) stream.old.desk tags pace (F.seen stream.old.face))
+        → ForwardStands first losses (outbox_of work.old) stream.old.desk tags got now
+        (F.seen stream.old.face)
+        → ForwardGives first losses (outbox_of work.new) stream.new.desk tags got now
+        (F.seen stream.new.face) result }
+    ensures does { (first got : ℕ → Option (List ℕ)) (losses now : ShelfCounts) (tags : Tags)
+        (pace later : Pace)
+        → ForwardStands first losses (outbox_of work.old) stream.old.desk tags got now
+        (F.seen stream.old.face)
+        → TurnDoes (stage_of (outbox_of work.old) stream.old.desk tags pace
+        (F.seen stream.old.face))
         (stage_of (outbox_of work.new) stream.new.desk tags later (F.seen stream.new.face)) result }
     ensures scrubs { ScrubsIfQuiet (F.seen stream.old.face) (F.seen stream.new.face) }
-    ensures told { IsTold (λ look. F.tells look (app_gist (F.seen stream.new.face)) (F.beside stream.new.face)) result }
+    ensures told { IsTold (λ look.
+        F.tells look (app_gist (F.seen stream.new.face)) (F.beside stream.new.face)) result }
     ensures same { (F.seen stream.new.face).app ≡ (F.seen stream.old.face).app }
     ensures beside { F.beside stream.new.face ≡ F.beside stream.old.face }
 {
@@ -115,16 +131,22 @@ fn forward_item<F: AppFace, C: Carrier>(
     requires room { length work.old.tally.counts.entries ≤ vec_capacity work.old.tally.flows }
     requires empty { work.old.tally.flows.items ≡ [] }
     requires loans { work.old.uncarried ≡ None
-        × ((f : Place → ℕ) → total (λ (l : LentPiece). f l.place) (F.seen stream.old.face).loans ≡ f lent.loan + of_sent f work.old.out.items) }
+        × ((f : Place → ℕ) → total (λ (l : LentPiece). f l.place) (F.seen stream.old.face).loans
+        ≡ f lent.loan + of_sent f work.old.out.items) }
     ensures gives { (first : ℕ → Option (List ℕ)) (losses : ShelfCounts) (st : Desk) (v : AppView)
-        → ForwardStands first losses (outbox_of work.old) st (C.tags carrier.old) (C.got carrier.old) (C.counts carrier.old) v
-        → IsItem st stream.old.desk v (F.seen stream.old.face) lent → OnlySteps v (F.seen stream.old.face)
-        → ForwardStands first losses (outbox_of work.new) stream.new.desk (C.tags carrier.new) (C.got carrier.new) (C.counts carrier.new)
+        → ForwardStands first losses (outbox_of work.old) st (C.tags carrier.old)
+        (C.got carrier.old) (C.counts carrier.old) v
+        → IsItem st stream.old.desk v (F.seen stream.old.face) lent
+        → OnlySteps v (F.seen stream.old.face)
+        → ForwardStands first losses (outbox_of work.new) stream.new.desk (C.tags carrier.new)
+        (C.got carrier.new) (C.counts carrier.new)
         (F.seen stream.new.face) }
-    ensures had { (st : Desk) (v : AppView) (pace later : Pace) → IsItem st stream.old.desk v (F.seen stream.old.face) lent
+    ensures had { (st : Desk) (v : AppView) (pace later : Pace)
+        → IsItem st stream.old.desk v (F.seen stream.old.face) lent
         → OnlySteps v (F.seen stream.old.face)
         → CarriedItem (stage_of (outbox_of work.old) st (C.tags carrier.old) pace v)
-        (stage_of (outbox_of work.new) stream.new.desk (C.tags carrier.new) later (F.seen stream.new.face)) }
+        (stage_of (outbox_of work.new) stream.new.desk (C.tags carrier.new) later
+        (F.seen stream.new.face)) }
     ensures pace { C.pace carrier.new ≡ C.pace carrier.old }
     ensures same { (F.seen stream.new.face).app ≡ (F.seen stream.old.face).app }
     ensures beside { F.beside stream.new.face ≡ F.beside stream.old.face }
@@ -164,24 +186,34 @@ fn step_once<F: AppFace, C: Carrier>(
     work: &mut Outbox,
 ) -> PollTurn
     requires stands { (first : ℕ → Option (List ℕ)) × (losses : ShelfCounts)
-        × ForwardStands first losses (outbox_of work.old) stream.old.desk (C.tags carrier.old) (C.got carrier.old) (C.counts carrier.old)
+        × ForwardStands first losses (outbox_of work.old) stream.old.desk (C.tags carrier.old)
+        (C.got carrier.old) (C.counts carrier.old)
         (F.seen stream.old.face) }
     requires more { stream.old.desk.ended ≡ false }
     requires none { work.old.tally.due ≡ None }
     requires few { length work.old.out.items < most_out }
     ensures gives { (first : ℕ → Option (List ℕ)) (losses : ShelfCounts)
-        → ForwardStands first losses (outbox_of work.old) stream.old.desk (C.tags carrier.old) (C.got carrier.old) (C.counts carrier.old)
+        → ForwardStands first losses (outbox_of work.old) stream.old.desk (C.tags carrier.old)
+        (C.got carrier.old) (C.counts carrier.old)
         (F.seen stream.old.face)
-        → ForwardGives first losses (outbox_of work.new) stream.new.desk (C.tags carrier.new) (C.got carrier.new) (C.counts carrier.new)
+        → ForwardGives first losses (outbox_of work.new) stream.new.desk (C.tags carrier.new)
+        (C.got carrier.new) (C.counts carrier.new)
         (F.seen stream.new.face) result }
-    ensures does { (pace : Pace) → StepDoes (stage_of (outbox_of work.old) stream.old.desk (C.tags carrier.old) pace (F.seen stream.old.face))
-        (stage_of (outbox_of work.new) stream.new.desk (C.tags carrier.new) (C.pace carrier.new) (F.seen stream.new.face)) result }
-    ensures only { stream.old.desk.stopped ≡ true → OnlySteps (F.seen stream.old.face) (F.seen stream.new.face) }
+    ensures does { (pace : Pace)
+        → StepDoes (stage_of (outbox_of work.old) stream.old.desk (C.tags carrier.old) pace
+        (F.seen stream.old.face))
+        (stage_of (outbox_of work.new) stream.new.desk (C.tags carrier.new) (C.pace carrier.new)
+        (F.seen stream.new.face)) result }
+    ensures only { stream.old.desk.stopped ≡ true
+        → OnlySteps (F.seen stream.old.face) (F.seen stream.new.face) }
     ensures pace { C.pace carrier.new ≡ C.pace carrier.old }
     ensures rest { (pace : Pace) → (carrier.new ≡ carrier.old)
-        ⊎ CarriedItem (stage_of (outbox_of work.old) stream.old.desk (C.tags carrier.old) pace (F.seen stream.old.face))
-        (stage_of (outbox_of work.new) stream.new.desk (C.tags carrier.new) (C.pace carrier.new) (F.seen stream.new.face)) }
-    ensures told { IsTold (λ look. F.tells look (app_gist (F.seen stream.new.face)) (F.beside stream.new.face)) result }
+        ⊎ CarriedItem (stage_of (outbox_of work.old) stream.old.desk (C.tags carrier.old) pace
+        (F.seen stream.old.face))
+        (stage_of (outbox_of work.new) stream.new.desk (C.tags carrier.new) (C.pace carrier.new)
+        (F.seen stream.new.face)) }
+    ensures told { IsTold (λ look.
+        F.tells look (app_gist (F.seen stream.new.face)) (F.beside stream.new.face)) result }
     ensures same { (F.seen stream.new.face).app ≡ (F.seen stream.old.face).app }
     ensures beside { F.beside stream.new.face ≡ F.beside stream.old.face }
 {
@@ -210,16 +242,23 @@ fn step_once<F: AppFace, C: Carrier>(
 /// before.
 fn scrub_stopped<F: AppFace>(stream: &mut LoanStream<F>, work: &mut Outbox)
     requires stands { (first got : ℕ → Option (List ℕ)) × (losses now : ShelfCounts) × (tags : Tags)
-        × ForwardStands first losses (outbox_of work.old) stream.old.desk tags got now (F.seen stream.old.face) }
+        × ForwardStands first losses (outbox_of work.old) stream.old.desk tags got now
+        (F.seen stream.old.face) }
     requires due { work.old.tally.due ≡ None }
     ensures gives { (first got : ℕ → Option (List ℕ)) (losses now : ShelfCounts) (tags : Tags)
-        → ForwardStands first losses (outbox_of work.old) stream.old.desk tags got now (F.seen stream.old.face)
-        → ForwardStands first losses (outbox_of work.new) stream.new.desk tags got now (F.seen stream.new.face) }
-    ensures first { (tags : Tags) (pace : Pace) → ScrubsFirst (stage_of (outbox_of work.old) stream.old.desk tags pace (F.seen stream.old.face))
+        → ForwardStands first losses (outbox_of work.old) stream.old.desk tags got now
+        (F.seen stream.old.face)
+        → ForwardStands first losses (outbox_of work.new) stream.new.desk tags got now
+        (F.seen stream.new.face) }
+    ensures first { (tags : Tags) (pace : Pace)
+        → ScrubsFirst (stage_of (outbox_of work.old) stream.old.desk tags pace
+        (F.seen stream.old.face))
         (stage_of (outbox_of work.new) stream.new.desk tags pace (F.seen stream.new.face)) }
-    ensures scrubs { work.old.tally.stopped ≢ No → work.old.out.items ≡ [] → ScrubsIfQuiet (F.seen stream.old.face) (F.seen stream.new.face) }
+    ensures scrubs { work.old.tally.stopped ≢ No → work.old.out.items ≡ []
+        → ScrubsIfQuiet (F.seen stream.old.face) (F.seen stream.new.face) }
     ensures work { work.new ≡ record work.old { uncarried = work.new.uncarried } }
-    ensures desk { (stream.new.desk.stopped ≡ stream.old.desk.stopped) × (stream.new.desk.ended ≡ stream.old.desk.ended) }
+    ensures desk { (stream.new.desk.stopped ≡ stream.old.desk.stopped)
+        × (stream.new.desk.ended ≡ stream.old.desk.ended) }
     ensures same { (F.seen stream.new.face).app ≡ (F.seen stream.old.face).app }
     ensures beside { F.beside stream.new.face ≡ F.beside stream.old.face }
 {
@@ -240,24 +279,34 @@ fn take_step<F: AppFace, C: Carrier>(
     work: &mut Outbox,
 ) -> PollTurn
     requires stands { (first : ℕ → Option (List ℕ)) × (losses : ShelfCounts)
-        × ForwardStands first losses (outbox_of work.old) stream.old.desk (C.tags carrier.old) (C.got carrier.old) (C.counts carrier.old)
+        × ForwardStands first losses (outbox_of work.old) stream.old.desk (C.tags carrier.old)
+        (C.got carrier.old) (C.counts carrier.old)
         (F.seen stream.old.face) }
     requires more { stream.old.desk.ended ≡ false }
     requires none { work.old.tally.due ≡ None }
     requires few { length work.old.out.items < most_out }
     ensures gives { (first : ℕ → Option (List ℕ)) (losses : ShelfCounts)
-        → ForwardStands first losses (outbox_of work.old) stream.old.desk (C.tags carrier.old) (C.got carrier.old) (C.counts carrier.old)
+        → ForwardStands first losses (outbox_of work.old) stream.old.desk (C.tags carrier.old)
+        (C.got carrier.old) (C.counts carrier.old)
         (F.seen stream.old.face)
-        → ForwardGives first losses (outbox_of work.new) stream.new.desk (C.tags carrier.new) (C.got carrier.new) (C.counts carrier.new)
+        → ForwardGives first losses (outbox_of work.new) stream.new.desk (C.tags carrier.new)
+        (C.got carrier.new) (C.counts carrier.new)
         (F.seen stream.new.face) result }
-    ensures does { (pace : Pace) → TurnDoes (stage_of (outbox_of work.old) stream.old.desk (C.tags carrier.old) pace (F.seen stream.old.face))
-        (stage_of (outbox_of work.new) stream.new.desk (C.tags carrier.new) (C.pace carrier.new) (F.seen stream.new.face)) result }
+    ensures does { (pace : Pace)
+        → TurnDoes (stage_of (outbox_of work.old) stream.old.desk (C.tags carrier.old) pace
+        (F.seen stream.old.face))
+        (stage_of (outbox_of work.new) stream.new.desk (C.tags carrier.new) (C.pace carrier.new)
+        (F.seen stream.new.face)) result }
     ensures pace { C.pace carrier.new ≡ C.pace carrier.old }
     ensures rest { (pace : Pace) → (carrier.new ≡ carrier.old)
-        ⊎ CarriedItem (stage_of (outbox_of work.old) stream.old.desk (C.tags carrier.old) pace (F.seen stream.old.face))
-        (stage_of (outbox_of work.new) stream.new.desk (C.tags carrier.new) (C.pace carrier.new) (F.seen stream.new.face)) }
-    ensures scrubs { work.old.tally.stopped ≢ No → work.old.out.items ≡ [] → ScrubsIfQuiet (F.seen stream.old.face) (F.seen stream.new.face) }
-    ensures told { IsTold (λ look. F.tells look (app_gist (F.seen stream.new.face)) (F.beside stream.new.face)) result }
+        ⊎ CarriedItem (stage_of (outbox_of work.old) stream.old.desk (C.tags carrier.old) pace
+        (F.seen stream.old.face))
+        (stage_of (outbox_of work.new) stream.new.desk (C.tags carrier.new) (C.pace carrier.new)
+        (F.seen stream.new.face)) }
+    ensures scrubs { work.old.tally.stopped ≢ No → work.old.out.items ≡ []
+        → ScrubsIfQuiet (F.seen stream.old.face) (F.seen stream.new.face) }
+    ensures told { IsTold (λ look.
+        F.tells look (app_gist (F.seen stream.new.face)) (F.beside stream.new.face)) result }
     ensures same { (F.seen stream.new.face).app ≡ (F.seen stream.old.face).app }
     ensures beside { F.beside stream.new.face ≡ F.beside stream.old.face }
 {
@@ -272,31 +321,42 @@ pub fn go_on<F: AppFace, C: Carrier>(
     work: &mut Outbox,
     told: Option<u32>,
 ) -> PollTurn
-    requires stands { (first : ℕ → Option (List ℕ)) × (losses : ShelfCounts) × (was : Tags) × TakesTag was (C.tags carrier.old) told
-        × ForwardStands first losses (outbox_of work.old) stream.old.desk was (C.got carrier.old) (C.counts carrier.old)
+    requires stands { (first : ℕ → Option (List ℕ)) × (losses : ShelfCounts) × (was : Tags)
+        × TakesTag was (C.tags carrier.old) told
+        × ForwardStands first losses (outbox_of work.old) stream.old.desk was (C.got carrier.old)
+        (C.counts carrier.old)
         (F.seen stream.old.face) }
     requires asked { told ≢ None → work.old.tally.due ≡ None }
-    ensures gives { (first : ℕ → Option (List ℕ)) (losses : ShelfCounts) (was : Tags) → TakesTag was (C.tags carrier.old) told
-        → ForwardStands first losses (outbox_of work.old) stream.old.desk was (C.got carrier.old) (C.counts carrier.old)
+    ensures gives { (first : ℕ → Option (List ℕ)) (losses : ShelfCounts) (was : Tags)
+        → TakesTag was (C.tags carrier.old) told
+        → ForwardStands first losses (outbox_of work.old) stream.old.desk was (C.got carrier.old)
+        (C.counts carrier.old)
         (F.seen stream.old.face)
-        → ForwardGives first losses (outbox_of work.new) stream.new.desk (C.tags carrier.new) (C.got carrier.new) (C.counts carrier.new)
+        → ForwardGives first losses (outbox_of work.new) stream.new.desk (C.tags carrier.new)
+        (C.got carrier.new) (C.counts carrier.new)
         (F.seen stream.new.face) result }
     ensures does { (was : Tags) (pace : Pace) → TakesTag was (C.tags carrier.old) told
         → (told ≡ None → work.old.tally.due ≡ None → Rose pace.looks (C.pace carrier.old).looks)
         → TurnDoes (stage_of (outbox_of work.old) stream.old.desk was pace (F.seen stream.old.face))
-        (stage_of (outbox_of work.new) stream.new.desk (C.tags carrier.new) (C.pace carrier.new) (F.seen stream.new.face)) result }
+        (stage_of (outbox_of work.new) stream.new.desk (C.tags carrier.new) (C.pace carrier.new)
+        (F.seen stream.new.face)) result }
     // The carrier isn't asked again.
     ensures pace { C.pace carrier.new ≡ C.pace carrier.old }
     ensures rest { (was : Tags) (pace : Pace) → TakesTag was (C.tags carrier.old) told
         → MatchOption told ((carrier.new ≡ carrier.old)
-        ⊎ CarriedItem (stage_of (outbox_of work.old) stream.old.desk was pace (F.seen stream.old.face))
-        (stage_of (outbox_of work.new) stream.new.desk (C.tags carrier.new) (C.pace carrier.new) (F.seen stream.new.face)))
+        ⊎ CarriedItem (stage_of (outbox_of work.old) stream.old.desk was pace
+        (F.seen stream.old.face))
+        (stage_of (outbox_of work.new) stream.new.desk (C.tags carrier.new) (C.pace carrier.new)
+        (F.seen stream.new.face)))
         (λ tag. (carrier.new ≡ carrier.old)
         × Told (stage_of (outbox_of work.old) stream.old.desk was pace (F.seen stream.old.face))
-        (stage_of (outbox_of work.new) stream.new.desk (C.tags carrier.new) (C.pace carrier.new) (F.seen stream.new.face))) }
-    ensures scrubs { told ≡ None → work.old.tally.stopped ≢ No → work.old.tally.due ≡ None → work.old.out.items ≡ []
+        (stage_of (outbox_of work.new) stream.new.desk (C.tags carrier.new) (C.pace carrier.new)
+        (F.seen stream.new.face))) }
+    ensures scrubs { told ≡ None → work.old.tally.stopped ≢ No → work.old.tally.due ≡ None
+        → work.old.out.items ≡ []
         → ScrubsIfQuiet (F.seen stream.old.face) (F.seen stream.new.face) }
-    ensures told { IsTold (λ look. F.tells look (app_gist (F.seen stream.new.face)) (F.beside stream.new.face)) result }
+    ensures told { IsTold (λ look.
+        F.tells look (app_gist (F.seen stream.new.face)) (F.beside stream.new.face)) result }
     ensures same { (F.seen stream.new.face).app ≡ (F.seen stream.old.face).app }
     ensures beside { F.beside stream.new.face ≡ F.beside stream.old.face }
 {

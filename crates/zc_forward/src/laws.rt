@@ -13,15 +13,21 @@ use board_face::AppFace;
 /// too, so its text stands.
 pub fn forward_law<F: AppFace, C: Carrier>(forward: &Forward<F, C>)
     ensures fronts { (first : ℕ → Option (List ℕ)) (losses : ShelfCounts)
-        → ForwardStands first losses forward.now.work forward.now.desk (C.tags forward.now.carrier) (C.got forward.now.carrier)
+        → ForwardStands first losses forward.now.work forward.now.desk (C.tags forward.now.carrier)
+        (C.got forward.now.carrier)
         (C.counts forward.now.carrier) (F.seen forward.now.face)
-        → FramesStandTogether (F.seen forward.now.face).taken → HasFronts first (C.got forward.now.carrier) (F.seen forward.now.face) }
+        → FramesStandTogether (F.seen forward.now.face).taken
+        → HasFronts first (C.got forward.now.carrier) (F.seen forward.now.face) }
     ensures live { (first : ℕ → Option (List ℕ)) (losses : ShelfCounts)
-        → ForwardStands first losses forward.now.work forward.now.desk (C.tags forward.now.carrier) (C.got forward.now.carrier)
+        → ForwardStands first losses forward.now.work forward.now.desk (C.tags forward.now.carrier)
+        (C.got forward.now.carrier)
         (C.counts forward.now.carrier) (F.seen forward.now.face)
-        → (C.tags forward.now.carrier ≡ tags_of forward.now.work.out) × Each (λ s. HasLoan (F.seen forward.now.face) s.loan) forward.now.work.out }
+        → (C.tags forward.now.carrier ≡ tags_of forward.now.work.out)
+        × Each (λ s. HasLoan (F.seen forward.now.face) s.loan) forward.now.work.out }
     // At most 64 loans are out.
     ensures few { (first : ℕ → Option (List ℕ)) (losses : ShelfCounts)
-        → ForwardStands first losses forward.now.work forward.now.desk (C.tags forward.now.carrier) (C.got forward.now.carrier)
-        (C.counts forward.now.carrier) (F.seen forward.now.face) → length (F.seen forward.now.face).loans ≤ most_out }
+        → ForwardStands first losses forward.now.work forward.now.desk (C.tags forward.now.carrier)
+        (C.got forward.now.carrier)
+        (C.counts forward.now.carrier) (F.seen forward.now.face)
+        → length (F.seen forward.now.face).loans ≤ most_out }
 {}

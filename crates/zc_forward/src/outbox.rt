@@ -44,8 +44,10 @@ pub fn is_urgent(work: &Outbox) -> bool
 pub fn room_for(work: &mut Outbox, flow: u32) -> Result<(), AllocError>
     requires room { length work.old.tally.counts.entries ≤ vec_capacity work.old.tally.flows }
     requires empty { work.old.tally.flows.items ≡ [] }
-    ensures same { work.new.tally ≡ record work.old.tally { counts = work.new.tally.counts; flows = work.new.tally.flows } }
-    ensures beside { (work.new.out.items ≡ work.old.out.items) × (work.new.uncarried ≡ work.old.uncarried) × (work.new.pressed ≡ work.old.pressed) }
+    ensures same { work.new.tally
+        ≡ record work.old.tally { counts = work.new.tally.counts; flows = work.new.tally.flows } }
+    ensures beside { (work.new.out.items ≡ work.old.out.items)
+        × (work.new.uncarried ≡ work.old.uncarried) × (work.new.pressed ≡ work.old.pressed) }
     ensures none { AddsTo flow 0 work.old.tally.counts.entries work.new.tally.counts.entries }
     ensures there { OnOk result (IsSome (get nat_cmp work.new.tally.counts flow)) }
     ensures fits { OnOk result (length work.new.out.items + 1 ≤ vec_capacity work.new.out) }

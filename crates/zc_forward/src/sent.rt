@@ -20,7 +20,8 @@ pub struct Sent {
 /// Where the loan of a tag stands.
 fn place_of(out: &[Sent], tag: u32) -> Option<usize>
     ensures { MatchOption result (lookup (nat_eq tag) (tags_of out.now) ≡ None)
-        (λ i. (i < length out.now) × ((sent : Entry) → sent ≡ slice_index_or out.now i sent → sent.tag ≡ tag)
+        (λ i. (i < length out.now)
+        × ((sent : Entry) → sent ≡ slice_index_or out.now i sent → sent.tag ≡ tag)
         × (tags_of (remove out.now i) ≡ remove_entry (nat_eq tag) (tags_of out.now))) }
 {
     for i in 0..out.len() {
@@ -48,8 +49,10 @@ pub fn free_tag(out: &[Sent]) -> u32
 /// Takes the loan of a tag out.
 pub fn take_sent(out: &mut Vec<Sent>, tag: u32) -> Loan
     requires { IsSome (lookup (nat_eq tag) (tags_of out.old.items)) }
-    ensures was { (flow : ℕ) × IsIn (record { tag = tag; flow = flow; loan = result }) out.old.items }
-    ensures at { (flow i : ℕ) × (slice_get out.old.items i ≡ Some (record { tag = tag; flow = flow; loan = result }))
+    ensures was { (flow : ℕ)
+        × IsIn (record { tag = tag; flow = flow; loan = result }) out.old.items }
+    ensures at { (flow i : ℕ)
+        × (slice_get out.old.items i ≡ Some (record { tag = tag; flow = flow; loan = result }))
         × (out.new.items ≡ remove out.old.items i) }
     ensures tags { tags_of out.new.items ≡ remove_entry (nat_eq tag) (tags_of out.old.items) }
     ensures loans { (f : Place → ℕ) → f result + of_sent f out.new.items ≡ of_sent f out.old.items }

@@ -99,11 +99,15 @@ impl<T: Shelf> Carrier for ShelfCarrier<T> {
     fn carry(&mut self, tag: u32, piece: &[u8]) -> Result<(), Failed>
         requires { IsSome (lookup (nat_eq tag) self.old.out) }
         ensures bytes { IfSome (lookup (nat_eq tag) self.old.out)
-            (λ flow. AddsPiece (T.kept self.old.shelf flow) (T.kept self.new.shelf flow) result piece.now) }
+            (λ flow. AddsPiece (T.kept self.old.shelf flow) (T.kept self.new.shelf flow) result
+            piece.now) }
         ensures others { IfSome (lookup (nat_eq tag) self.old.out)
-            (λ flow. (other : ℕ) → other ≢ flow → KeepsBytes (T.kept self.old.shelf other) (T.kept self.new.shelf other)) }
-        ensures cause { HasCause (T.counts self.old.shelf).faults (T.counts self.new.shelf).faults result }
-        ensures counted { CountsPiece (T.counts self.old.shelf).appended (T.counts self.new.shelf).appended result piece.now }
+            (λ flow. (other : ℕ) → other ≢ flow
+            → KeepsBytes (T.kept self.old.shelf other) (T.kept self.new.shelf other)) }
+        ensures cause { HasCause (T.counts self.old.shelf).faults (T.counts self.new.shelf).faults
+            result }
+        ensures counted { CountsPiece (T.counts self.old.shelf).appended
+            (T.counts self.new.shelf).appended result piece.now }
         ensures beside { self.new ≡ record self.old { shelf = self.new.shelf } }
     {
         let Some(flow) = flow_of(&self.out, tag) else {

@@ -32,15 +32,19 @@ fn take_turn<F: AppFace, C: Carrier>(
     cx: &mut Context<'_>,
 ) -> Option<Poured>
     requires stands { (first : ℕ → Option (List ℕ)) × (losses : ShelfCounts)
-        × ForwardStands first losses work.old.work work.old.desk (C.tags work.old.carrier) (C.got work.old.carrier) (C.counts work.old.carrier)
+        × ForwardStands first losses work.old.work work.old.desk (C.tags work.old.carrier)
+        (C.got work.old.carrier) (C.counts work.old.carrier)
         (F.seen work.old.face) }
     ensures gives { (first : ℕ → Option (List ℕ)) (losses : ShelfCounts)
-        → ForwardStands first losses work.old.work work.old.desk (C.tags work.old.carrier) (C.got work.old.carrier) (C.counts work.old.carrier)
+        → ForwardStands first losses work.old.work work.old.desk (C.tags work.old.carrier)
+        (C.got work.old.carrier) (C.counts work.old.carrier)
         (F.seen work.old.face)
         → MatchOption result
-        (ForwardStands first losses work.new.work work.new.desk (C.tags work.new.carrier) (C.got work.new.carrier) (C.counts work.new.carrier)
+        (ForwardStands first losses work.new.work work.new.desk (C.tags work.new.carrier)
+        (C.got work.new.carrier) (C.counts work.new.carrier)
         (F.seen work.new.face))
-        (λ poured. IsLastTurn first losses (C.got work.new.carrier) (C.counts work.new.carrier) (F.seen work.old.face).app (F.seen work.new.face) poured) }
+        (λ poured. IsLastTurn first losses (C.got work.new.carrier) (C.counts work.new.carrier)
+        (F.seen work.old.face).app (F.seen work.new.face) poured) }
     ensures left { IfSome result (λ _. (F.seen work.new.face).left ≡ true) }
     ensures same { (F.seen work.new.face).app ≡ (F.seen work.old.face).app }
     ensures kept { Keeps cx.old cx.new }

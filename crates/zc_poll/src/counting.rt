@@ -47,8 +47,12 @@ pub fn make_room(work: &mut PourTally, flow: u32) -> Result<(), AllocError>
 /// Counts bytes that were written to a flow.
 pub fn count(work: &mut PourTally, flow: u32, bytes: u32)
     requires there { IsSome (get nat_cmp work.old.counts flow) }
-    ensures same { work.new ≡ record work.old { counts = work.new.counts; written = min (work.old.written + bytes) (2 ^ 64 - 1) } }
-    ensures adds { bytes_in flow work.old.counts.entries + bytes < 2 ^ 64 → AddsTo flow bytes work.old.counts.entries work.new.counts.entries }
+    ensures same { work.new ≡ record work.old {
+      counts = work.new.counts;
+      written = min (work.old.written + bytes) (2 ^ 64 - 1);
+    } }
+    ensures adds { bytes_in flow work.old.counts.entries + bytes < 2 ^ 64
+        → AddsTo flow bytes work.old.counts.entries work.new.counts.entries }
     ensures many { length work.new.counts.entries ≡ length work.old.counts.entries }
 {
     if let Some(count) = work.counts.get_mut(&flow) {

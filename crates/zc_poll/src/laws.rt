@@ -10,10 +10,13 @@ use board_face::AppFace;
 /// any more, where the stream wasn't stopped. A new stream has given none, and each step goes on from what was given before.
 pub fn items_law<F: AppFace>(stream: &LoanStream<F>)
     requires { StreamStands stream.now.desk (F.seen stream.now.face) }
-    ensures fronts { (items : List Given) → HasGiven items stream.now.desk.flows (F.seen stream.now.face).taken
+    ensures fronts { (items : List Given)
+        → HasGiven items stream.now.desk.flows (F.seen stream.now.face).taken
         → FramesStandTogether (F.seen stream.now.face).taken
-        → (flow : ℕ) → (rest : List Mark) × (marks_of flow (F.seen stream.now.face).taken ≡ marks_given flow items ++ rest) }
+        → (flow : ℕ) → (rest : List Mark)
+        × (marks_of flow (F.seen stream.now.face).taken ≡ marks_given flow items ++ rest) }
     ensures whole { stream.now.desk.ended ≡ true → stream.now.desk.stopped ≡ false
-        → (items : List Given) → HasGiven items stream.now.desk.flows (F.seen stream.now.face).taken → FramesStandTogether (F.seen stream.now.face).taken
+        → (items : List Given) → HasGiven items stream.now.desk.flows (F.seen stream.now.face).taken
+        → FramesStandTogether (F.seen stream.now.face).taken
         → (flow : ℕ) → marks_of flow (F.seen stream.now.face).taken ≡ marks_given flow items }
 {}

@@ -21,7 +21,8 @@ impl<F: AppFace> LoanStream<F> {
         requires stands { StreamStands self.desk (F.seen self.face) }
         requires none { (F.seen self.face).loans ≡ [] }
         ensures { IsSomeAnd result.stream (λ stream. IsStill stream.desk (F.seen stream.face)
-            × (F.seen stream.face ≡ record (F.seen self.face) { helds = [] }) × (F.beside stream.face ≡ F.beside self.face)) }
+            × (F.seen stream.face ≡ record (F.seen self.face) { helds = [] })
+            × (F.beside stream.face ≡ F.beside self.face)) }
     {
         let mut stream = self;
         stream.stop();
@@ -49,7 +50,9 @@ fn pass<F: AppFace>(stream: &mut LoanStream<F>)
 /// Scrubs, unless a refill slot is in use, and takes a step; or leaves: whether it has left.
 fn leave_soon<F: AppFace>(stream: &mut LoanStream<F>) -> bool
     requires still { IsStill stream.old.desk (F.seen stream.old.face) }
-    ensures left { MatchBool result (((F.seen stream.new.face).scrubbed ≡ true) × ((F.seen stream.new.face).left ≡ true)) (IsStill stream.new.desk (F.seen stream.new.face)) }
+    ensures left { MatchBool result
+        (((F.seen stream.new.face).scrubbed ≡ true) × ((F.seen stream.new.face).left ≡ true))
+        (IsStill stream.new.desk (F.seen stream.new.face)) }
     ensures passes { Passes (F.seen stream.old.face) (F.seen stream.new.face) }
     ensures beside { F.beside stream.new.face ≡ F.beside stream.old.face }
 {

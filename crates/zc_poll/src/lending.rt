@@ -13,7 +13,12 @@ use flow_queues::{FlowQueue, Lending, Next, lend_next};
 fn item(own: &mut FlowQueue, lending: Lending, copied: bool) -> Lent
     ensures flow { own.new ≡ record own.old { bytes = counted_on own.old.bytes lending.loan.len } }
     ensures sound { IsSound own.old.queue }
-    ensures item { result ≡ record { flow = own.old.number; position = own.old.bytes; loan = lending.loan; copied = copied } }
+    ensures item { result ≡ record {
+      flow = own.old.number;
+      position = own.old.bytes;
+      loan = lending.loan;
+      copied = copied;
+    } }
 {
     let _next = own.queue.next_position();
     let position = own.bytes;
@@ -30,9 +35,11 @@ fn item(own: &mut FlowQueue, lending: Lending, copied: bool) -> Lent
 pub fn offer<F: AppFace>(face: &mut F, st: &mut Queues) -> Option<Step>
     requires stands { StreamStands (desk_of st.old) (F.seen face.old) }
     requires more { st.old.ended ≡ false }
-    ensures offers { Offers (desk_of st.old) (desk_of st.new) (F.seen face.old) (F.seen face.new) result }
+    ensures offers { Offers (desk_of st.old) (desk_of st.new) (F.seen face.old) (F.seen face.new)
+        result }
     ensures kind { result ≢ Some (Waiting NoNote) }
-    ensures told { result ≡ Some (Waiting ReserveHeld) → F.tells NoSpare (app_gist (F.seen face.new)) (F.beside face.new) }
+    ensures told { result ≡ Some (Waiting ReserveHeld)
+        → F.tells NoSpare (app_gist (F.seen face.new)) (F.beside face.new) }
     ensures beside { F.beside face.new ≡ F.beside face.old }
 {
     if st.stopped {

@@ -29,15 +29,21 @@ pub fn append_loan<F: AppFace, T: Shelf>(
     ensures desk { stream.new.desk ≡ stream.old.desk }
     ensures only { OnlyReads (F.seen stream.old.face) (F.seen stream.new.face) }
     ensures counted { result ≤ loan.now.len }
-    ensures gained { (lending : Lending) → lending.loan ≡ loan.now → lending.note < length (F.seen stream.old.face).taken
+    ensures gained { (lending : Lending) → lending.loan ≡ loan.now
+        → lending.note < length (F.seen stream.old.face).taken
         → IsIn (lent_piece (F.seen stream.old.face).taken lending) (F.seen stream.old.face).loans
         → Gained (T.kept shelf.old flow) (T.kept shelf.new flow)
-        (λ (read : List ℕ). IsReadOf (F.seen stream.old.face).taken (F.seen stream.new.face).reads lending result loan.now.len read) }
-    ensures others { (other : ℕ) → other ≢ flow → Keeps (T.kept shelf.old other) (T.kept shelf.new other) }
+        (λ (read : List ℕ). IsReadOf (F.seen stream.old.face).taken (F.seen stream.new.face).reads
+        lending result loan.now.len read) }
+    ensures others { (other : ℕ) → other ≢ flow
+        → Keeps (T.kept shelf.old other) (T.kept shelf.new other) }
     ensures later { (T.counts shelf.old).faults ≤ (T.counts shelf.new).faults }
-    ensures still { result ≡ loan.now.len → (T.counts shelf.new).faults ≡ (T.counts shelf.old).faults }
-    ensures cause { result < loan.now.len → Rose (T.counts shelf.old).faults (T.counts shelf.new).faults }
-    ensures appended { (T.counts shelf.new).appended ≡ raised_by (T.counts shelf.old).appended result }
+    ensures still { result ≡ loan.now.len
+        → (T.counts shelf.new).faults ≡ (T.counts shelf.old).faults }
+    ensures cause { result < loan.now.len
+        → Rose (T.counts shelf.old).faults (T.counts shelf.new).faults }
+    ensures appended { (T.counts shelf.new).appended
+        ≡ raised_by (T.counts shelf.old).appended result }
     ensures beside { F.beside stream.new.face ≡ F.beside stream.old.face }
 {
     let mut chunk = [0; CHUNK];
@@ -61,8 +67,10 @@ fn give_up<F: AppFace>(stream: &mut LoanStream<F>, work: &mut PourTally, loan: L
     requires out { HasLoan (F.seen stream.old.face) loan }
     ensures stands { StreamStands stream.new.desk (F.seen stream.new.face) }
     ensures stopped { stream.new.desk ≡ stopped_with stream.old.desk stream.new.desk.flows }
-    ensures view { F.seen stream.new.face ≡ record (abandoned (F.seen stream.old.face) loan) { helds = [] } }
-    ensures items { (items : List Given) → HasGiven items stream.old.desk.flows (F.seen stream.old.face).taken
+    ensures view { F.seen stream.new.face
+        ≡ record (abandoned (F.seen stream.old.face) loan) { helds = [] } }
+    ensures items { (items : List Given)
+        → HasGiven items stream.old.desk.flows (F.seen stream.old.face).taken
         → HasGiven items stream.new.desk.flows (F.seen stream.new.face).taken }
     ensures work { work.new ≡ record work.old { stopped = why } }
     ensures beside { F.beside stream.new.face ≡ F.beside stream.old.face }
@@ -87,10 +95,13 @@ pub fn pour<F: AppFace, T: Shelf>(
     requires empty { work.old.flows.items ≡ [] }
     ensures pours { (first : ℕ → Option (List ℕ)) (losses : ShelfCounts) (st : Desk) (v : AppView)
         → PourStands first losses (tally_of work.old) st (T.kept shelf.old) (T.counts shelf.old) v
-        → IsItem st stream.old.desk v (F.seen stream.old.face) lent → OnlySteps v (F.seen stream.old.face)
-        → PourStands first losses (record (tally_of work.new) { due = result }) stream.new.desk (T.kept shelf.new) (T.counts shelf.new)
+        → IsItem st stream.old.desk v (F.seen stream.old.face) lent
+        → OnlySteps v (F.seen stream.old.face)
+        → PourStands first losses (record (tally_of work.new) { due = result }) stream.new.desk
+        (T.kept shelf.new) (T.counts shelf.new)
         (F.seen stream.new.face) }
-    ensures read { IsRead lent.loan stream.old.desk stream.new.desk (F.seen stream.old.face) (F.seen stream.new.face) result }
+    ensures read { IsRead lent.loan stream.old.desk stream.new.desk (F.seen stream.old.face)
+        (F.seen stream.new.face) result }
     ensures stands { StreamStands stream.new.desk (F.seen stream.new.face) }
     ensures none { work.new.due ≡ None }
     ensures beside { F.beside stream.new.face ≡ F.beside stream.old.face }

@@ -34,7 +34,8 @@ pub struct Queues {
 pub fn release<F: AppFace>(face: &mut F, st: &mut Queues)
     requires here { IsHere (F.seen face.old) }
     requires may { MayRelease (desk_of st.old) (F.seen face.old) }
-    ensures released { IsReleased (desk_of st.old) (desk_of st.new) (F.seen face.old) (F.seen face.new) }
+    ensures released { IsReleased (desk_of st.old) (desk_of st.new) (F.seen face.old)
+        (F.seen face.new) }
     ensures beside { F.beside face.new ≡ F.beside face.old }
 {
     if !st.stopped && !st.ended {
@@ -46,7 +47,8 @@ pub fn release<F: AppFace>(face: &mut F, st: &mut Queues)
 pub fn stop<F: AppFace>(face: &mut F, st: &mut Queues)
     requires here { IsHere (F.seen face.old) }
     requires may { MayRelease (desk_of st.old) (F.seen face.old) }
-    ensures stopped { IsStopped (desk_of st.old) (desk_of st.new) (F.seen face.old) (F.seen face.new) }
+    ensures stopped { IsStopped (desk_of st.old) (desk_of st.new) (F.seen face.old)
+        (F.seen face.new) }
     ensures beside { F.beside face.new ≡ F.beside face.old }
 {
     release(face, st);
@@ -59,9 +61,12 @@ pub fn scrub<F: AppFace>(face: &mut F, scrubbed: bool) -> bool
     requires none { (F.seen face.old).loans ≡ [] }
     requires known { (F.seen face.old).scrubbed ≡ scrubbed }
     requires quiet { scrubbed ≡ true → (F.seen face.old).quiet ≡ true }
-    ensures view { MatchBool result (F.seen face.new ≡ has_scrubbed (F.seen face.old)) (AppOnlySaw NotQuiet (F.seen face.old) (F.seen face.new)) }
+    ensures view { MatchBool result (F.seen face.new ≡ has_scrubbed (F.seen face.old))
+        (AppOnlySaw NotQuiet (F.seen face.old) (F.seen face.new)) }
     ensures some { result ≡ false → HasWritten (F.seen face.old) }
-    ensures told { result ≡ false → AppTold (λ look. F.tells look (app_gist (F.seen face.old)) (F.beside face.old)) (F.seen face.old) (F.seen face.new) }
+    ensures told { result ≡ false
+        → AppTold (λ look. F.tells look (app_gist (F.seen face.old)) (F.beside face.old))
+        (F.seen face.old) (F.seen face.new) }
     ensures beside { F.beside face.new ≡ F.beside face.old }
 {
     if scrubbed {

@@ -59,11 +59,14 @@ impl<F: AppFace> LoanStream<F> {
     pub fn step(&mut self) -> Step
         requires stands { StreamStands self.old.desk (F.seen self.old.face) }
         ensures stands { StreamStands self.new.desk (F.seen self.new.face) }
-        ensures steps { Steps self.old.desk self.new.desk (F.seen self.old.face) (F.seen self.new.face) result }
+        ensures steps { Steps self.old.desk self.new.desk (F.seen self.old.face)
+            (F.seen self.new.face) result }
         ensures only { OnlySteps (F.seen self.old.face) (F.seen self.new.face) }
         ensures again { self.old.desk.ended ≡ true → (result ≡ Step.Ended) × (self.new ≡ self.old) }
-        ensures no_note { result ≡ Waiting NoNote → F.tells no_note (app_gist (F.seen self.new.face)) (F.beside self.new.face) }
-        ensures no_spare { result ≡ Waiting ReserveHeld → F.tells no_spare (app_gist (F.seen self.new.face)) (F.beside self.new.face) }
+        ensures no_note { result ≡ Waiting NoNote
+            → F.tells no_note (app_gist (F.seen self.new.face)) (F.beside self.new.face) }
+        ensures no_spare { result ≡ Waiting ReserveHeld
+            → F.tells no_spare (app_gist (F.seen self.new.face)) (F.beside self.new.face) }
         ensures beside { F.beside self.new.face ≡ F.beside self.old.face }
     {
         if self.queues.ended {
@@ -92,12 +95,15 @@ impl<F: AppFace> LoanStream<F> {
         requires within { from + length into.old ≤ loan.now.len }
         ensures stands { StreamStands self.new.desk (F.seen self.new.face) }
         ensures desk { self.new.desk ≡ self.old.desk }
-        ensures view { F.seen self.new.face ≡ has_read (F.seen self.old.face) loan.now from into.new }
+        ensures view { F.seen self.new.face
+            ≡ has_read (F.seen self.old.face) loan.now from into.new }
         ensures copied { ShowsCopy (loan_origin (F.seen self.old.face) loan.now) from into.new }
         // The bytes are those at the loan's marks.
-        ensures text { (lending : Lending) → lending.loan ≡ loan.now → lending.note < length (F.seen self.old.face).taken
+        ensures text { (lending : Lending) → lending.loan ≡ loan.now
+            → lending.note < length (F.seen self.old.face).taken
             → IsIn (lent_piece (F.seen self.old.face).taken lending) (F.seen self.old.face).loans
-            → AreReadAt (F.seen self.new.face).taken (F.seen self.new.face).reads (marks_from lending.note (lending.at + from) (length into.new)) into.new }
+            → AreReadAt (F.seen self.new.face).taken (F.seen self.new.face).reads
+            (marks_from lending.note (lending.at + from) (length into.new)) into.new }
         ensures beside { F.beside self.new.face ≡ F.beside self.old.face }
     {
         self.face.read(loan, from, into);
@@ -111,9 +117,11 @@ impl<F: AppFace> LoanStream<F> {
         ensures desk { self.new.desk ≡ self.old.desk }
         ensures view { MatchResult result
             (λ _. F.seen self.new.face ≡ gave (F.seen self.old.face) loan)
-            (λ back. (back ≡ loan) × AppOnlySaw RefillInUse (F.seen self.old.face) (F.seen self.new.face)) }
+            (λ back. (back ≡ loan) × AppOnlySaw RefillInUse (F.seen self.old.face)
+            (F.seen self.new.face)) }
         ensures full { IfErr result (λ _. HasWrittenRingful (F.seen self.old.face)) }
-        ensures told { AppTold (λ look. F.tells look (app_gist (F.seen self.old.face)) (F.beside self.old.face))
+        ensures told { AppTold (λ look.
+            F.tells look (app_gist (F.seen self.old.face)) (F.beside self.old.face))
             (F.seen self.old.face) (F.seen self.new.face) }
         ensures beside { F.beside self.new.face ≡ F.beside self.old.face }
     {
@@ -138,7 +146,8 @@ impl<F: AppFace> LoanStream<F> {
         ensures stands { StreamStands self.new.desk (F.seen self.new.face) }
         ensures stopped { self.new.desk ≡ stopped_with self.old.desk self.new.desk.flows }
         ensures view { F.seen self.new.face ≡ record (F.seen self.old.face) { helds = [] } }
-        ensures items { (items : List Given) → HasGiven items self.old.desk.flows (F.seen self.old.face).taken
+        ensures items { (items : List Given)
+            → HasGiven items self.old.desk.flows (F.seen self.old.face).taken
             → HasGiven items self.new.desk.flows (F.seen self.new.face).taken }
         ensures beside { F.beside self.new.face ≡ F.beside self.old.face }
     {
@@ -152,9 +161,12 @@ impl<F: AppFace> LoanStream<F> {
         requires stopped { self.old.desk.stopped ≡ true }
         requires none { (F.seen self.old.face).loans ≡ [] }
         ensures stands { StreamStands self.new.desk (F.seen self.new.face) }
-        ensures scrubs { Scrubs self.old.desk self.new.desk (F.seen self.old.face) (F.seen self.new.face) result }
+        ensures scrubs { Scrubs self.old.desk self.new.desk (F.seen self.old.face)
+            (F.seen self.new.face) result }
         ensures some { result ≡ false → HasWritten (F.seen self.old.face) }
-        ensures told { result ≡ false → AppTold (λ look. F.tells look (app_gist (F.seen self.old.face)) (F.beside self.old.face))
+        ensures told { result ≡ false
+            → AppTold (λ look. F.tells look (app_gist (F.seen self.old.face))
+            (F.beside self.old.face))
             (F.seen self.old.face) (F.seen self.new.face) }
         ensures beside { F.beside self.new.face ≡ F.beside self.old.face }
     {
@@ -172,11 +184,15 @@ impl<F: AppFace> LoanStream<F> {
         requires none { (F.seen self.face).loans ≡ [] }
         ensures left { MatchResult result
             (λ face. F.seen face ≡ has_left (F.seen self.face))
-            (λ back. (back.desk ≡ self.desk) × StreamStands back.desk (F.seen back.face) × AppOnlySaw NotQuiet (F.seen self.face) (F.seen back.face)) }
+            (λ back. (back.desk ≡ self.desk) × StreamStands back.desk (F.seen back.face)
+            × AppOnlySaw NotQuiet (F.seen self.face) (F.seen back.face)) }
         ensures some { IfErr result (λ _. HasWritten (F.seen self.face)) }
-        ensures told { IfErr result (λ back. AppTold (λ look. F.tells look (app_gist (F.seen self.face)) (F.beside self.face))
+        ensures told { IfErr result
+            (λ back.
+            AppTold (λ look. F.tells look (app_gist (F.seen self.face)) (F.beside self.face))
             (F.seen self.face) (F.seen back.face)) }
-        ensures beside { MatchResult result (λ face. F.beside face ≡ F.beside self.face) (λ back. F.beside back.face ≡ F.beside self.face) }
+        ensures beside { MatchResult result (λ face. F.beside face ≡ F.beside self.face)
+            (λ back. F.beside back.face ≡ F.beside self.face) }
     {
         let mut stream = self;
         if !stream.leave() {
@@ -193,9 +209,12 @@ impl<F: AppFace> LoanStream<F> {
         ensures desk { self.new.desk ≡ self.old.desk }
         ensures left { MatchBool result
             (F.seen self.new.face ≡ has_left (F.seen self.old.face))
-            (StreamStands self.new.desk (F.seen self.new.face) × AppOnlySaw NotQuiet (F.seen self.old.face) (F.seen self.new.face)) }
+            (StreamStands self.new.desk (F.seen self.new.face)
+            × AppOnlySaw NotQuiet (F.seen self.old.face) (F.seen self.new.face)) }
         ensures some { result ≡ false → HasWritten (F.seen self.old.face) }
-        ensures told { result ≡ false → AppTold (λ look. F.tells look (app_gist (F.seen self.old.face)) (F.beside self.old.face))
+        ensures told { result ≡ false
+            → AppTold (λ look. F.tells look (app_gist (F.seen self.old.face))
+            (F.beside self.old.face))
             (F.seen self.old.face) (F.seen self.new.face) }
         ensures beside { F.beside self.new.face ≡ F.beside self.old.face }
     {
@@ -243,15 +262,20 @@ impl<F: AppFace + Drop> Stream for LoanStream<F> {
         requires { StreamStands self.old.desk (F.seen self.old.face) }
         ensures value { IfReady result (Yields self.old.desk (F.seen self.old.face) []) }
         ensures rest { IfReady result (λ o. IfSome o (λ x.
-            After (Yields self.old.desk (F.seen self.old.face)) x (Yields self.new.desk (F.seen self.new.face)))) }
-        ensures same { OnPending result (Within (Yields self.old.desk (F.seen self.old.face)) (Yields self.new.desk (F.seen self.new.face))) }
+            After (Yields self.old.desk (F.seen self.old.face)) x
+            (Yields self.new.desk (F.seen self.new.face)))) }
+        ensures same { OnPending result
+            (Within (Yields self.old.desk (F.seen self.old.face))
+            (Yields self.new.desk (F.seen self.new.face))) }
         ensures stands { StreamStands self.new.desk (F.seen self.new.face) }
         // A poll that is pending asks for another, whatever its sources do.
         ensures woken { OnPending result (cx.new.is_woken ≡ true) }
         ensures registered { OnPending result (Covers cx.new (λ source. ⊤)) }
         ensures kept { Keeps cx.old cx.new }
         // It gives what one step gives, and the board says of the look on which it waits that it is so.
-        ensures gives { PollGives (λ look. F.tells look (app_gist (F.seen self.new.face)) (F.beside self.new.face)) self.old.desk self.new.desk (F.seen self.old.face) (F.seen self.new.face) result }
+        ensures gives { PollGives
+            (λ look. F.tells look (app_gist (F.seen self.new.face)) (F.beside self.new.face))
+            self.old.desk self.new.desk (F.seen self.old.face) (F.seen self.new.face) result }
         // Once it was the end it is the end again, and nothing is asked.
         ensures ended { self.old.desk.ended ≡ true → (result ≡ Ready None) × (self.new ≡ self.old) }
         ensures only { OnlySteps (F.seen self.old.face) (F.seen self.new.face) }

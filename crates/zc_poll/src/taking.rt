@@ -23,10 +23,13 @@ pub enum Taken {
 /// A piece came with a note.
 fn take_held<F: AppFace>(face: &mut F, st: &mut Queues, note: &Note, held: Held) -> Taken
     requires here { IsHere (F.seen face.old) }
-    requires took { (old : AppView) × TookNote old (F.seen face.old) note.now held × StreamStands (desk_of st.old) old × (st.old.ended ≡ false)
+    requires took { (old : AppView) × TookNote old (F.seen face.old) note.now held
+        × StreamStands (desk_of st.old) old × (st.old.ended ≡ false)
         × NoneInOrder (desk_of st.old) }
-    ensures takes { (old : AppView) → TookNote old (F.seen face.old) note.now held → StreamStands (desk_of st.old) old → st.old.ended ≡ false
-        → NoneInOrder (desk_of st.old) → LooksFor (desk_of st.old) (desk_of st.new) old (F.seen face.new) result }
+    ensures takes { (old : AppView) → TookNote old (F.seen face.old) note.now held
+        → StreamStands (desk_of st.old) old → st.old.ended ≡ false
+        → NoneInOrder (desk_of st.old)
+        → LooksFor (desk_of st.old) (desk_of st.new) old (F.seen face.new) result }
     ensures kind { (result ≡ Taken.Did) ⊎ (result ≡ Taken.Memory) }
     ensures beside { F.beside face.new ≡ F.beside face.old }
 {
@@ -59,9 +62,11 @@ fn take_held<F: AppFace>(face: &mut F, st: &mut Queues, note: &Note, held: Held)
 /// A short payload came with its note: the first bytes of these.
 fn take_short(st: &mut Queues, note: &Note, linear: &[u8]) -> Taken
     requires long { note.now.total ≤ length linear.now }
-    requires took { (old : AppView) × (new : AppView) × TookLinear old new linear.now note.now × StreamStands (desk_of st.old) old × (st.old.ended ≡ false)
+    requires took { (old : AppView) × (new : AppView) × TookLinear old new linear.now note.now
+        × StreamStands (desk_of st.old) old × (st.old.ended ≡ false)
         × NoneInOrder (desk_of st.old) }
-    ensures takes { (old new : AppView) → TookLinear old new linear.now note.now → StreamStands (desk_of st.old) old → st.old.ended ≡ false
+    ensures takes { (old new : AppView) → TookLinear old new linear.now note.now
+        → StreamStands (desk_of st.old) old → st.old.ended ≡ false
         → NoneInOrder (desk_of st.old) → LooksFor (desk_of st.old) (desk_of st.new) old new result }
     ensures kind { (result ≡ Taken.Did) ⊎ (result ≡ Taken.Memory) }
 {
@@ -94,8 +99,10 @@ fn look<F: AppFace>(face: &mut F, st: &mut Queues) -> Taken
     requires stands { StreamStands (desk_of st.old) (F.seen face.old) }
     requires more { st.old.ended ≡ false }
     requires rest { NoneInOrder (desk_of st.old) }
-    ensures looks { LooksFor (desk_of st.old) (desk_of st.new) (F.seen face.old) (F.seen face.new) result }
-    ensures told { result ≡ Taken.NoNote → F.tells no_note (app_gist (F.seen face.new)) (F.beside face.new) }
+    ensures looks { LooksFor (desk_of st.old) (desk_of st.new) (F.seen face.old) (F.seen face.new)
+        result }
+    ensures told { result ≡ Taken.NoNote
+        → F.tells no_note (app_gist (F.seen face.new)) (F.beside face.new) }
     ensures beside { F.beside face.new ≡ F.beside face.old }
 {
     let mut linear = [0; 256];
@@ -113,9 +120,11 @@ pub fn take_note<F: AppFace>(face: &mut F, st: &mut Queues) -> Option<Step>
     requires stands { StreamStands (desk_of st.old) (F.seen face.old) }
     requires more { st.old.ended ≡ false }
     requires rest { NoneInOrder (desk_of st.old) }
-    ensures takes { Takes (desk_of st.old) (desk_of st.new) (F.seen face.old) (F.seen face.new) result }
+    ensures takes { Takes (desk_of st.old) (desk_of st.new) (F.seen face.old) (F.seen face.new)
+        result }
     ensures kind { result ≢ Some (Waiting ReserveHeld) }
-    ensures told { result ≡ Some (Waiting NoNote) → F.tells no_note (app_gist (F.seen face.new)) (F.beside face.new) }
+    ensures told { result ≡ Some (Waiting NoNote)
+        → F.tells no_note (app_gist (F.seen face.new)) (F.beside face.new) }
     ensures beside { F.beside face.new ≡ F.beside face.old }
 {
     match look(face, st) {

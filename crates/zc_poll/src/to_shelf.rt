@@ -90,12 +90,15 @@ fn give_back<F: AppFace>(stream: &mut LoanStream<F>, work: &mut PourTally, loan:
     requires out { HasLoan (F.seen stream.old.face) loan }
     requires due { work.old.due ≡ None }
     ensures gives { (first kept : ℕ → Option (List ℕ)) (losses now : ShelfCounts)
-        → PourStands first losses (record (tally_of work.old) { due = Some loan }) stream.old.desk kept now (F.seen stream.old.face)
-        → PourStands first losses (tally_of work.new) stream.new.desk kept now (F.seen stream.new.face) }
+        → PourStands first losses (record (tally_of work.old) { due = Some loan }) stream.old.desk
+        kept now (F.seen stream.old.face)
+        → PourStands first losses (tally_of work.new) stream.new.desk kept now
+        (F.seen stream.new.face) }
     ensures desk { stream.new.desk ≡ stream.old.desk }
     ensures does { TurnDoes (pour_stage (Some loan) stream.old.desk (F.seen stream.old.face))
         (pour_stage work.new.due stream.new.desk (F.seen stream.new.face)) result }
-    ensures told { IsTold (λ look. F.tells look (app_gist (F.seen stream.new.face)) (F.beside stream.new.face)) result }
+    ensures told { IsTold (λ look.
+        F.tells look (app_gist (F.seen stream.new.face)) (F.beside stream.new.face)) result }
     ensures same { (F.seen stream.new.face).app ≡ (F.seen stream.old.face).app }
     ensures beside { F.beside stream.new.face ≡ F.beside stream.old.face }
 {
@@ -117,14 +120,19 @@ fn close<F: AppFace>(stream: &mut LoanStream<F>, work: &mut PourTally) -> PollTu
     requires room { length work.old.counts.entries ≤ vec_capacity work.old.flows }
     requires empty { work.old.flows.items ≡ [] }
     ensures gives { (first kept : ℕ → Option (List ℕ)) (losses now : ShelfCounts)
-        → PourStands first losses (tally_of work.old) stream.old.desk kept now (F.seen stream.old.face)
-        → PourGives first losses (tally_of work.new) stream.new.desk kept now (F.seen stream.new.face) result }
+        → PourStands first losses (tally_of work.old) stream.old.desk kept now
+        (F.seen stream.old.face)
+        → PourGives first losses (tally_of work.new) stream.new.desk kept now
+        (F.seen stream.new.face) result }
     ensures does { (first kept : ℕ → Option (List ℕ)) (losses now : ShelfCounts)
-        → PourStands first losses (tally_of work.old) stream.old.desk kept now (F.seen stream.old.face)
-        → TurnDoes (pour_stage None stream.old.desk (F.seen stream.old.face)) (pour_stage None stream.new.desk (F.seen stream.new.face)) result }
+        → PourStands first losses (tally_of work.old) stream.old.desk kept now
+        (F.seen stream.old.face)
+        → TurnDoes (pour_stage None stream.old.desk (F.seen stream.old.face))
+        (pour_stage None stream.new.desk (F.seen stream.new.face)) result }
     ensures due { work.new.due ≡ None }
     ensures scrubs { ScrubsIfQuiet (F.seen stream.old.face) (F.seen stream.new.face) }
-    ensures told { IsTold (λ look. F.tells look (app_gist (F.seen stream.new.face)) (F.beside stream.new.face)) result }
+    ensures told { IsTold (λ look.
+        F.tells look (app_gist (F.seen stream.new.face)) (F.beside stream.new.face)) result }
     ensures same { (F.seen stream.new.face).app ≡ (F.seen stream.old.face).app }
     ensures beside { F.beside stream.new.face ≡ F.beside stream.old.face }
 {
@@ -173,10 +181,14 @@ fn pour_item<F: AppFace, T: Shelf>(
     requires empty { work.old.flows.items ≡ [] }
     ensures pours { (first : ℕ → Option (List ℕ)) (losses : ShelfCounts) (st : Desk) (v : AppView)
         → PourStands first losses (tally_of work.old) st (T.kept shelf.old) (T.counts shelf.old) v
-        → IsItem st stream.old.desk v (F.seen stream.old.face) lent → OnlySteps v (F.seen stream.old.face)
-        → PourStands first losses (tally_of work.new) stream.new.desk (T.kept shelf.new) (T.counts shelf.new) (F.seen stream.new.face) }
-    ensures had { (was : PourStage) → IsItem was.desk stream.old.desk was.view (F.seen stream.old.face) lent
-        → OnlySteps was.view (F.seen stream.old.face) → HadItem was (pour_stage work.new.due stream.new.desk (F.seen stream.new.face)) }
+        → IsItem st stream.old.desk v (F.seen stream.old.face) lent
+        → OnlySteps v (F.seen stream.old.face)
+        → PourStands first losses (tally_of work.new) stream.new.desk (T.kept shelf.new)
+        (T.counts shelf.new) (F.seen stream.new.face) }
+    ensures had { (was : PourStage)
+        → IsItem was.desk stream.old.desk was.view (F.seen stream.old.face) lent
+        → OnlySteps was.view (F.seen stream.old.face)
+        → HadItem was (pour_stage work.new.due stream.new.desk (F.seen stream.new.face)) }
     ensures same { (F.seen stream.new.face).app ≡ (F.seen stream.old.face).app }
     ensures beside { F.beside stream.new.face ≡ F.beside stream.old.face }
 {
@@ -197,13 +209,17 @@ fn take_step<F: AppFace, T: Shelf>(
     requires room { length work.old.counts.entries ≤ vec_capacity work.old.flows }
     requires empty { work.old.flows.items ≡ [] }
     ensures gives { (first : ℕ → Option (List ℕ)) (losses : ShelfCounts)
-        → PourStands first losses (tally_of work.old) stream.old.desk (T.kept shelf.old) (T.counts shelf.old) (F.seen stream.old.face)
-        → PourGives first losses (tally_of work.new) stream.new.desk (T.kept shelf.new) (T.counts shelf.new)
+        → PourStands first losses (tally_of work.old) stream.old.desk (T.kept shelf.old)
+        (T.counts shelf.old) (F.seen stream.old.face)
+        → PourGives first losses (tally_of work.new) stream.new.desk (T.kept shelf.new)
+        (T.counts shelf.new)
         (F.seen stream.new.face) result }
     ensures does { StepDoes (pour_stage None stream.old.desk (F.seen stream.old.face))
         (pour_stage work.new.due stream.new.desk (F.seen stream.new.face)) result }
-    ensures only { stream.old.desk.stopped ≡ true → OnlySteps (F.seen stream.old.face) (F.seen stream.new.face) }
-    ensures told { IsTold (λ look. F.tells look (app_gist (F.seen stream.new.face)) (F.beside stream.new.face)) result }
+    ensures only { stream.old.desk.stopped ≡ true
+        → OnlySteps (F.seen stream.old.face) (F.seen stream.new.face) }
+    ensures told { IsTold (λ look.
+        F.tells look (app_gist (F.seen stream.new.face)) (F.beside stream.new.face)) result }
     ensures same { (F.seen stream.new.face).app ≡ (F.seen stream.old.face).app }
     ensures beside { F.beside stream.new.face ≡ F.beside stream.old.face }
 {
@@ -224,15 +240,21 @@ fn take_step<F: AppFace, T: Shelf>(
 /// Scrubs where the stream was stopped, unless a refill slot is in use.
 fn scrub_stopped<F: AppFace>(stream: &mut LoanStream<F>, work: &PourTally)
     requires stands { (first kept : ℕ → Option (List ℕ)) × (losses now : ShelfCounts)
-        × PourStands first losses (tally_of work.now) stream.old.desk kept now (F.seen stream.old.face) }
+        × PourStands first losses (tally_of work.now) stream.old.desk kept now
+        (F.seen stream.old.face) }
     ensures stands { StreamStands stream.new.desk (F.seen stream.new.face) }
     ensures gives { (first kept : ℕ → Option (List ℕ)) (losses now : ShelfCounts)
-        → PourStands first losses (tally_of work.now) stream.old.desk kept now (F.seen stream.old.face)
-        → PourStands first losses (tally_of work.now) stream.new.desk kept now (F.seen stream.new.face) }
-    ensures first { (due : Option Place) → ScrubsFirst (pour_stage due stream.old.desk (F.seen stream.old.face))
+        → PourStands first losses (tally_of work.now) stream.old.desk kept now
+        (F.seen stream.old.face)
+        → PourStands first losses (tally_of work.now) stream.new.desk kept now
+        (F.seen stream.new.face) }
+    ensures first { (due : Option Place)
+        → ScrubsFirst (pour_stage due stream.old.desk (F.seen stream.old.face))
         (pour_stage due stream.new.desk (F.seen stream.new.face)) }
-    ensures scrubs { work.now.stopped ≢ No → ScrubsIfQuiet (F.seen stream.old.face) (F.seen stream.new.face) }
-    ensures desk { (stream.new.desk.stopped ≡ stream.old.desk.stopped) × (stream.new.desk.ended ≡ stream.old.desk.ended) }
+    ensures scrubs { work.now.stopped ≢ No
+        → ScrubsIfQuiet (F.seen stream.old.face) (F.seen stream.new.face) }
+    ensures desk { (stream.new.desk.stopped ≡ stream.old.desk.stopped)
+        × (stream.new.desk.ended ≡ stream.old.desk.ended) }
     ensures same { (F.seen stream.new.face).app ≡ (F.seen stream.old.face).app }
     ensures beside { F.beside stream.new.face ≡ F.beside stream.old.face }
 {
@@ -249,17 +271,22 @@ fn go_on<F: AppFace, T: Shelf>(
     work: &mut PourTally,
 ) -> PollTurn
     requires stands { (first : ℕ → Option (List ℕ)) × (losses : ShelfCounts)
-        × PourStands first losses (tally_of work.old) stream.old.desk (T.kept shelf.old) (T.counts shelf.old) (F.seen stream.old.face) }
+        × PourStands first losses (tally_of work.old) stream.old.desk (T.kept shelf.old)
+        (T.counts shelf.old) (F.seen stream.old.face) }
     requires more { stream.old.desk.ended ≡ false }
     requires none { work.old.due ≡ None }
     ensures gives { (first : ℕ → Option (List ℕ)) (losses : ShelfCounts)
-        → PourStands first losses (tally_of work.old) stream.old.desk (T.kept shelf.old) (T.counts shelf.old) (F.seen stream.old.face)
-        → PourGives first losses (tally_of work.new) stream.new.desk (T.kept shelf.new) (T.counts shelf.new)
+        → PourStands first losses (tally_of work.old) stream.old.desk (T.kept shelf.old)
+        (T.counts shelf.old) (F.seen stream.old.face)
+        → PourGives first losses (tally_of work.new) stream.new.desk (T.kept shelf.new)
+        (T.counts shelf.new)
         (F.seen stream.new.face) result }
     ensures does { TurnDoes (pour_stage None stream.old.desk (F.seen stream.old.face))
         (pour_stage work.new.due stream.new.desk (F.seen stream.new.face)) result }
-    ensures scrubs { work.old.stopped ≢ No → ScrubsIfQuiet (F.seen stream.old.face) (F.seen stream.new.face) }
-    ensures told { IsTold (λ look. F.tells look (app_gist (F.seen stream.new.face)) (F.beside stream.new.face)) result }
+    ensures scrubs { work.old.stopped ≢ No
+        → ScrubsIfQuiet (F.seen stream.old.face) (F.seen stream.new.face) }
+    ensures told { IsTold (λ look.
+        F.tells look (app_gist (F.seen stream.new.face)) (F.beside stream.new.face)) result }
     ensures same { (F.seen stream.new.face).app ≡ (F.seen stream.old.face).app }
     ensures beside { F.beside stream.new.face ≡ F.beside stream.old.face }
 {
@@ -274,15 +301,20 @@ fn take_turn<F: AppFace, T: Shelf>(
     work: &mut PourTally,
 ) -> PollTurn
     requires stands { (first : ℕ → Option (List ℕ)) × (losses : ShelfCounts)
-        × PourStands first losses (tally_of work.old) stream.old.desk (T.kept shelf.old) (T.counts shelf.old) (F.seen stream.old.face) }
+        × PourStands first losses (tally_of work.old) stream.old.desk (T.kept shelf.old)
+        (T.counts shelf.old) (F.seen stream.old.face) }
     ensures gives { (first : ℕ → Option (List ℕ)) (losses : ShelfCounts)
-        → PourStands first losses (tally_of work.old) stream.old.desk (T.kept shelf.old) (T.counts shelf.old) (F.seen stream.old.face)
-        → PourGives first losses (tally_of work.new) stream.new.desk (T.kept shelf.new) (T.counts shelf.new)
+        → PourStands first losses (tally_of work.old) stream.old.desk (T.kept shelf.old)
+        (T.counts shelf.old) (F.seen stream.old.face)
+        → PourGives first losses (tally_of work.new) stream.new.desk (T.kept shelf.new)
+        (T.counts shelf.new)
         (F.seen stream.new.face) result }
     ensures does { TurnDoes (pour_stage work.old.due stream.old.desk (F.seen stream.old.face))
         (pour_stage work.new.due stream.new.desk (F.seen stream.new.face)) result }
-    ensures scrubs { work.old.stopped ≢ No → ScrubsIfQuiet (F.seen stream.old.face) (F.seen stream.new.face) }
-    ensures told { IsTold (λ look. F.tells look (app_gist (F.seen stream.new.face)) (F.beside stream.new.face)) result }
+    ensures scrubs { work.old.stopped ≢ No
+        → ScrubsIfQuiet (F.seen stream.old.face) (F.seen stream.new.face) }
+    ensures told { IsTold (λ look.
+        F.tells look (app_gist (F.seen stream.new.face)) (F.beside stream.new.face)) result }
     ensures same { (F.seen stream.new.face).app ≡ (F.seen stream.old.face).app }
     ensures beside { F.beside stream.new.face ≡ F.beside stream.old.face }
 {
@@ -314,11 +346,14 @@ impl<F, T> Model for ToShelf<F, T> {
 impl<F: AppFace, T: Shelf> ToShelf<F, T> {
     /// Nothing is written yet. Takes no memory.
     pub fn new(stream: LoanStream<F>, shelf: T) -> ToShelf<F, T>
-        requires fresh { (app : ℕ) × (stream.desk ≡ new_desk app) × HasDoneNothing app (F.seen stream.face) }
+        requires fresh { (app : ℕ) × (stream.desk ≡ new_desk app)
+            × HasDoneNothing app (F.seen stream.face) }
         requires stands { StreamStands stream.desk (F.seen stream.face) }
-        ensures parts { (result.face ≡ stream.face) × (result.shelf ≡ shelf) × (result.desk ≡ stream.desk)
+        ensures parts { (result.face ≡ stream.face) × (result.shelf ≡ shelf)
+            × (result.desk ≡ stream.desk)
             × (result.tally ≡ new_tally result.tally.room) }
-        ensures stands { PourStands (T.kept shelf) (T.counts shelf) result.tally result.desk (T.kept result.shelf) (T.counts result.shelf)
+        ensures stands { PourStands (T.kept shelf) (T.counts shelf) result.tally result.desk
+            (T.kept result.shelf) (T.counts result.shelf)
             (F.seen result.face) }
     {
         let alloc = stream.alloc();
@@ -342,19 +377,24 @@ impl<F: AppFace, T: Shelf> ToShelf<F, T> {
     /// notes still come.
     pub fn turn(&mut self) -> PollTurn
         requires stands { (first : ℕ → Option (List ℕ)) × (losses : ShelfCounts)
-            × PourStands first losses self.old.tally self.old.desk (T.kept self.old.shelf) (T.counts self.old.shelf)
+            × PourStands first losses self.old.tally self.old.desk (T.kept self.old.shelf)
+            (T.counts self.old.shelf)
             (F.seen self.old.face) }
         ensures gives { (first : ℕ → Option (List ℕ)) (losses : ShelfCounts)
-            → PourStands first losses self.old.tally self.old.desk (T.kept self.old.shelf) (T.counts self.old.shelf) (F.seen self.old.face)
-            → PourGives first losses self.new.tally self.new.desk (T.kept self.new.shelf) (T.counts self.new.shelf)
+            → PourStands first losses self.old.tally self.old.desk (T.kept self.old.shelf)
+            (T.counts self.old.shelf) (F.seen self.old.face)
+            → PourGives first losses self.new.tally self.new.desk (T.kept self.new.shelf)
+            (T.counts self.new.shelf)
             (F.seen self.new.face) result }
         // Why it did something, waited, or ended.
         ensures does { TurnDoes (pour_stage self.old.tally.due self.old.desk (F.seen self.old.face))
             (pour_stage self.new.tally.due self.new.desk (F.seen self.new.face)) result }
         // One that was stopped and hadn't scrubbed has, or it saw a refill slot in use.
-        ensures scrubs { self.old.tally.stopped ≢ No → ScrubsIfQuiet (F.seen self.old.face) (F.seen self.new.face) }
+        ensures scrubs { self.old.tally.stopped ≢ No
+            → ScrubsIfQuiet (F.seen self.old.face) (F.seen self.new.face) }
         // The board says of the look on which it rests that it is so.
-        ensures told { IsTold (λ look. F.tells look (app_gist (F.seen self.new.face)) (F.beside self.new.face)) result }
+        ensures told { IsTold (λ look.
+            F.tells look (app_gist (F.seen self.new.face)) (F.beside self.new.face)) result }
         // The same application at the same board.
         ensures same { (F.seen self.new.face).app ≡ (F.seen self.old.face).app }
         ensures beside { F.beside self.new.face ≡ F.beside self.old.face }
@@ -366,12 +406,15 @@ impl<F: AppFace, T: Shelf> ToShelf<F, T> {
     /// shelf. `leaving` gives the face of that stream back.
     pub fn stop(self) -> (Poured, LoanStream<F>, T)
         requires stands { (first : ℕ → Option (List ℕ)) × (losses : ShelfCounts)
-            × PourStands first losses self.tally self.desk (T.kept self.shelf) (T.counts self.shelf) (F.seen self.face) }
+            × PourStands first losses self.tally self.desk (T.kept self.shelf) (T.counts self.shelf)
+            (F.seen self.face) }
         // No loan is out.
         ensures still { IsStill result.1.desk (F.seen result.1.face) }
-        ensures view { F.seen result.1.face ≡ record (without_due self.tally.due (F.seen self.face)) { helds = [] } }
+        ensures view { F.seen result.1.face
+            ≡ record (without_due self.tally.due (F.seen self.face)) { helds = [] } }
         ensures stops { (first : ℕ → Option (List ℕ)) (losses : ShelfCounts)
-            → PourStands first losses self.tally self.desk (T.kept self.shelf) (T.counts self.shelf) (F.seen self.face)
+            → PourStands first losses self.tally self.desk (T.kept self.shelf) (T.counts self.shelf)
+            (F.seen self.face)
             → HasStopped first (T.kept result.2) (F.seen result.1.face) (pour_end result.0) }
         ensures cause { result.0.stopped ≡ quit_by self.tally.stopped }
         ensures shelf { result.2 ≡ self.shelf }
@@ -416,14 +459,20 @@ impl<F: AppFace + Drop, T: Shelf + Drop> Future for ToShelf<F, T> {
 
     fn poll(&mut self, cx: &mut Context<'_>) -> Poll<Poured>
         requires { (first : ℕ → Option (List ℕ)) × (losses : ShelfCounts)
-            × PourStands first losses self.old.tally self.old.desk (T.kept self.old.shelf) (T.counts self.old.shelf)
+            × PourStands first losses self.old.tally self.old.desk (T.kept self.old.shelf)
+            (T.counts self.old.shelf)
             (F.seen self.old.face) }
-        ensures value { IfReady result (Tells self.old.tally self.old.desk (T.kept self.old.shelf) (T.counts self.old.shelf) (F.seen self.old.face)) }
+        ensures value { IfReady result
+            (Tells self.old.tally self.old.desk (T.kept self.old.shelf) (T.counts self.old.shelf)
+            (F.seen self.old.face)) }
         ensures same { OnPending result ((x : Told)
-            → Tells self.new.tally self.new.desk (T.kept self.new.shelf) (T.counts self.new.shelf) (F.seen self.new.face) x
-            → Tells self.old.tally self.old.desk (T.kept self.old.shelf) (T.counts self.old.shelf) (F.seen self.old.face) x) }
+            → Tells self.new.tally self.new.desk (T.kept self.new.shelf) (T.counts self.new.shelf)
+            (F.seen self.new.face) x
+            → Tells self.old.tally self.old.desk (T.kept self.old.shelf) (T.counts self.old.shelf)
+            (F.seen self.old.face) x) }
         ensures again { OnPending result ((first : ℕ → Option (List ℕ)) × (losses : ShelfCounts)
-            × PourStands first losses self.new.tally self.new.desk (T.kept self.new.shelf) (T.counts self.new.shelf)
+            × PourStands first losses self.new.tally self.new.desk (T.kept self.new.shelf)
+            (T.counts self.new.shelf)
             (F.seen self.new.face)) }
         // A poll that is pending asks for another, whatever its sources do.
         ensures woken { OnPending result (cx.new.is_woken ≡ true) }
@@ -431,13 +480,17 @@ impl<F: AppFace + Drop, T: Shelf + Drop> Future for ToShelf<F, T> {
         ensures kept { Keeps cx.old cx.new }
         // It gives what one turn gives.
         ensures gives { (first : ℕ → Option (List ℕ)) (losses : ShelfCounts)
-            → PourStands first losses self.old.tally self.old.desk (T.kept self.old.shelf) (T.counts self.old.shelf) (F.seen self.old.face)
-            → PollPours first losses self.new.tally self.new.desk (T.kept self.new.shelf) (T.counts self.new.shelf)
+            → PourStands first losses self.old.tally self.old.desk (T.kept self.old.shelf)
+            (T.counts self.old.shelf) (F.seen self.old.face)
+            → PollPours first losses self.new.tally self.new.desk (T.kept self.new.shelf)
+            (T.counts self.new.shelf)
             (F.seen self.new.face) result }
-        ensures does { PollDoes (λ look. F.tells look (app_gist (F.seen self.new.face)) (F.beside self.new.face))
+        ensures does { PollDoes (λ look.
+            F.tells look (app_gist (F.seen self.new.face)) (F.beside self.new.face))
             (pour_stage self.old.tally.due self.old.desk (F.seen self.old.face))
             (pour_stage self.new.tally.due self.new.desk (F.seen self.new.face)) result }
-        ensures scrubs { self.old.tally.stopped ≢ No → ScrubsIfQuiet (F.seen self.old.face) (F.seen self.new.face) }
+        ensures scrubs { self.old.tally.stopped ≢ No
+            → ScrubsIfQuiet (F.seen self.old.face) (F.seen self.new.face) }
         ensures beside { F.beside self.new.face ≡ F.beside self.old.face }
     {
         match self.turn() {

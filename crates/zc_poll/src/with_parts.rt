@@ -27,12 +27,16 @@ impl<F: AppFace, T: Shelf> ToShelf<F, T> {
 /// Takes a turn: what was poured, where it was the last.
 fn take_turn<F: AppFace, T: Shelf>(work: &mut ToShelf<F, T>) -> Option<Poured>
     requires stands { (first : ℕ → Option (List ℕ)) × (losses : ShelfCounts)
-        × PourStands first losses work.old.tally work.old.desk (T.kept work.old.shelf) (T.counts work.old.shelf) (F.seen work.old.face) }
+        × PourStands first losses work.old.tally work.old.desk (T.kept work.old.shelf)
+        (T.counts work.old.shelf) (F.seen work.old.face) }
     ensures gives { (first : ℕ → Option (List ℕ)) (losses : ShelfCounts)
-        → PourStands first losses work.old.tally work.old.desk (T.kept work.old.shelf) (T.counts work.old.shelf) (F.seen work.old.face)
+        → PourStands first losses work.old.tally work.old.desk (T.kept work.old.shelf)
+        (T.counts work.old.shelf) (F.seen work.old.face)
         → MatchOption result
-        (PourStands first losses work.new.tally work.new.desk (T.kept work.new.shelf) (T.counts work.new.shelf) (F.seen work.new.face))
-        (λ poured. IsLastTurn first losses (T.kept work.new.shelf) (T.counts work.new.shelf) (F.seen work.old.face).app (F.seen work.new.face) poured) }
+        (PourStands first losses work.new.tally work.new.desk (T.kept work.new.shelf)
+        (T.counts work.new.shelf) (F.seen work.new.face))
+        (λ poured. IsLastTurn first losses (T.kept work.new.shelf) (T.counts work.new.shelf)
+        (F.seen work.old.face).app (F.seen work.new.face) poured) }
     ensures left { IfSome result (λ _. (F.seen work.new.face).left ≡ true) }
     ensures same { (F.seen work.new.face).app ≡ (F.seen work.old.face).app }
     ensures beside { F.beside work.new.face ≡ F.beside work.old.face }

@@ -85,7 +85,8 @@ impl<S: Source> Source for Front<'_, S> {
     fn read(&mut self, into: &mut [u8]) -> Result<usize, Failed>
         requires { 0 < length into.old }
         ensures bound { ReadsAtMost result into.new }
-        ensures bytes { ReadConsumes (S.left self.old.source) (S.left self.new.source) result into.new }
+        ensures bytes { ReadConsumes (S.left self.old.source) (S.left self.new.source) result
+            into.new }
         ensures cause { HasCause (S.faults self.old.source) (S.faults self.new.source) result }
     {
         let read = self.source.read(into);

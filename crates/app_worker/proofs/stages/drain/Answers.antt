@@ -8,9 +8,9 @@ use Rattle.app_worker.proofs.stages.drain.Goals as goal
 
 pub loop-face-init : goal.loop-face-init
 loop-face-init g c = (
-  through-none (state_of c.args.st.now) (g.F.AppFace.seen c.args.face.now) (g.T.Shelf.kept c.args.shelf.now) c.requires.working c.requires.common
-      c.requires.reaped,
-  c.requires.due,
+  through-none (state_of c.args.st.now) (g.F.AppFace.seen c.args.face.now) (g.T.Shelf.kept c.args.shelf.now) c.requires.none.works.working c.requires.none.works.common
+      c.requires.none.reaped,
+  c.requires.none.due,
   λ yes. absurd (cc),
   λ _. record { state = refl; view = refl; kept_is = refl },
   refl,
@@ -19,7 +19,7 @@ loop-face-init g c = (
   λ yes. absurd (cc),
   λ on. (on, λ yes. absurd (cc)),
   λ off. inl off,
-  c.requires.pushed,
+  c.requires.none.pushed,
   λ had is. is,
 )
 
@@ -34,8 +34,15 @@ returns-in-Quit-clause-reads g c =
     let inv = c.loop-face.invariant in
     quit-later inv.0 (has-quit inv.0.reaped c.in-Quit.ensures.reads c.let_go-in-Quit.ensures.done)
 
-pub read_one-requires-clause-pushed : goal.read_one-requires-clause-pushed
-read_one-requires-clause-pushed g c = c.loop-face.invariant.10
+pub read_one-requires-clause-none : goal.read_one-requires-clause-none
+read_one-requires-clause-none g c =
+    let inv = c.loop-face.invariant in
+    record {
+      works = record { here = inv.0.left ∙ c.requires.none.works.here; working = inv.0.working; common = inv.0.common };
+      due = inv.1;
+      pushed = inv.10;
+      reaped = inv.0.reaped;
+    }
 
 pub let_go-requires-clause-pushed : goal.let_go-requires-clause-pushed
 let_go-requires-clause-pushed g c = ap (λ (s : State). s.stray.left) c.in-Failed.ensures.reads.same ∙ c.loop-face.invariant.10
@@ -58,9 +65,9 @@ returns-in-Part-clause-reads g c =
     let read = read-one g (goal.at.returns-in-Part-clause-reads g c).After-give_back in
     let first = through-read inv.0.reaped read in
     let gives = c.in-Part.ensures.gives in
-    let second = through-gave first.reaped c.give_back.ensures.working c.give_back.ensures.common (c.give_back.ensures.goes m) gives.0 in (
+    let second = through-gave first.reaped c.give_back.ensures.works.working c.give_back.ensures.works.common (c.give_back.ensures.works.goes m) gives.0 in (
       through-then inv.0 (through-then first second),
-      omega (arith, inv.0.goes.moves.steps, read.steps, (c.give_back.ensures.goes m).moves.steps),
+      omega (arith, inv.0.goes.moves.steps, read.steps, (c.give_back.ensures.works.goes m).moves.steps),
       omega (arith, inv.6, c.loop-face-test.true, c.len.ensures.len, read.unread, ap (λ (s : State). length s.unread) gives.0.same),
       rose-after (looks-trans inv.0.goes.moves.looks read.goes.moves.looks) gives.1,
     )
@@ -72,9 +79,9 @@ returns-in-InUse-clause-reads g c =
     let read = read-one g (goal.at.returns-in-InUse-clause-reads g c).After-give_back in
     let first = through-read inv.0.reaped read in
     let gives = c.in-InUse.ensures.gives in
-    let second = through-in-use first.reaped c.give_back.ensures.working c.give_back.ensures.common (c.give_back.ensures.goes m) gives.0 gives.1 in (
+    let second = through-in-use first.reaped c.give_back.ensures.works.working c.give_back.ensures.works.common (c.give_back.ensures.works.goes m) gives.0 gives.1 in (
       through-then inv.0 (through-then first second),
-      omega (arith, inv.0.goes.moves.steps, read.steps, (c.give_back.ensures.goes m).moves.steps),
+      omega (arith, inv.0.goes.moves.steps, read.steps, (c.give_back.ensures.works.goes m).moves.steps),
       omega (arith, inv.6, c.loop-face-test.true, c.len.ensures.len, read.unread, ap (λ (s : State). length s.unread) gives.0),
       rose-after (looks-trans inv.0.goes.moves.looks read.goes.moves.looks) gives.1.rose,
     )
@@ -121,12 +128,12 @@ loop-face-preserved g c =
     let first = through-read inv.0.reaped read in
     let gave = back-did d e (g.F.AppFace.seen c.read_one.new.face) (g.F.AppFace.seen c.give_back.new.face) c.give_back.result
     c.in_default-give_back.not-Part c.in_default-give_back.not-InUse read.due c.give_back.ensures.gives in
-    let second = through-gave first.reaped c.give_back.ensures.working c.give_back.ensures.common (c.give_back.ensures.goes m) gave.0 in (
+    let second = through-gave first.reaped c.give_back.ensures.works.working c.give_back.ensures.works.common (c.give_back.ensures.works.goes m) gave.0 in (
       through-then inv.0 (through-then first second),
       gave.1,
-      λ _. omega (arith, inv.0.goes.moves.steps, read.steps, (c.give_back.ensures.goes m).moves.steps),
+      λ _. omega (arith, inv.0.goes.moves.steps, read.steps, (c.give_back.ensures.works.goes m).moves.steps),
       λ no. absurd (cc),
-      c.read_one.ensures.still c.in_default.not-Failed ∙ inv.4,
+      c.read_one.ensures.went.still c.in_default.not-Failed ∙ inv.4,
       c.give_back.ensures.beside ∙ c.read_one.ensures.beside ∙ inv.5,
       inv.6,
       λ _. omega (arith, c.loop-face-test.true, c.len.ensures.len, read.unread, ap (λ (s : State). length s.unread) gave.0.same),
@@ -137,7 +144,7 @@ loop-face-preserved g c =
       λ off. off-too a b d e (sym (ap (λ (s : State). s.flush) gave.0.same) ∙ off) (ap (λ (s : State). s.unread) gave.0.same) inv.9 read.flushed
           (λ none. absurd (omega (arith, c.loop-face-test.true, c.len.ensures.len, ap length none))),
       gave.2,
-      λ had is. c.read_one.ensures.appended had (inv.11 had is) ∙ ap (raised_by had) (sym (ap (λ (s : State). s.written) gave.0.same)),
+      λ had is. c.read_one.ensures.went.appended had (inv.11 had is) ∙ ap (raised_by had) (sym (ap (λ (s : State). s.written) gave.0.same)),
     )
 
 -- all that was to be read was
@@ -175,18 +182,42 @@ loop-face-smaller g c =
     omega (arith, read.unread, ap (λ (s : State). length s.unread) gave.0.same)
 
 -- what is counted as appended is what was written
-pub returns-in-Failed-clause-appended : goal.returns-in-Failed-clause-appended
-returns-in-Failed-clause-appended g c had is =
-    c.read_one.ensures.appended had (c.loop-face.invariant.11 had is) ∙ ap (raised_by had) (sym (ap (λ (s : State). s.written) c.let_go.ensures.done.same))
+pub returns-in-Failed-clause-went : goal.returns-in-Failed-clause-went
+returns-in-Failed-clause-went g c =
+    let inv = c.loop-face.invariant in
+    let went = c.read_one.ensures.went in
+    record {
+      later = omega (arith, inv.4, went.later);
+      still = search rules;
+      appended = λ had is. went.appended had (inv.11 had is) ∙ ap (raised_by had) (sym (ap (λ (s : State). s.written) c.let_go.ensures.done.same));
+    }
 
-pub returns-in-Quit-clause-appended : goal.returns-in-Quit-clause-appended
-returns-in-Quit-clause-appended g c had is =
-    c.read_one.ensures.appended had (c.loop-face.invariant.11 had is) ∙ ap (raised_by had) (sym (ap (λ (s : State). s.written) c.let_go-in-Quit.ensures.done.same))
+pub returns-in-Quit-clause-went : goal.returns-in-Quit-clause-went
+returns-in-Quit-clause-went g c =
+    let inv = c.loop-face.invariant in
+    let went = c.read_one.ensures.went in
+    record {
+      later = omega (arith, inv.4, went.later);
+      still = search rules;
+      appended = λ had is. went.appended had (inv.11 had is) ∙ ap (raised_by had) (sym (ap (λ (s : State). s.written) c.let_go-in-Quit.ensures.done.same));
+    }
 
-pub returns-in-Part-clause-appended : goal.returns-in-Part-clause-appended
-returns-in-Part-clause-appended g c had is =
-    c.read_one.ensures.appended had (c.loop-face.invariant.11 had is) ∙ ap (raised_by had) (sym (ap (λ (s : State). s.written) c.in-Part.ensures.gives.0.same))
+pub returns-in-Part-clause-went : goal.returns-in-Part-clause-went
+returns-in-Part-clause-went g c =
+    let inv = c.loop-face.invariant in
+    let went = c.read_one.ensures.went in
+    record {
+      later = omega (arith, inv.4, went.later);
+      still = λ _. went.still c.in_default.not-Failed ∙ inv.4;
+      appended = λ had is. went.appended had (inv.11 had is) ∙ ap (raised_by had) (sym (ap (λ (s : State). s.written) c.in-Part.ensures.gives.0.same));
+    }
 
-pub returns-in-InUse-clause-appended : goal.returns-in-InUse-clause-appended
-returns-in-InUse-clause-appended g c had is =
-    c.read_one.ensures.appended had (c.loop-face.invariant.11 had is) ∙ ap (raised_by had) (sym (ap (λ (s : State). s.written) c.in-InUse.ensures.gives.0))
+pub returns-in-InUse-clause-went : goal.returns-in-InUse-clause-went
+returns-in-InUse-clause-went g c =
+    let inv = c.loop-face.invariant in
+    let went = c.read_one.ensures.went in
+    record {
+      later = omega (arith, inv.4, went.later);
+      still = λ _. went.still c.in_default.not-Failed ∙ inv.4;
+      appended = λ had is. went.appended had (inv.11 had is) ∙ ap (raised_by had) (sym (ap (λ (s : State). s.written) c.in-InUse.ensures.gives.0));
+    }

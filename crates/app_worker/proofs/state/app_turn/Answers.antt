@@ -37,5 +37,5 @@ returns-clause-makes g c =
       given_whole = given-read e w stands;
       keeps = λ off live notes lent read. turns-keep a e u w (g.T.Shelf.kept c.args.shelf.now) kept faults faults_now c.turn.result turns off live notes lent read;
       scrubs = search rules;
-      went = record { later = c.turn.ensures.later; still = c.turn.ensures.still; appended = c.turn.ensures.appended };
+      went = c.turn.ensures.went;
     })

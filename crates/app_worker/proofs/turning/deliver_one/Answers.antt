@@ -15,7 +15,7 @@ active g c =
     c.index_mut-own.ensures.value in (
       at,
       subst (λ (fs : List FlowQueue). Stands st.notes fs (st.unread ++ st.posted.entries) (read_of st) (g.F.AppFace.seen c.args.face.now)) at.is
-          c.requires.working.stands,
+          c.requires.works.working.stands,
     )
 
 pub deliver-delivery-requires-clause-out : goal.deliver-delivery-requires-clause-out
@@ -34,13 +34,17 @@ pub deliver-delivery-requires-clause-spare : goal.deliver-delivery-requires-clau
 deliver-delivery-requires-clause-spare g c =
     let own : FlowQueue = c.index_mut-own.result.now in
     let (at, _) = active g (goal.at.deliver-delivery-requires-clause-spare g c).After-index_mut-own in
-    omega (arith, c.requires.common.spares, ap (total (λ f. short_bytes f.queue)) at.is, total-append (λ f. short_bytes f.queue) at.before (own ∷ at.after))
+    omega (arith, c.requires.works.common.spares, ap (total (λ f. short_bytes f.queue)) at.is, total-append (λ f. short_bytes f.queue) at.before (own ∷ at.after))
 
-pub returns-then-st-len-clause-goes : goal.returns-then-st-len-clause-goes
-returns-then-st-len-clause-goes g c = λ kept. goes-none (state_of c.args.st.now) (g.F.AppFace.seen c.args.face.now) kept
+pub returns-then-st-len-clause-works : goal.returns-then-st-len-clause-works
+returns-then-st-len-clause-works g c = record {
+  working = c.requires.works.working;
+  common = c.requires.works.common;
+  goes = λ kept. goes-none (state_of c.args.st.now) (g.F.AppFace.seen c.args.face.now) kept;
+}
 
 pub returns-then-st-len-clause-lends : goal.returns-then-st-len-clause-lends
-returns-then-st-len-clause-lends g c = (refl, refl, rest-none c.args.st.now.active c.args.st.now.flows.items (search rules) c.requires.working.rest)
+returns-then-st-len-clause-lends g c = (refl, refl, rest-none c.args.st.now.active c.args.st.now.flows.items (search rules) c.requires.works.working.rest)
 
 pub returns-in-Did : goal.returns-in-Did
 returns-in-Did g c =
@@ -50,14 +54,16 @@ returns-in-Did g c =
     let count : c.saturating_add-st.result ≡ min (st.loans + 1) (2 ^ 64 - 1) = omega arith in
     let lent = lent-bundle st c.index_mut-own.result.now c.deliver-delivery.new.own c.deliver-delivery.new.posted (g.F.AppFace.seen c.args.face.now)
     (g.F.AppFace.seen c.deliver-delivery.new.face) c.saturating_add-st.result c.deliver-delivery.new.copied c.deliver-delivery.new.flush c.requires.more count
-    within c.index_mut-own.ensures.value delivered c.requires.working c.requires.common in
+    within c.index_mut-own.ensures.value delivered c.requires.works.working c.requires.works.common in
     record {
-      working = lent.working;
-      common = lent.common;
-      goes = λ kept. record {
-        moves = lent.moves;
-        shelved = λ _ first. lent.shelved first kept;
-        failed = λ is. absurd (no-write st.stopped c.requires.working.going is);
+      works = record {
+        working = lent.working;
+        common = lent.common;
+        goes = λ kept. record {
+          moves = lent.moves;
+          shelved = λ _ first. lent.shelved first kept;
+          failed = λ is. absurd (no-write st.stopped c.requires.works.working.going is);
+        };
       };
       lends = rw c.in-Did.is lent.one;
       told = c.deliver-delivery.ensures.told;
@@ -73,5 +79,5 @@ returns-in_default g c =
     let none = none-lent st c.index_mut-own.result.now c.deliver-delivery.new.own c.deliver-delivery.new.posted c.deliver-delivery.new.copied
     c.deliver-delivery.new.flush (g.F.AppFace.seen c.args.face.now)
     (g.F.AppFace.seen c.deliver-delivery.new.face) c.deliver-delivery.result other within c.index_mut-own.ensures.value c.deliver-delivery.ensures.delivered
-    c.requires.working c.requires.common in
+    c.requires.works.working c.requires.works.common in
     assumption none

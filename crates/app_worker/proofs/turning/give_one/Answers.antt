@@ -9,7 +9,7 @@ give_due-requires-clause-out g c =
     let st : State = state_of c.args.st.now in
     let not : NotKept c.reserve-reserve.result st.how.leak st.due c.keep_due.new.due st.leaked c.keep_due.new.leaked = search rules in
     rw not.due
-    (due-out st.notes st.flows (st.unread ++ st.posted.entries) st.due st.leaked.items (g.F.AppFace.seen c.args.face.now) c.requires.working.stands)
+    (due-out st.notes st.flows (st.unread ++ st.posted.entries) st.due st.leaked.items (g.F.AppFace.seen c.args.face.now) c.requires.works.working.stands)
 
 pub returns-then-keep_due : goal.returns-then-keep_due
 returns-then-keep_due g c =
@@ -18,11 +18,9 @@ returns-then-keep_due g c =
     let is : c.reserve-reserve.result ≡ reserve_of v = c.reserve-reserve.ensures.value in
     let kept : KeptDue c.reserve-reserve.result st.how.leak st.due c.keep_due.new.due st.leaked c.keep_due.new.leaked = search rules in
     let left = kept-left st c.keep_due.new.due c.keep_due.new.leaked v
-    (subst (λ n. KeptDue n st.how.leak st.due c.keep_due.new.due st.leaked c.keep_due.new.leaked) is kept) c.requires.working c.requires.common in
+    (subst (λ n. KeptDue n st.how.leak st.due c.keep_due.new.due st.leaked c.keep_due.new.leaked) is kept) c.requires.works.working c.requires.works.common in
     record {
-      working = left.0.working;
-      common = left.0.common;
-      goes = left.0.goes;
+      works = left.0;
       gives = left.1;
       told = λ no. absurd (cc);
       beside = refl;
@@ -41,6 +39,6 @@ returns g c =
     let enough : (l : Lending) → st.due ≡ Some l → l.loan.buffer ≢ reserve_of v → st.how.leak ≤ length st.leaked.items =
     λ l due aside. not.enough l due (λ e. aside (e ∙ is)) in
     let given = given-left st st.due c.give_due.new.due c.give_due.new.stray v (g.F.AppFace.seen c.give_due.new.face) c.give_due.result refl step enough
-    c.requires.working
-    c.requires.common in
+    c.requires.works.working
+    c.requires.works.common in
     rw not.same (assumption given)

@@ -17,7 +17,7 @@ read_loan-result-requires-clause-out g c =
     let p : Completion × Lending = (c.in-Some.completion, c.in-Some.lending) in
     let unread : st.unread ≡ p ∷ drop 1 st.unread = front-of st.unread p (search rules) in
     oldest-out st.notes st.flows p (drop 1 st.unread ++ st.posted.entries) (read_of st) (g.F.AppFace.seen c.args.face.now)
-    (subst (λ es. Stands st.notes st.flows (es ++ st.posted.entries) (read_of st) (g.F.AppFace.seen c.args.face.now)) unread c.requires.working.stands)
+    (subst (λ es. Stands st.notes st.flows (es ++ st.posted.entries) (read_of st) (g.F.AppFace.seen c.args.face.now)) unread c.requires.none.works.working.stands)
 
 -- the flow of the oldest loan is found, and the others stay unread
 record IsFound (st : State) (p : Completion × Lending) (own : FlowQueue) (i : ℕ) (rest : Buffer (Completion × Lending)) (flush : Bool) (most : ℕ)
@@ -37,7 +37,7 @@ found-oldest : (g : _) (c : After-read_loan-result g) → IsFound (state_of c.ar
     c.index_mut-own.result.now c.in-Some-find.i c.pop_front.new.self c.still_flushes-st.result c.wanted-most.result
 found-oldest g c =
     let st : State = state_of c.args.st.now in
-    let at_place = found-at st.index st.flows c.in-Some.completion.user_data c.in-Some-find.i (search rules) c.requires.working.index in
+    let at_place = found-at st.index st.flows c.in-Some.completion.user_data c.in-Some-find.i (search rules) c.requires.none.works.working.index in
     let items : c.pop_front.new.self.items ≡ drop 1 st.unread = ap (λ (b : Buffer (Completion × Lending)). b.items) c.pop_front.ensures.items in
     let is : c.wanted-most.result ≡ wanted_of st.how.quit st.written c.in-Some.lending.loan.len = search rules in
     record {
@@ -50,7 +50,7 @@ found-oldest g c =
       flush_off = subst (λ es. c.still_flushes-st.result ≡ false → (st.flush ≡ false) ⊎ (es ≡ [])) items c.still_flushes-st.ensures.off;
       is = is;
       part = wanted-part st.how.quit st.written c.in-Some.lending.loan.len c.wanted-most.result is;
-      going = subst (Quits st.how.quit st.written) c.requires.working.going c.requires.common.quits;
+      going = subst (Quits st.how.quit st.written) c.requires.none.works.working.going c.requires.none.works.common.quits;
     }
 
 pub returns-in-Err-clause-reads : goal.returns-in-Err-clause-reads
@@ -66,12 +66,12 @@ returns-in-Err-clause-reads g c =
     let quits : Quits st.how.quit c.saturating_add-st.result stop.No = quits-short st.how.quit st.written (c.read_loan-result.new.bytes - own.bytes)
     most c.saturating_add-st.result c.in-Some.lending.loan.len found.is (omega (arith, short, counted.0)) count found.going in
     rw (found.items, found.capacity) (oldest-failed st c.in-Some-find.i own p (drop 1 st.unread) (g.F.AppFace.seen c.args.face.now)
-    (g.F.AppFace.seen c.read_loan-result.new.face) found.unread c.requires.due c.requires.pushed found.within
-    c.index_mut-own.ensures.value found.number c.read_loan-result.ensures.only c.requires.working c.requires.common c.requires.reaped
+    (g.F.AppFace.seen c.read_loan-result.new.face) found.unread c.requires.none.due c.requires.none.pushed found.within
+    c.index_mut-own.ensures.value found.number c.read_loan-result.ensures.only c.requires.none.works.working c.requires.none.works.common c.requires.none.reaped
     c.still_flushes-st.result found.flush_on found.flush_off c.requires.more
     c.read_loan-result.new.bytes c.saturating_add-st.result most (g.T.Shelf.counts c.args.shelf.now).faults (g.T.Shelf.counts c.read_loan-result.new.shelf).faults
     (g.T.Shelf.kept c.args.shelf.now) (g.T.Shelf.kept c.read_loan-result.new.shelf) counted.0 found.part counted.1 count
-    (subst (Quits st.how.quit c.saturating_add-st.result) (sym c.requires.working.going) quits)
+    (subst (Quits st.how.quit c.saturating_add-st.result) (sym c.requires.none.works.working.going) quits)
     (search rules) c.read_loan-result.ensures.gained c.read_loan-result.ensures.others)
 
 pub returns-then-eq-clause-reads : goal.returns-then-eq-clause-reads
@@ -88,8 +88,8 @@ returns-then-eq-clause-reads g c =
     (λ (read : List ℕ). IsReadOf (g.F.AppFace.seen c.args.face.now).taken (g.F.AppFace.seen c.read_loan-result.new.face).reads c.in-Some.lending most most
     read) = search rules in
     rw (found.items, found.capacity) (oldest-quit st c.in-Some-find.i own p (drop 1 st.unread) (g.F.AppFace.seen c.args.face.now)
-    (g.F.AppFace.seen c.read_loan-result.new.face) found.unread c.requires.due c.requires.pushed found.within
-    c.index_mut-own.ensures.value found.number c.read_loan-result.ensures.only c.requires.working c.requires.common c.requires.reaped
+    (g.F.AppFace.seen c.read_loan-result.new.face) found.unread c.requires.none.due c.requires.none.pushed found.within
+    c.index_mut-own.ensures.value found.number c.read_loan-result.ensures.only c.requires.none.works.working c.requires.none.works.common c.requires.none.reaped
     c.still_flushes-st.result found.flush_on found.flush_off c.requires.more
     c.read_loan-result.new.bytes c.saturating_add-st.result most (g.T.Shelf.kept c.args.shelf.now)
     (g.T.Shelf.kept c.read_loan-result.new.shelf) found.part bytes count (quits-now st.how.quit st.written c.saturating_add-st.result all) exact
@@ -113,8 +113,8 @@ returns-clause-reads g c =
     (λ (read : List ℕ). IsReadOf (g.F.AppFace.seen c.args.face.now).taken (g.F.AppFace.seen c.read_loan-result.new.face).reads c.in-Some.lending most most
     read) = search rules in
     rw (found.items, found.capacity) (oldest-read st c.in-Some-find.i own p (drop 1 st.unread) (g.F.AppFace.seen c.args.face.now)
-    (g.F.AppFace.seen c.read_loan-result.new.face) found.unread c.requires.due c.requires.pushed found.within
-    c.index_mut-own.ensures.value found.number c.read_loan-result.ensures.only c.requires.working c.requires.common c.requires.reaped
+    (g.F.AppFace.seen c.read_loan-result.new.face) found.unread c.requires.none.due c.requires.none.pushed found.within
+    c.index_mut-own.ensures.value found.number c.read_loan-result.ensures.only c.requires.none.works.working c.requires.none.works.common c.requires.none.reaped
     c.still_flushes-st.result found.flush_on found.flush_off c.requires.more
     c.read_loan-result.new.bytes c.saturating_add-st.result (g.T.Shelf.kept c.args.shelf.now)
     (g.T.Shelf.kept c.read_loan-result.new.shelf)
@@ -122,7 +122,7 @@ returns-clause-reads g c =
     (lent_piece (g.F.AppFace.seen c.args.face.now).taken c.in-Some.lending)) whole through)
     (bytes ∙ ap (λ n. own.bytes + n) whole)
     (count ∙ ap (λ n. min (st.written + n) (2 ^ 64 - 1)) whole)
-    (subst (Quits st.how.quit c.saturating_add-st.result) (sym c.requires.working.going) not.0)
+    (subst (Quits st.how.quit c.saturating_add-st.result) (sym c.requires.none.works.working.going) not.0)
     (subst (λ (n : ℕ). Gained (g.T.Shelf.kept c.args.shelf.now own.number) (g.T.Shelf.kept c.read_loan-result.new.shelf own.number)
     (λ (read : List ℕ). IsReadOf (g.F.AppFace.seen c.args.face.now).taken (g.F.AppFace.seen c.read_loan-result.new.face).reads c.in-Some.lending n n read))
     whole exact)

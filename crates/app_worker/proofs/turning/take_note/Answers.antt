@@ -6,7 +6,7 @@ use Rattle.app_worker.proofs.turning.take_note.Goals as goal
 
 pub returns-in-Linear-clause-takes : goal.returns-in-Linear-clause-takes
 returns-in-Linear-clause-takes g c =
-    c.take_short.ensures.takes (g.F.AppFace.seen c.args.face.now) (g.F.AppFace.seen c.poll.new.self) c.requires.working c.requires.common c.requires.rest
+    c.take_short.ensures.takes (g.F.AppFace.seen c.args.face.now) (g.F.AppFace.seen c.poll.new.self) c.requires.works.working c.requires.works.common c.requires.rest
     c.requires.more c.in-Linear.ensures.view
 
 pub release-requires-clause-out : goal.release-requires-clause-out
@@ -15,38 +15,38 @@ release-requires-clause-out g c =
     let mid : AppView = g.F.AppFace.seen c.poll.new.self in
     let took : TookNote old mid c.in-Note.note c.in-Note.held = c.in-Note.ensures.view in
     in-contains (λ h. h.place) (held_piece (whole_piece c.args.st.now.notes c.in-Note.held)) mid.helds
-    (is-took old mid c.in-Note.note c.args.st.now.notes c.in-Note.held c.requires.working.stands.tokens.apart c.requires.working.stands.notes took).out
+    (is-took old mid c.in-Note.note c.args.st.now.notes c.in-Note.held c.requires.works.working.stands.tokens.apart c.requires.works.working.stands.notes took).out
 
 pub returns-in_default-clause-takes : goal.returns-in_default-clause-takes
 returns-in_default-clause-takes g c =
     released-taken (state_of c.args.st.now) (g.F.AppFace.seen c.args.face.now)
-    (g.F.AppFace.seen c.poll.new.self) c.in-Note.note c.in-Note.held c.in-Note.ensures.view c.requires.working c.requires.common
+    (g.F.AppFace.seen c.poll.new.self) c.in-Note.note c.in-Note.held c.in-Note.ensures.view c.requires.works.working c.requires.works.common
     (g.F.AppFace.seen c.release.new.self) c.release.ensures.view
 
 pub take_piece-taken-requires-clause-apart : goal.take_piece-taken-requires-clause-apart
 take_piece-taken-requires-clause-apart g c =
     (is-took (g.F.AppFace.seen c.args.face.now) (g.F.AppFace.seen c.poll.new.self) c.in-Note.note c.args.st.now.notes c.in-Note.held
-    c.requires.working.stands.tokens.apart c.requires.working.stands.notes c.in-Note.ensures.view).apart
+    c.requires.works.working.stands.tokens.apart c.requires.works.working.stands.notes c.in-Note.ensures.view).apart
 
 pub take_piece-taken-requires-clause-out : goal.take_piece-taken-requires-clause-out
 take_piece-taken-requires-clause-out g c =
     (is-took (g.F.AppFace.seen c.args.face.now) (g.F.AppFace.seen c.poll.new.self) c.in-Note.note c.args.st.now.notes c.in-Note.held
-    c.requires.working.stands.tokens.apart c.requires.working.stands.notes c.in-Note.ensures.view).out
+    c.requires.works.working.stands.tokens.apart c.requires.works.working.stands.notes c.in-Note.ensures.view).out
 
 pub returns-in_default-taken-clause-takes : goal.returns-in_default-taken-clause-takes
 returns-in_default-taken-clause-takes g c =
     piece-lost (state_of c.args.st.now) (g.F.AppFace.seen c.args.face.now) (g.F.AppFace.seen c.poll.new.self) c.in-Note.note c.in-Note.held
-    c.in-Note.ensures.view c.requires.working c.requires.common (g.F.AppFace.seen c.take_piece-taken.new.face) c.take_piece-taken.new.flows.items
+    c.in-Note.ensures.view c.requires.works.working c.requires.works.common (g.F.AppFace.seen c.take_piece-taken.new.face) c.take_piece-taken.new.flows.items
     c.take_piece-taken.new.index.entries (search rules)
     (c.in_default-taken.ensures.stands (g.F.AppFace.seen c.args.face.now) (c.args.st.now.unread.items ++ c.args.st.now.posted.entries)
-    (read_of (state_of c.args.st.now)) c.in-Note.ensures.view c.requires.working.stands)
+    (read_of (state_of c.args.st.now)) c.in-Note.ensures.view c.requires.works.working.stands)
 
 pub returns-clause-takes : goal.returns-clause-takes
 returns-clause-takes g c =
     let count : c.in-Some.notes ≡ c.args.st.now.notes + 1 = search rules in
     let takes = c.in-Ok.ensures.takes in
     piece-entered (state_of c.args.st.now) (g.F.AppFace.seen c.args.face.now) (g.F.AppFace.seen c.poll.new.self) c.in-Note.note c.in-Note.held
-    c.in-Note.ensures.view c.requires.working c.requires.common (g.F.AppFace.seen c.take_piece-taken.new.face) c.take_piece-taken.new.flows.items
+    c.in-Note.ensures.view c.requires.works.working c.requires.works.common (g.F.AppFace.seen c.take_piece-taken.new.face) c.take_piece-taken.new.flows.items
     c.take_piece-taken.new.index.entries c.in-Ok.i takes.change takes.some c.in-Some.notes count c.requires.rest c.requires.more
     (c.in-Ok.ensures.stands (g.F.AppFace.seen c.args.face.now) (c.args.st.now.unread.items ++ c.args.st.now.posted.entries)
-    (read_of (state_of c.args.st.now)) c.in-Note.ensures.view c.requires.working.stands)
+    (read_of (state_of c.args.st.now)) c.in-Note.ensures.view c.requires.works.working.stands)
