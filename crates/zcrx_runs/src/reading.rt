@@ -128,7 +128,7 @@ fn a_cut_record_behind_a_flow_too_many_is_not_told(rt: HostRuntime) -> Result<()
     Ok(())
 }
 
-/// Behind that record at most 128 are sent and one is held: the ring has no more places, and the card takes none of them.
+/// Behind that record at most 256 are sent and one is held: the ring has no more places, and the card takes none of them.
 #[test]
 fn a_flow_too_many_stops_the_reading(rt: HostRuntime) -> Result<(), Fail> {
     let alloc = rt.alloc();
@@ -139,7 +139,7 @@ fn a_flow_too_many_stops_the_reading(rt: HostRuntime) -> Result<(), Fail> {
     };
     let report = report_of_syns(alloc)?;
     check_report(&rt, &mut source, 10, &report, &NoGate)?;
-    if calls.load(Ordering::SeqCst) >= call_behind(LAST + 129) {
+    if calls.load(Ordering::SeqCst) >= call_behind(LAST + 257) {
         return Err(Fail::new("too many calls"));
     }
     Ok(())
