@@ -31,7 +31,8 @@ fn write_record<O: Sink>(
 /// Writes the capture of a seed and a number of frames: its header and then the frames' records, each in one call of the
 /// sink. `Failed` says that a call of the sink failed. It takes no memory.
 pub fn make<O: Sink>(seed: u32, frames: u32, out: &mut O) -> Result<(), Failed>
-    ensures bytes { AddsPiece (O.sent out.old) (O.sent out.new) result (generated_capture seed frames) }
+    ensures bytes { AddsPiece (O.sent out.old) (O.sent out.new) result
+        (generated_capture seed frames) }
     ensures cause { HasCause (O.faults out.old) (O.faults out.new) result }
 {
     out.write_all(&FILE_HEADER)?;

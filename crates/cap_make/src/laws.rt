@@ -6,11 +6,13 @@ ghost use Rattle.cap_make.specs.{GeneratedCapture.{piece_of, frame_of}, Carried.
 
 /// Each frame is a whole TCP segment, to its flow's port, with the bytes of its piece at their place in the flow.
 pub fn frames_are_segments()
-    ensures { (seed k x : ℕ) → class_of (frame_of seed (piece_of k x)) ≡ Tcp (segment_with seed (piece_of k x)) }
+    ensures { (seed k x : ℕ) → class_of (frame_of seed (piece_of k x))
+        ≡ Tcp (segment_with seed (piece_of k x)) }
 {}
 
 /// The capture has four flows, one to each port, all of which begin at position 0: the first so many of them, where it
 /// has fewer frames.
 pub fn flows_are_four()
-    ensures { (seed n : ℕ) → flows_of (steered_of ports (segments_of (frames_of seed n))) ≡ take n four_flows }
+    ensures { (seed n : ℕ) → flows_of (steered_of ports (segments_of (frames_of seed n)))
+        ≡ take n four_flows }
 {}

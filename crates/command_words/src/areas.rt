@@ -87,7 +87,8 @@ fn read_either(
     size: Option<&str>,
 ) -> Result<Option<Vec<(u32, u32)>>, AllocError>
     ensures { IfOk result (λ r. option_map (λ areas. areas.items) r
-        ≡ areas_or (option_map (λ w. w.now) areas.entry) (option_map (λ w. w.now) number.entry) (option_map (λ w. w.now) size.entry)) }
+        ≡ areas_or (option_map (λ w. w.now) areas.entry) (option_map (λ w. w.now) number.entry)
+        (option_map (λ w. w.now) size.entry)) }
 {
     match (areas, number, size) {
         (None, number, size) => one_area(alloc, number, size),
@@ -99,7 +100,8 @@ fn read_either(
 /// The areas of the pool: those that were said, or one with the number of buffers and the size that were said.
 #[tactic(auto, unfolding(crate::specs::Areas::pool_of))]
 pub fn read_pool(alloc: Global, said: &ArgMatches) -> Result<Option<Vec<(u32, u32)>>, AllocError>
-    ensures { IfOk result (λ r. option_map (λ areas. areas.items) r ≡ pool_of (λ name. first_value (found_of said.now) name)) }
+    ensures { IfOk result (λ r. option_map (λ areas. areas.items) r
+        ≡ pool_of (λ name. first_value (found_of said.now) name)) }
 {
     read_either(
         alloc,

@@ -27,7 +27,8 @@ fn with_flag<'a>(
     command: Command<'a>,
     name: &'a str,
 ) -> Result<Command<'a>, AllocError>
-    ensures { IfOk result (λ r. app_of r ≡ with_rule (app_of command.entry) (raw_flag name.entry.now)) }
+    ensures { IfOk result (λ r. app_of r
+        ≡ with_rule (app_of command.entry) (raw_flag name.entry.now)) }
 {
     command.arg(Arg::new(alloc, name).long(name).action(ArgAction::SetTrue))
 }
@@ -55,7 +56,8 @@ fn command_with_flags<'a>(
     flags: &'a [&'a str],
 ) -> Result<Command<'a>, AllocError>
     ensures { IfOk result (λ r. app_of r
-        ≡ app_with (option_rules (map (λ n. n.now) names.entry.now) ++ flag_rules (map (λ n. n.now) flags.entry.now))) }
+        ≡ app_with (option_rules (map (λ n. n.now) names.entry.now)
+        ++ flag_rules (map (λ n. n.now) flags.entry.now))) }
 {
     let mut command = command_with_options(alloc, names)?;
     for flag in flags {
@@ -69,7 +71,8 @@ fn command_for<'a>(
     names: &'a [&'a str],
     flags: &'a [&'a str],
 ) -> Result<Command<'a>, AllocError>
-    ensures { IfOk result (λ r. app_of r ≡ app_for (map (λ n. n.now) names.entry.now) (map (λ n. n.now) flags.entry.now)) }
+    ensures { IfOk result (λ r. app_of r
+        ≡ app_for (map (λ n. n.now) names.entry.now) (map (λ n. n.now) flags.entry.now)) }
 {
     let ports = Arg::new(alloc, PORT).action(ArgAction::Append);
     command_with_flags(alloc, names, flags)?.arg(ports)
@@ -101,8 +104,10 @@ pub fn assign<'a>(
     words: &'a [&'a str],
 ) -> Result<Option<ArgMatches<'a>>, AllocError>
     requires { AreApart (map (λ n. n.now) names.now) (map (λ n. n.now) flags.now) }
-    ensures { IfOk result (λ r. Answers (map (λ n. n.now) names.entry.now) (map (λ n. n.now) flags.entry.now) r
-        (sorted (map (λ n. n.now) names.entry.now) (map (λ n. n.now) flags.entry.now) (drop 1 (map (λ w. w.now) words.entry.now)))) }
+    ensures { IfOk result (λ r. Answers (map (λ n. n.now) names.entry.now)
+        (map (λ n. n.now) flags.entry.now) r
+        (sorted (map (λ n. n.now) names.entry.now) (map (λ n. n.now) flags.entry.now)
+        (drop 1 (map (λ w. w.now) words.entry.now)))) }
 {
     known_texts(words);
     let command = command_for(alloc, names, flags)?;

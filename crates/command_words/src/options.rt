@@ -93,7 +93,8 @@ const MOST_TURNS: usize = 4096;
 impl Number {
     /// The number that was said.
     pub(crate) fn read(self, word: Option<&str>) -> Option<u32>
-        ensures { result ≡ number_or self.default self.least self.most (option_map (λ w. w.now) word.entry) }
+        ensures { result ≡ number_or self.default self.least self.most
+            (option_map (λ w. w.now) word.entry) }
     {
         match word {
             Some(word) => numbers::read_within(self.least, self.most, word),
@@ -161,7 +162,8 @@ fn read_behaviour(said: &ArgMatches) -> Option<Behaviour>
 /// The numbers that were said, each in its range; those that weren't are their defaults.
 #[tactic(auto, unfolding(crate::specs::Options::options_of))]
 pub fn read_options(said: &ArgMatches) -> Option<Options>
-    ensures { result ≡ options_of (λ name. first_value (found_of said.now) name) (flag_in said.now) }
+    ensures { result ≡ options_of (λ name. first_value (found_of said.now) name)
+        (flag_in said.now) }
 {
     let ring = RING.read(said.get_str("ring"))?;
     let split = SPLIT.read(said.get_str("split"))?;
@@ -184,7 +186,8 @@ fn is_said(said: &ArgMatches, name: &str) -> bool
 }
 
 fn any_said(said: &ArgMatches, names: &[&str]) -> bool
-    ensures { result ≡ list_any (λ name. is_some (first_value (found_of said.now) name)) (map (λ n. n.now) names.now) }
+    ensures { result ≡ list_any (λ name. is_some (first_value (found_of said.now) name))
+        (map (λ n. n.now) names.now) }
 {
     match names {
         [] => false,
@@ -196,7 +199,8 @@ fn any_said(said: &ArgMatches, names: &[&str]) -> bool
 /// run is asked for only with a text of turns.
 #[tactic(auto, unfolding(crate::specs::Options::stand_together))]
 pub fn stand_together(said: &ArgMatches) -> bool
-    ensures { result ≡ stand_together (λ name. first_value (found_of said.now) name) (flag_in said.now) }
+    ensures { result ≡ stand_together (λ name. first_value (found_of said.now) name)
+        (flag_in said.now) }
 {
     let own = any_said(said, OWN.as_slice());
     let polled = is_flagged(said, "polled");

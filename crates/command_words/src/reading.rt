@@ -67,7 +67,8 @@ fn with_areas<'a>(
 ) -> Option<Replay<'a>>
     requires { length ports.items ≤ 8 }
     ensures { option_map replay_shown result
-        ≡ told_with (λ name. first_value (found_of said.now) name) (flag_in said.now) ports.items areas.items }
+        ≡ told_with (λ name. first_value (found_of said.now) name)
+        (flag_in said.now) ports.items areas.items }
 {
     let options = read_options(said)?;
     let turns = read_turns(said, ports.len())?;

@@ -38,7 +38,8 @@ impl<L, A: Allocator> CqRing<L, A> {
     /// Puts a completion behind the others. A full ring gives it back.
     pub fn post(&mut self, c: Completion, loan: L) -> Result<(), (Completion, L)>
         ensures full { IsErr result ↔ IsFull self.old }
-        ensures posted { OnOk result (self.new ≡ ring (self.old.entries ++ (c, loan) ∷ []) self.old.places) }
+        ensures posted { OnOk result
+            (self.new ≡ ring (self.old.entries ++ (c, loan) ∷ []) self.old.places) }
         ensures back { IfErr result (λ entry. (entry ≡ (c, loan)) × (self.new ≡ self.old)) }
     {
         self.entries.try_push_back((c, loan))
@@ -47,7 +48,8 @@ impl<L, A: Allocator> CqRing<L, A> {
     /// Takes the oldest completion out.
     pub fn reap(&mut self) -> Option<(Completion, L)>
         ensures empty { IsNone result ↔ (self.old.entries ≡ []) }
-        ensures oldest { IfSome result (λ entry. self.old ≡ ring (entry ∷ self.new.entries) self.new.places) }
+        ensures oldest { IfSome result
+            (λ entry. self.old ≡ ring (entry ∷ self.new.entries) self.new.places) }
         ensures none { IfNone result (self.new ≡ self.old) }
     {
         self.entries.pop_front()

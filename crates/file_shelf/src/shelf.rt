@@ -75,7 +75,8 @@ impl<R: Files + AllocGlobal> FileShelf<'_, R> {
     /// Counts what failed.
     fn count<V>(&mut self, outcome: Result<V, Lost>) -> Result<V, Failed>
         ensures cause { HasCause self.old.faults self.new.faults result }
-        ensures after { MatchResult result (λ _. self.new ≡ self.old) (λ _. self.new ≡ record self.old { faults = raised self.old.faults }) }
+        ensures after { MatchResult result (λ _. self.new ≡ self.old)
+            (λ _. self.new ≡ record self.old { faults = raised self.old.faults }) }
     {
         match outcome {
             Ok(value) => Ok(value),
@@ -100,7 +101,8 @@ impl<R: Files + AllocGlobal> Shelf for FileShelf<'_, R> {
         ensures counted { CountsPiece self.old.appended self.new.appended result piece.now }
 
         ensures after { MatchResult result
-            (λ _. self.new ≡ record self.old { appended = raised_by self.old.appended (length piece.now) })
+            (λ _. self.new ≡ record
+            self.old { appended = raised_by self.old.appended (length piece.now) })
             (λ _. self.new ≡ record self.old { faults = raised self.old.faults }) }
     {
         let added = self.files.add(&self.rt, flow, piece);
@@ -116,7 +118,8 @@ impl<R: Files + AllocGlobal> Shelf for FileShelf<'_, R> {
         ensures cause { HasCause self.old.faults self.new.faults result }
         ensures counted { self.new.appended ≡ self.old.appended }
 
-        ensures after { MatchResult result (λ _. self.new ≡ self.old) (λ _. self.new ≡ record self.old { faults = raised self.old.faults }) }
+        ensures after { MatchResult result (λ _. self.new ≡ self.old)
+            (λ _. self.new ≡ record self.old { faults = raised self.old.faults }) }
     {
         let closed = self.files.close_all();
         self.count(closed)

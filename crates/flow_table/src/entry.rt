@@ -43,7 +43,8 @@ pub(crate) struct FlowEntry {
 
 impl FlowEntry {
     pub(crate) fn begin(app: u32, segment: &Segment<'_>) -> FlowEntry
-        ensures { (record_number : ℕ) → entry_shown result ≡ new_flow (steered_to app (shown segment.now) record_number) }
+        ensures { (record_number : ℕ) → entry_shown result
+            ≡ new_flow (steered_to app (shown segment.now) record_number) }
     {
         let mut close = Close::none();
         close.see(segment);

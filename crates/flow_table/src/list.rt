@@ -41,7 +41,8 @@ impl Model for FlowList {
 /// The number of the newest of these flows that has the segment's key.
 fn newest_among(entries: &[FlowEntry], segment: &Segment<'_>) -> Option<u32>
     requires { length entries.now ≤ 65535 }
-    ensures { result ≡ option_map (λ (found : Numbered). found.number) (newest (key_of (shown segment.now)) (map entry_shown entries.now)) }
+    ensures { result ≡ option_map (λ (found : Numbered). found.number)
+        (newest (key_of (shown segment.now)) (map entry_shown entries.now)) }
 {
     let mut number = entries.len();
     while number > 0 {
@@ -79,7 +80,8 @@ impl FlowList {
 
     // The number of the newest flow of the segment's key.
     fn newest_of(&self, segment: &Segment<'_>) -> Option<u32>
-        ensures { result ≡ option_map (λ (found : Numbered). found.number) (newest (key_of (shown segment.now)) self.now) }
+        ensures { result ≡ option_map (λ (found : Numbered). found.number)
+            (newest (key_of (shown segment.now)) self.now) }
     {
         if self.entries.len() <= FEW_FLOWS {
             return newest_among(&self.entries, segment);
@@ -89,7 +91,8 @@ impl FlowList {
 
     // The number of the flow that the segment belongs to, or else of the one that it begins.
     fn number_of_flow(&self, segment: &Segment<'_>) -> u32
-        ensures number { result ≡ number_among (length self.now) (shown segment.now) (newest (key_of (shown segment.now)) self.now) }
+        ensures number { result ≡ number_among (length self.now) (shown segment.now)
+            (newest (key_of (shown segment.now)) self.now) }
         ensures within { result ≤ length self.now }
     {
         let Some(number) = self.newest_of(segment) else {
@@ -105,7 +108,8 @@ impl FlowList {
     /// Whether a flow begins with the segment, and isn't one too many.
     pub(crate) fn begins(&self, segment: &Segment<'_>) -> bool
         ensures { IsTrue result ↔
-            ((number_among (length self.now) (shown segment.now) (newest (key_of (shown segment.now)) self.now) ≡ length self.now)
+            ((number_among (length self.now) (shown segment.now)
+            (newest (key_of (shown segment.now)) self.now) ≡ length self.now)
             × (length self.now ≢ 65535)) }
     {
         let count = self.count();
@@ -116,7 +120,9 @@ impl FlowList {
     fn close_behind(&self, number: u32, segment: &Segment<'_>) -> Close
         requires { number ≤ length self.now }
         ensures { (app record_number : ℕ)
-            → option_map (λ (f : Flow). f.close) (slice_get (with_segment self.now number (steered_to app (shown segment.now) record_number)) number)
+            → option_map (λ (f : Flow). f.close)
+            (slice_get (with_segment self.now number
+            (steered_to app (shown segment.now) record_number)) number)
             ≡ Some (close_shown result) }
     {
         if number < self.count() {
@@ -131,13 +137,19 @@ impl FlowList {
     /// How many bytes of the segment would count. `None` where it would begin a flow too many.
     pub(crate) fn counted(&self, segment: &Segment<'_>) -> Option<usize>
         ensures few { IfSome result
-            (λ len. number_among (length self.now) (shown segment.now) (newest (key_of (shown segment.now)) self.now) ≢ 65535) }
+            (λ len. number_among (length self.now) (shown segment.now)
+            (newest (key_of (shown segment.now)) self.now) ≢ 65535) }
         ensures counted { IfSome result
-            (λ len. (app record_number number : ℕ) → number ≡ number_among (length self.now) (shown segment.now) (newest (key_of (shown segment.now)) self.now)
-            → counted_at (with_segment self.now number (steered_to app (shown segment.now) record_number)) number (shown segment.now) ≡ Some len) }
+            (λ len. (app record_number number : ℕ) → number
+            ≡ number_among (length self.now) (shown segment.now)
+            (newest (key_of (shown segment.now)) self.now)
+            → counted_at (with_segment self.now number
+            (steered_to app (shown segment.now) record_number)) number (shown segment.now)
+            ≡ Some len) }
         ensures most { IfSome result (λ len. len ≤ length (shown segment.now).payload) }
         ensures too_many { result ≡ None
-            → number_among (length self.now) (shown segment.now) (newest (key_of (shown segment.now)) self.now) ≡ 65535 }
+            → number_among (length self.now) (shown segment.now)
+            (newest (key_of (shown segment.now)) self.now) ≡ 65535 }
     {
         let number = self.number_of_flow(segment);
         if number == MOST_FLOWS {
@@ -149,7 +161,8 @@ impl FlowList {
     // The flow of this number sees the segment.
     fn go_on(&mut self, number: u32, segment: &Segment<'_>)
         requires { number < length self.old }
-        ensures { (app record_number : ℕ) → self.new ≡ with_segment self.old number (steered_to app (shown segment.now) record_number) }
+        ensures { (app record_number : ℕ) → self.new
+            ≡ with_segment self.old number (steered_to app (shown segment.now) record_number) }
     {
         self.entries[number as usize].see(segment);
     }
@@ -175,15 +188,21 @@ impl FlowList {
 
     /// The flow of the segment sees it, or begins with it.
     pub(crate) fn see(&mut self, app: u32, segment: &Segment<'_>) -> Result<u32, FlowFault>
-        ensures number { IfOk result (λ number. number ≡ number_among (length self.old) (shown segment.now) (newest (key_of (shown segment.now)) self.old)) }
+        ensures number { IfOk result (λ number. number
+            ≡ number_among (length self.old) (shown segment.now)
+            (newest (key_of (shown segment.now)) self.old)) }
         ensures flows { IfOk result
-            (λ number. (record_number : ℕ) → self.new ≡ with_segment self.old number (steered_to app (shown segment.now) record_number)) }
+            (λ number. (record_number : ℕ) → self.new
+            ≡ with_segment self.old number (steered_to app (shown segment.now) record_number)) }
         ensures count { IfOk result
-            (λ number. (number < length self.new) × (length self.new ≡ length self.old + (if number == length self.old then 1 else 0))) }
+            (λ number. (number < length self.new)
+            × (length self.new ≡ length self.old + (if number == length self.old then 1 else 0))) }
         ensures too_many { (result ≡ Err FlowFault.TooManyFlows) ↔
-            (number_among (length self.old) (shown segment.now) (newest (key_of (shown segment.now)) self.old) ≡ 65535) }
+            (number_among (length self.old) (shown segment.now)
+            (newest (key_of (shown segment.now)) self.old) ≡ 65535) }
         ensures memory { result ≡ Err FlowFault.Memory
-            → number_among (length self.old) (shown segment.now) (newest (key_of (shown segment.now)) self.old) ≡ length self.old }
+            → number_among (length self.old) (shown segment.now)
+            (newest (key_of (shown segment.now)) self.old) ≡ length self.old }
         ensures refused { OnErr result (self.new ≡ self.old) }
     {
         let number = self.number_of_flow(segment);

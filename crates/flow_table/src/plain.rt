@@ -25,7 +25,9 @@ fn receive_all(
     left_out: &[u32],
     steered: &[SteeredSegment<'_>],
 ) -> Result<PlainPlaced, AllocError>
-    ensures { IfOk result (λ placed. placed_shown placed ≡ received_all base left_out.now not_closed nothing_placed (map steered_shown steered.now)) }
+    ensures { IfOk result (λ placed. placed_shown placed
+        ≡ received_all base left_out.now not_closed nothing_placed
+        (map steered_shown steered.now)) }
 {
     let mut close = Close::none();
     let mut placed = PlainPlaced::new(alloc);
@@ -47,7 +49,8 @@ pub fn plain_flows(
     seen: &[Seen<'_>],
 ) -> Result<Vec<PlainFlow>, AllocError>
     requires { length seen.now < 2 ^ 32 }
-    ensures { IfOk result (λ flows. map flow_shown flows.items ≡ flows_of (steered_of ports.now (map segment_seen seen.now))) }
+    ensures { IfOk result (λ flows. map flow_shown flows.items
+        ≡ flows_of (steered_of ports.now (map segment_seen seen.now))) }
 {
     let steered = steered::steered_of(alloc, ports, seen)?;
     flows::flows_of(alloc, &steered)
@@ -64,7 +67,8 @@ pub fn plain_stream(
     flow: u32,
 ) -> Result<Vec<u8>, AllocError>
     requires { length seen.now < 2 ^ 32 }
-    ensures { IfOk result (λ stream. stream.items ≡ stream_of (steered_of ports.now (map segment_seen seen.now)) left_out.now flow) }
+    ensures { IfOk result (λ stream. stream.items
+        ≡ stream_of (steered_of ports.now (map segment_seen seen.now)) left_out.now flow) }
 {
     let steered = steered::steered_of(alloc, ports, seen)?;
     let flows = flows::flows_of(alloc, &steered)?;

@@ -56,9 +56,11 @@ impl FlowTable {
     pub fn place(&mut self, segment: &Segment<'_>) -> Result<Steered, FlowFault>
         requires size { length (shown segment.now).payload ≤ longest_payload }
         ensures placed { IfOk result (Places self.old self.new (shown segment.now)) }
-        ensures elsewhere { (result ≡ Ok Steered.Elsewhere) ↔ (app_of self.old.ports segment.now.dport ≡ None) }
+        ensures elsewhere { (result ≡ Ok Steered.Elsewhere)
+            ↔ (app_of self.old.ports segment.now.dport ≡ None) }
         ensures too_many { (record_number : ℕ)
-            → (result ≡ Err FlowFault.TooManyFlows) ↔ (number_for self.old (shown segment.now) record_number ≡ Some 65535) }
+            → (result ≡ Err FlowFault.TooManyFlows)
+            ↔ (number_for self.old (shown segment.now) record_number ≡ Some 65535) }
         // Memory is asked for only where the segment would begin a flow.
         ensures memory { (record_number : ℕ) → result ≡ Err FlowFault.Memory
             → number_for self.old (shown segment.now) record_number ≡ Some (length self.old.flows) }
@@ -85,7 +87,8 @@ impl FlowTable {
     pub fn begins(&self, segment: &Segment<'_>) -> bool
         ensures { (record_number : ℕ)
             → IsTrue result ↔
-            ((number_for self.now (shown segment.now) record_number ≡ Some (length self.now.flows)) × (length self.now.flows ≢ 65535)) }
+            ((number_for self.now (shown segment.now) record_number ≡ Some (length self.now.flows))
+            × (length self.now.flows ≢ 65535)) }
     {
         match app_of(&self.ports, segment.dport) {
             Some(_) => self.flows.begins(segment),
@@ -98,10 +101,13 @@ impl FlowTable {
     pub fn admits(&self, segment: &Segment<'_>) -> Option<u32>
         requires size { length (shown segment.now).payload ≤ longest_payload }
         ensures steered { IfSome result (λ len. app_of self.now.ports segment.now.dport ≢ None) }
-        ensures few { IfSome result (λ len. (record_number : ℕ) → number_for self.now (shown segment.now) record_number ≢ Some 65535) }
-        ensures counted { IfSome result (λ len. (record_number : ℕ) → counted_for self.now (shown segment.now) record_number ≡ Some len) }
+        ensures few { IfSome result (λ len. (record_number : ℕ) →
+            number_for self.now (shown segment.now) record_number ≢ Some 65535) }
+        ensures counted { IfSome result (λ len. (record_number : ℕ) →
+            counted_for self.now (shown segment.now) record_number ≡ Some len) }
         ensures refuses { (record_number : ℕ) → result ≡ None
-            → (app_of self.now.ports segment.now.dport ≡ None) ⊎ (number_for self.now (shown segment.now) record_number ≡ Some 65535) }
+            → (app_of self.now.ports segment.now.dport ≡ None)
+            ⊎ (number_for self.now (shown segment.now) record_number ≡ Some 65535) }
     {
         app_of(&self.ports, segment.dport)?;
         let len = self.flows.counted(segment)?;

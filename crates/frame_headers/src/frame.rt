@@ -32,7 +32,8 @@ const IPV6: u16 = 0x86dd;
 pub fn read_frame(frame: &[u8]) -> Seen<'_>
     ensures class { class_seen result ≡ class_of frame.now }
     // An IP packet's length is a number of two bytes, and a TCP header has at least 20.
-    ensures size { IfSome (segment_seen result) (λ segment. length segment.payload ≤ longest_payload) }
+    ensures size { IfSome (segment_seen result)
+        (λ segment. length segment.payload ≤ longest_payload) }
 {
     if frame.len() < HEADER {
         return Seen::CutShort;
@@ -53,7 +54,8 @@ pub fn read_frame(frame: &[u8]) -> Seen<'_>
 fn read_packet(frame: &[u8], ether_type: u16, at: usize) -> Seen<'_>
     requires { at < 2 ^ 16 }
     ensures class { class_seen result ≡ packet_class frame.now ether_type at }
-    ensures size { IfSome (segment_seen result) (λ segment. length segment.payload ≤ longest_payload) }
+    ensures size { IfSome (segment_seen result)
+        (λ segment. length segment.payload ≤ longest_payload) }
 {
     match ether_type {
         IPV4 => read_ipv4(frame, at),

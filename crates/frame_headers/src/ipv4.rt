@@ -18,7 +18,8 @@ const FRAGMENT: u16 = 0x3fff;
 pub fn read_ipv4(frame: &[u8], at: usize) -> Seen<'_>
     requires { at < 2 ^ 16 }
     ensures class { class_seen result ≡ ipv4_class frame.now at }
-    ensures size { IfSome (segment_seen result) (λ segment. length segment.payload ≤ longest_payload) }
+    ensures size { IfSome (segment_seen result)
+        (λ segment. length segment.payload ≤ longest_payload) }
 {
     if frame.len() < at + SHORTEST_HEADER {
         return Seen::CutShort;

@@ -44,7 +44,8 @@ fn read_next(
     requires bounded { end < 2 ^ 32 }
     requires enough { end < at + 8 * steps }
     ensures class { class_seen result ≡ ipv6_from steps frame.now src dst next at end }
-    ensures size { IfSome (segment_seen result) (λ segment. length segment.payload + at + 20 ≤ end) }
+    ensures size { IfSome (segment_seen result)
+        (λ segment. length segment.payload + at + 20 ≤ end) }
 {
     while is_passed_over(next) {
         if end < at + UNIT {
@@ -74,7 +75,8 @@ fn read_next(
 pub fn read_ipv6(frame: &[u8], at: usize) -> Seen<'_>
     requires { at < 2 ^ 16 }
     ensures class { class_seen result ≡ ipv6_class frame.now at }
-    ensures size { IfSome (segment_seen result) (λ segment. length segment.payload ≤ longest_payload) }
+    ensures size { IfSome (segment_seen result)
+        (λ segment. length segment.payload ≤ longest_payload) }
 {
     if frame.len() < at + HEADER {
         return Seen::CutShort;

@@ -15,7 +15,8 @@ const SHORTEST_HEADER: usize = 20;
 pub fn read_tcp(frame: &[u8], src: Addr, dst: Addr, from: usize, to: usize) -> Seen<'_>
     requires { from < 2 ^ 32 }
     ensures class { class_seen result ≡ tcp_class frame.now src dst from to }
-    ensures size { IfSome (segment_seen result) (λ segment. length segment.payload + from + 20 ≤ to) }
+    ensures size { IfSome (segment_seen result)
+        (λ segment. length segment.payload + from + 20 ≤ to) }
 {
     if frame.len() < to {
         return Seen::CutShort;

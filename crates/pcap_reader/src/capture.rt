@@ -62,18 +62,23 @@ impl Capture {
         source: &mut S,
         into: &mut Vec<u8>,
     ) -> Result<Option<Record>, Fault>
-        ensures gives { self.old.fault ≡ None → Gives self.old.order (S.left source.old) (S.left source.new) into.new.items result }
-        ensures cause { self.old.fault ≡ None → HasReadCause (S.faults source.old) (S.faults source.new) result }
+        ensures gives { self.old.fault ≡ None →
+            Gives self.old.order (S.left source.old) (S.left source.new) into.new.items result }
+        ensures cause { self.old.fault ≡ None →
+            HasReadCause (S.faults source.old) (S.faults source.new) result }
 
         // Memory is asked for once a header was read and its captured length is none too long.
-        ensures memory { self.old.fault ≡ None → IsErrOf result Memory → Took (S.left source.old) (S.left source.new) (WantsMemory self.old.order) }
+        ensures memory { self.old.fault ≡ None → IsErrOf result Memory →
+            Took (S.left source.old) (S.left source.new) (WantsMemory self.old.order) }
 
         // No record states more captured bytes than a record may have.
         ensures most { IfOk result (λ found. IfSome found (λ one. one.captured ≤ longest_record)) }
 
         // After a fault each call answers it, and reads nothing.
-        ensures stopped { IfSome self.old.fault (λ fault. (result ≡ Err fault) × (source.new ≡ source.old)) }
-        ensures kept { MatchResult result (λ _. self.new ≡ self.old) (λ fault. self.new ≡ record self.old { fault = Some fault }) }
+        ensures stopped { IfSome self.old.fault
+            (λ fault. (result ≡ Err fault) × (source.new ≡ source.old)) }
+        ensures kept { MatchResult result (λ _. self.new ≡ self.old)
+            (λ fault. self.new ≡ record self.old { fault = Some fault }) }
     {
         if let Some(fault) = self.fault {
             return Err(fault);
@@ -94,7 +99,8 @@ fn read_next<S: Source>(
 ) -> Result<Option<Record>, Fault>
     ensures gives { Gives order (S.left source.old) (S.left source.new) into.new.items result }
     ensures cause { HasReadCause (S.faults source.old) (S.faults source.new) result }
-    ensures memory { IsErrOf result Memory → Took (S.left source.old) (S.left source.new) (WantsMemory order) }
+    ensures memory { IsErrOf result Memory →
+        Took (S.left source.old) (S.left source.new) (WantsMemory order) }
     ensures most { IfOk result (λ found. IfSome found (λ one. one.captured ≤ longest_record)) }
 {
     let Some(record) = read_record(source, order)? else {

@@ -42,7 +42,8 @@ pub(crate) fn read_record<S: Source>(
 
 /// Reads the bytes behind a record's header into `into`, which keeps its memory.
 pub fn read_body<S: Source>(source: &mut S, captured: u32, into: &mut Vec<u8>) -> Result<(), Fault>
-    ensures takes { TakesBody captured (S.left source.old) (S.left source.new) into.new.items result }
+    ensures takes { TakesBody captured (S.left source.old) (S.left source.new)
+        into.new.items result }
     ensures cause { HasReadCause (S.faults source.old) (S.faults source.new) result }
 {
     // Bytes that stood there are read over.

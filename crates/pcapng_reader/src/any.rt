@@ -60,18 +60,24 @@ impl AnyCapture {
         source: &mut S,
         into: &mut Vec<u8>,
     ) -> Result<Option<Record>, Fault>
-        ensures gives { self.old.fault ≡ None → Gives self.old.going self.new.going (S.left source.old) (S.left source.new) into.new.items result }
-        ensures cause { self.old.fault ≡ None → HasReadCause (S.faults source.old) (S.faults source.new) result }
+        ensures gives { self.old.fault ≡ None →
+            Gives self.old.going self.new.going (S.left source.old) (S.left source.new)
+            into.new.items result }
+        ensures cause { self.old.fault ≡ None →
+            HasReadCause (S.faults source.old) (S.faults source.new) result }
 
         // Memory is asked for captured bytes, once their packet was judged, and for an interface.
-        ensures memory { self.old.fault ≡ None → IsErrOf result Memory → Took (S.left source.old) (S.left source.new) (WantsMemory self.old.going) }
+        ensures memory { self.old.fault ≡ None → IsErrOf result Memory →
+            Took (S.left source.old) (S.left source.new) (WantsMemory self.old.going) }
 
         // No record states more captured bytes than a record may have.
         ensures most { IfOk result (λ found. IfSome found (λ one. one.captured ≤ longest_record)) }
 
         // After a fault each call answers it, and reads nothing.
-        ensures stopped { IfSome self.old.fault (λ fault. (result ≡ Err fault) × (source.new ≡ source.old)) }
-        ensures kept { MatchResult result (λ _. self.new.fault ≡ self.old.fault) (λ fault. self.new.fault ≡ Some fault) }
+        ensures stopped { IfSome self.old.fault
+            (λ fault. (result ≡ Err fault) × (source.new ≡ source.old)) }
+        ensures kept { MatchResult result (λ _. self.new.fault ≡ self.old.fault)
+            (λ fault. self.new.fault ≡ Some fault) }
     {
         match &mut self.form {
             Form::Classic(capture) => capture.next(source, into),

@@ -56,12 +56,19 @@ impl BlockCapture {
         source: &mut S,
         into: &mut Vec<u8>,
     ) -> Result<Option<Record>, Fault>
-        ensures gives { self.old.fault ≡ None → Gives (blocks (told self.old.section)) (blocks (told self.new.section)) (S.left source.old) (S.left source.new) into.new.items result }
-        ensures cause { self.old.fault ≡ None → HasReadCause (S.faults source.old) (S.faults source.new) result }
-        ensures memory { self.old.fault ≡ None → IsErrOf result Memory → Took (S.left source.old) (S.left source.new) (WantsMemory (blocks (told self.old.section))) }
+        ensures gives { self.old.fault ≡ None →
+            Gives (blocks (told self.old.section)) (blocks (told self.new.section))
+            (S.left source.old) (S.left source.new) into.new.items result }
+        ensures cause { self.old.fault ≡ None →
+            HasReadCause (S.faults source.old) (S.faults source.new) result }
+        ensures memory { self.old.fault ≡ None → IsErrOf result Memory →
+            Took (S.left source.old) (S.left source.new)
+            (WantsMemory (blocks (told self.old.section))) }
         ensures most { IfOk result (λ found. IfSome found (λ one. one.captured ≤ longest_record)) }
-        ensures stopped { IfSome self.old.fault (λ fault. (result ≡ Err fault) × (source.new ≡ source.old)) }
-        ensures kept { MatchResult result (λ _. self.new.fault ≡ self.old.fault) (λ fault. self.new.fault ≡ Some fault) }
+        ensures stopped { IfSome self.old.fault
+            (λ fault. (result ≡ Err fault) × (source.new ≡ source.old)) }
+        ensures kept { MatchResult result (λ _. self.new.fault ≡ self.old.fault)
+            (λ fault. self.new.fault ≡ Some fault) }
     {
         if let Some(fault) = self.fault {
             return Err(fault);
@@ -80,9 +87,11 @@ fn read_next<S: Source>(
     section: &mut OpenSection,
     into: &mut Vec<u8>,
 ) -> Result<Option<Record>, Fault>
-    ensures gives { Gives (blocks (told section.old)) (blocks (told section.new)) (S.left source.old) (S.left source.new) into.new.items result }
+    ensures gives { Gives (blocks (told section.old)) (blocks (told section.new))
+        (S.left source.old) (S.left source.new) into.new.items result }
     ensures cause { HasReadCause (S.faults source.old) (S.faults source.new) result }
-    ensures memory { IsErrOf result Memory → Took (S.left source.old) (S.left source.new) (WantsMemory (blocks (told section.old))) }
+    ensures memory { IsErrOf result Memory →
+        Took (S.left source.old) (S.left source.new) (WantsMemory (blocks (told section.old))) }
     ensures most { IfOk result (λ found. IfSome found (λ one. one.captured ≤ longest_record)) }
 {
     while let Some(start) = read_start(source)? {
@@ -116,11 +125,15 @@ fn read_block<S: Source>(
     start: [u8; START_LEN],
     into: &mut Vec<u8>,
 ) -> Result<Option<Record>, Fault>
-    ensures takes { TakesBlock (told section.old) (told section.new) start (S.left source.old) (S.left source.new) into.new.items result }
+    ensures takes { TakesBlock (told section.old) (told section.new) start (S.left source.old)
+        (S.left source.new) into.new.items result }
     ensures cause { HasReadCause (S.faults source.old) (S.faults source.new) result }
-    ensures memory { IsErrOf result Memory → Took (S.left source.old) (S.left source.new) (λ taken. WantsHere (told section.old) (start ++ taken)) }
+    ensures memory { IsErrOf result Memory →
+        Took (S.left source.old) (S.left source.new)
+        (λ taken. WantsHere (told section.old) (start ++ taken)) }
     ensures most { IfOk result (λ found. IfSome found (λ one. one.captured ≤ longest_record)) }
-    ensures counts { IfOk result (λ found. IfNone found ((section.old.others < section.new.others) × (section.new.others ≤ 16777216))) }
+    ensures counts { IfOk result (λ found. IfNone found
+        ((section.old.others < section.new.others) × (section.new.others ≤ 16777216))) }
 {
     let head = read_head(source, section, start)?;
     match head.kind {
@@ -142,7 +155,8 @@ fn begin_section<S: Source>(
 ) -> Result<(), Fault>
     requires head { IsHead (told section.old) head.now }
     requires kind { head.now.kind ≡ SectionHeader }
-    ensures passes { PassesBlock IsHeaderFault (told section.old) (told section.new) (head_bytes head.now) (S.left source.old) (S.left source.new) result }
+    ensures passes { PassesBlock IsHeaderFault (told section.old) (told section.new)
+        (head_bytes head.now) (S.left source.old) (S.left source.new) result }
     ensures cause { HasReadCause (S.faults source.old) (S.faults source.new) result }
 {
     if head.order.number16(&head.bytes[12..]) != MAJOR_VERSION {
@@ -161,9 +175,12 @@ fn add_interface<S: Source>(
 ) -> Result<(), Fault>
     requires head { IsHead (told section.old) head.now }
     requires kind { head.now.kind ≡ InterfaceDescription }
-    ensures passes { PassesBlock IsInterfaceFault (told section.old) (told section.new) (head_bytes head.now) (S.left source.old) (S.left source.new) result }
+    ensures passes { PassesBlock IsInterfaceFault (told section.old) (told section.new)
+        (head_bytes head.now) (S.left source.old) (S.left source.new) result }
     ensures cause { HasReadCause (S.faults source.old) (S.faults source.new) result }
-    ensures memory { IsErrOf result Memory → Took (S.left source.old) (S.left source.new) (λ taken. WantsHere (told section.old) (head_bytes head.now ++ taken)) }
+    ensures memory { IsErrOf result Memory →
+        Took (S.left source.old) (S.left source.new)
+        (λ taken. WantsHere (told section.old) (head_bytes head.now ++ taken)) }
 {
     if section.interfaces.reserve(1).is_err() {
         return Err(Fault::Memory);
@@ -182,7 +199,8 @@ fn add_interface<S: Source>(
 fn pass_over<S: Source>(source: &mut S, section: &mut OpenSection, head: &Head) -> Result<(), Fault>
     requires head { IsHead (told section.old) head.now }
     requires kind { head.now.kind ≡ Other }
-    ensures passes { PassesBlock IsHeaderFault (told section.old) (told section.new) (head_bytes head.now) (S.left source.old) (S.left source.new) result }
+    ensures passes { PassesBlock IsHeaderFault (told section.old) (told section.new)
+        (head_bytes head.now) (S.left source.old) (S.left source.new) result }
     ensures cause { HasReadCause (S.faults source.old) (S.faults source.new) result }
 {
     read_end(source, head.order, head.room(), head.total)?;
@@ -199,9 +217,12 @@ fn read_packet<S: Source>(
 ) -> Result<Record, Fault>
     requires head { IsHead (told section.now) head.now }
     requires kind { IsTrue (is_packet head.now.kind) }
-    ensures takes { TakesPacket (told section.now) (head_bytes head.now) (S.left source.old) (S.left source.new) into.new.items result }
+    ensures takes { TakesPacket (told section.now) (head_bytes head.now) (S.left source.old)
+        (S.left source.new) into.new.items result }
     ensures cause { HasReadCause (S.faults source.old) (S.faults source.new) result }
-    ensures memory { IsErrOf result Memory → Took (S.left source.old) (S.left source.new) (λ taken. WantsHere (told section.now) (head_bytes head.now ++ taken)) }
+    ensures memory { IsErrOf result Memory →
+        Took (S.left source.old) (S.left source.new)
+        (λ taken. WantsHere (told section.now) (head_bytes head.now ++ taken)) }
     ensures most { IfOk result (λ found. found.captured ≤ longest_record) }
 {
     let record = packet_in(section, head)?;

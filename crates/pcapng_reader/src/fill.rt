@@ -19,7 +19,8 @@ pub(crate) fn fill_part<S: Source>(
     requires range { from ≤ to }
     requires within { to ≤ length bytes.old }
     ensures front { take from bytes.new ≡ take from bytes.old }
-    ensures fills { FillsPart from to (S.left source.old) (S.left source.new) bytes.old bytes.new result }
+    ensures fills { FillsPart from to (S.left source.old) (S.left source.new)
+        bytes.old bytes.new result }
     ensures cause { HasReadCause (S.faults source.old) (S.faults source.new) result }
 {
     fill_whole(source, &mut bytes[from..to])

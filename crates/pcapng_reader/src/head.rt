@@ -44,7 +44,8 @@ pub(crate) fn read_head<S: Source>(
 ) -> Result<Head, Fault>
     ensures kind { IfOk result (λ head. head.kind ≡ kind_of section.now.order start) }
     ensures is { IfOk result (IsHead (told section.now)) }
-    ensures takes { TakesHead (told section.now) start (S.left source.old) (S.left source.new) result }
+    ensures takes { TakesHead (told section.now) start (S.left source.old)
+        (S.left source.new) result }
     ensures cause { HasReadCause (S.faults source.old) (S.faults source.new) result }
 {
     let mut bytes = [0; MAX_FIXED];

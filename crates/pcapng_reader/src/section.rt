@@ -36,7 +36,8 @@ impl OpenSection {
     /// Goes on as a new section of this order, without interfaces.
     pub(crate) fn begin(&mut self, order: ByteOrder)
         requires { self.old.others < 2 ^ 32 - 1 }
-        ensures { told self.new ≡ record { order = order; interfaces = []; others = self.old.others + 1 } }
+        ensures { told self.new
+            ≡ record { order = order; interfaces = []; others = self.old.others + 1 } }
     {
         self.order = order;
         self.interfaces.clear();

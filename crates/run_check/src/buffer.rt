@@ -111,7 +111,8 @@ impl Buffer {
 
     /// The card takes the buffer, where it may and nobody holds it.
     pub(crate) fn take(&mut self, may: bool) -> bool
-        ensures { Changes (only_if (may && (length self.old == 0)) (Some (holding.Own ∷ []))) self.new result }
+        ensures { Changes (only_if (may && (length self.old == 0)) (Some (holding.Own ∷ [])))
+            self.new result }
     {
         if !may || self.count > 0 {
             return false;
@@ -123,7 +124,8 @@ impl Buffer {
 
     /// The application takes the buffer, where it may and nobody holds it.
     pub(crate) fn spare(&mut self, may: bool, app: u32) -> bool
-        ensures { Changes (only_if (may && (length self.old == 0)) (Some (holding.Spare app ∷ []))) self.new result }
+        ensures { Changes (only_if (may && (length self.old == 0)) (Some (holding.Spare app ∷ [])))
+            self.new result }
     {
         if !may || self.count > 0 {
             return false;
@@ -163,7 +165,8 @@ impl Buffer {
     pub(crate) fn place(&mut self, offset: u32, len: u32) -> Result<bool, AllocError>
         requires fits { offset + len < 2 ^ 32 }
         requires few { length self.old + 1 < 2 ^ 32 }
-        ensures { IfOk result (Changes (only_if (can_place self.old offset len) (Some (self.old ++ holding.Piece offset len ∷ []))) self.new) }
+        ensures { IfOk result (Changes (only_if (can_place self.old offset len)
+            (Some (self.old ++ holding.Piece offset len ∷ []))) self.new) }
     {
         let fits = self.can_place(offset, len);
         if fits {
@@ -184,7 +187,8 @@ impl Buffer {
     ) -> Result<bool, AllocError>
         requires old { IsNoLoan old }
         requires new { IsNoLoan new }
-        ensures { IfOk result (Changes (becomes (held_by old offset len) (held_by new offset len ∷ []) self.old) self.new) }
+        ensures { IfOk result (Changes
+            (becomes (held_by old offset len) (held_by new offset len ∷ []) self.old) self.new) }
     {
         let there = is_there(&self.places, offset, OwnedPlace { len, hand: old });
         if there {
@@ -204,7 +208,9 @@ impl Buffer {
         requires fits { offset + len < 2 ^ 32 }
         requires few { length self.old + 1 < 2 ^ 32 }
         ensures { IfOk result (Changes (only_if (nat_lt 0 at && nat_lt at len)
-            (becomes (holding.Held app offset len) (holding.Held app offset at ∷ holding.Held app (offset + at) (len - at) ∷ []) self.old)) self.new) }
+            (becomes (holding.Held app offset len)
+            (holding.Held app offset at ∷ holding.Held app (offset + at) (len - at) ∷ [])
+            self.old)) self.new) }
     {
         if at == 0 || at >= len {
             return Ok(false);
@@ -226,7 +232,9 @@ impl Buffer {
     /// The application lends what it has.
     pub(crate) fn lend(&mut self, app: u32, offset: u32, len: u32) -> Result<bool, AllocError>
         requires { app < 8 }
-        ensures { IfOk result (Changes (becomes (holding.Held app offset len) (holding.Loan app offset len ∷ []) self.old) self.new) }
+        ensures { IfOk result (Changes
+            (becomes (holding.Held app offset len) (holding.Loan app offset len ∷ []) self.old)
+            self.new) }
     {
         let hand = Hand::App(app);
         let there = is_there(&self.places, offset, OwnedPlace { len, hand });
@@ -241,7 +249,8 @@ impl Buffer {
     /// The application gives a loan back, and owes it.
     pub(crate) fn back(&mut self, app: u32, offset: u32, len: u32) -> bool
         requires { app < 8 }
-        ensures { Changes (becomes (holding.Loan app offset len) (holding.Owed app ∷ []) self.old) self.new result }
+        ensures { Changes (becomes (holding.Loan app offset len) (holding.Owed app ∷ []) self.old)
+            self.new result }
     {
         let hand = Hand::Loan(app);
         let there = is_there(&self.places, offset, OwnedPlace { len, hand });
@@ -268,7 +277,8 @@ impl Buffer {
     /// The application lends the first bytes of its spare buffer.
     pub(crate) fn own(&mut self, app: u32, len: u32) -> Result<bool, AllocError>
         requires { app < 8 }
-        ensures { IfOk result (Changes (only_if (nat_lt 0 len && nat_lt len 257) (becomes (holding.Spare app) (holding.Loan app 0 len ∷ []) self.old)) self.new) }
+        ensures { IfOk result (Changes (only_if (nat_lt 0 len && nat_lt len 257)
+            (becomes (holding.Spare app) (holding.Loan app 0 len ∷ []) self.old)) self.new) }
     {
         if len == 0 || len > MOST_COPIED {
             return Ok(false);
@@ -300,7 +310,8 @@ impl Buffer {
     /// The application owes nothing any more.
     pub(crate) fn scrub(&mut self, app: u32) -> bool
         requires { app < 8 }
-        ensures { Changes (only_if (list_any (is_same (holding.Owed app)) self.old) (Some (filter (λ h. not (is_same (holding.Owed app) h)) self.old))) self.new result }
+        ensures { Changes (only_if (list_any (is_same (holding.Owed app)) self.old)
+            (Some (filter (λ h. not (is_same (holding.Owed app) h)) self.old))) self.new result }
     {
         let owed = self.owed[app as usize];
         if owed == 0 {

@@ -43,7 +43,8 @@ impl Bytes {
 
     /// The next byte. `Ok(None)` is the end.
     pub(crate) fn next<S: Source>(&mut self, source: &mut S) -> Result<Option<u8>, Fault>
-        ensures gives { IfOk result (GivesByte (ahead self.old (S.left source.old)) (ahead self.new (S.left source.new))) }
+        ensures gives { IfOk result
+            (GivesByte (ahead self.old (S.left source.old)) (ahead self.new (S.left source.new))) }
         ensures end { IfOk result (IsLeftEmpty (S.left source.new)) }
         ensures cause { HasCheckCause (S.faults source.old) (S.faults source.new) result }
     {

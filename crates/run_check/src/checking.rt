@@ -103,9 +103,13 @@ fn change(
     line: &[u8],
 ) -> Result<Option<Unfit>, Fault>
     requires total { length holders.old.buffers.items ≡ total_buffers setting.now }
-    requires few { (buffer : ℕ) → length (holdings_of holders.old.buffers.items buffer) + 1 < 2 ^ 32 }
-    ensures changes { IfOk result (LineChanges setting.now (holdings_of holders.old.buffers.items) line.now (holdings_of holders.new.buffers.items)) }
-    ensures count { IfOk result (λ _. length holders.new.buffers.items ≡ total_buffers setting.now) }
+    requires few { (buffer : ℕ) →
+        length (holdings_of holders.old.buffers.items buffer) + 1 < 2 ^ 32 }
+    ensures changes { IfOk result
+        (LineChanges setting.now (holdings_of holders.old.buffers.items) line.now
+        (holdings_of holders.new.buffers.items)) }
+    ensures count { IfOk result
+        (λ _. length holders.new.buffers.items ≡ total_buffers setting.now) }
     ensures memory { IfErr result (λ f. f ≡ fault.Memory) }
 {
     match event_of(alloc, line) {

@@ -44,9 +44,13 @@ impl Holders {
         event: Event,
     ) -> Result<Option<Lack>, AllocError>
         requires total { length self.old.buffers.items ≡ total_buffers setting.now }
-        requires few { (buffer : ℕ) → length (holdings_of self.old.buffers.items buffer) + 1 < 2 ^ 32 }
-        ensures changes { IfOk result (HasChanged setting.now (holdings_of self.old.buffers.items) event (holdings_of self.new.buffers.items)) }
-        ensures count { IfOk result (λ _. length self.new.buffers.items ≡ total_buffers setting.now) }
+        requires few { (buffer : ℕ) →
+            length (holdings_of self.old.buffers.items buffer) + 1 < 2 ^ 32 }
+        ensures changes { IfOk result
+            (HasChanged setting.now (holdings_of self.old.buffers.items) event
+            (holdings_of self.new.buffers.items)) }
+        ensures count { IfOk result
+            (λ _. length self.new.buffers.items ≡ total_buffers setting.now) }
     {
         if !is_in_range(setting, event) {
             return Ok(Some(Lack::Range));

@@ -29,7 +29,9 @@ impl Lines {
 
     /// Reads the next line, and answers whether there is one: some bytes up to a line feed, at most 128.
     pub(crate) fn read<S: Source>(&mut self, source: &mut S) -> Result<bool, Fault>
-        ensures reads { IfOk result (ReadsLine (ahead self.old.bytes (S.left source.old)) (ahead self.new.bytes (S.left source.new)) self.new.line.items) }
+        ensures reads { IfOk result
+            (ReadsLine (ahead self.old.bytes (S.left source.old))
+            (ahead self.new.bytes (S.left source.new)) self.new.line.items) }
         ensures cause { HasCheckCause (S.faults source.old) (S.faults source.new) result }
     {
         self.line.clear();

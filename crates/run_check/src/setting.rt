@@ -107,7 +107,8 @@ impl RunSetting {
 
 /// What the words of a first line say of areas and applications.
 fn numbers_of(alloc: Global, words: &[&[u8]]) -> Result<Option<(Vec<(u32, u32)>, u32)>, AllocError>
-    ensures { IfOk result (λ r. option_map (λ n. record { areas = n.0.items; apps = n.1 }) r ≡ setting_by (map (λ w. w.now) words.now)) }
+    ensures { IfOk result (λ r. option_map (λ n. record { areas = n.0.items; apps = n.1 }) r
+        ≡ setting_by (map (λ w. w.now) words.now)) }
 {
     match words {
         [name, areas, apps] if is_word(name, "run") => numbers_from(alloc, areas, apps),
@@ -120,7 +121,8 @@ fn numbers_from(
     areas: &[u8],
     apps: &[u8],
 ) -> Result<Option<(Vec<(u32, u32)>, u32)>, AllocError>
-    ensures { IfOk result (λ r. option_map (λ n. record { areas = n.0.items; apps = n.1 }) r ≡ setting_from areas.now apps.now) }
+    ensures { IfOk result (λ r. option_map (λ n. record { areas = n.0.items; apps = n.1 }) r
+        ≡ setting_from areas.now apps.now) }
 {
     let Some(apps) = number_of(apps) else {
         return Ok(None);
@@ -151,7 +153,8 @@ fn area_of(alloc: Global, part: &[u8]) -> Result<Option<(u32, u32)>, AllocError>
 
 /// The numbers of all parts, where each is an area.
 fn all_areas(alloc: Global, parts: &[&[u8]]) -> Result<Option<Vec<(u32, u32)>>, AllocError>
-    ensures { IfOk result (λ r. option_map (λ areas. areas.items) r ≡ all_areas (map (λ w. w.now) parts.now)) }
+    ensures { IfOk result (λ r. option_map (λ areas. areas.items) r
+        ≡ all_areas (map (λ w. w.now) parts.now)) }
 {
     let mut areas = Vec::new(alloc);
     for part in parts {

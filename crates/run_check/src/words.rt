@@ -39,7 +39,8 @@ pub(crate) fn number_of(word: &[u8]) -> Option<u32>
 
 /// The numbers of all words, where each is one.
 fn all_numbers(alloc: Global, words: &[&[u8]]) -> Result<Option<Vec<u32>>, AllocError>
-    ensures { IfOk result (λ r. option_map (λ numbers. numbers.items) r ≡ all_numbers (map (λ w. w.now) words.now)) }
+    ensures { IfOk result (λ r. option_map (λ numbers. numbers.items) r
+        ≡ all_numbers (map (λ w. w.now) words.now)) }
 {
     let mut numbers = Vec::new(alloc);
     for word in words {

@@ -32,7 +32,8 @@ fn put_line(block: &mut Block, word: &str, numbers: &[u32])
     requires word { length word.now ≤ 6 }
     requires numbers { length numbers.now ≤ 6 }
     requires room { array_string_len block.old + 128 ≤ 8192 }
-    ensures bytes { block.new.bytes ≡ block.old.bytes ++ (spaced (word.now ∷ map decimal numbers.now) ++ 10 ∷ []) }
+    ensures bytes { block.new.bytes ≡ block.old.bytes
+        ++ (spaced (word.now ∷ map decimal numbers.now) ++ 10 ∷ []) }
 {
     block.push_str(word);
     for number in numbers {
@@ -92,7 +93,8 @@ fn put_area(block: &mut Block, area: (u32, u32))
 fn put_areas(block: &mut Block, areas: &[(u32, u32)])
     requires few { length areas.now ≤ 4 }
     requires room { array_string_len block.old + 88 ≤ 8192 }
-    ensures bytes { block.new.bytes ≡ block.old.bytes ++ join_with_byte 44 (map area_text areas.now) }
+    ensures bytes { block.new.bytes ≡ block.old.bytes
+        ++ join_with_byte 44 (map area_text areas.now) }
     ensures len { array_string_len block.new ≤ array_string_len block.old + 88 }
 {
     if let [first, rest @ ..] = areas {
@@ -107,7 +109,8 @@ fn put_areas(block: &mut Block, areas: &[(u32, u32)])
 fn put_setting(block: &mut Block, areas: &[(u32, u32)], apps: u32)
     requires few { length areas.now ≤ 4 }
     requires room { array_string_len block.old + 128 ≤ 8192 }
-    ensures { block.new.bytes ≡ block.old.bytes ++ (run_line (record { areas = areas.now; apps = apps }) ++ 10 ∷ []) }
+    ensures { block.new.bytes ≡ block.old.bytes
+        ++ (run_line (record { areas = areas.now; apps = apps }) ++ 10 ∷ []) }
 {
     block.push_str("run ");
     put_areas(block, areas);
@@ -126,7 +129,8 @@ fn put_end(block: &mut Block, whole: bool)
 
 /// What waits goes out where there is no room for a line more.
 fn make_room<O: Sink>(block: &mut Block, out: &mut O) -> Result<(), Failed>
-    ensures gathered { Gathers (O.sent out.old) (O.sent out.new) block.old.bytes block.new.bytes result [] }
+    ensures gathered { Gathers (O.sent out.old) (O.sent out.new)
+        block.old.bytes block.new.bytes result [] }
     ensures cause { HasCause (O.faults out.old) (O.faults out.new) result }
     ensures room { OnOk result (array_string_len block.new + 128 ≤ 8192) }
 {
@@ -139,7 +143,8 @@ fn make_room<O: Sink>(block: &mut Block, out: &mut O) -> Result<(), Failed>
 }
 
 fn gather_event<O: Sink>(block: &mut Block, event: Event, out: &mut O) -> Result<(), Failed>
-    ensures gathered { Gathers (O.sent out.old) (O.sent out.new) block.old.bytes block.new.bytes result (line_of event ++ 10 ∷ []) }
+    ensures gathered { Gathers (O.sent out.old) (O.sent out.new)
+        block.old.bytes block.new.bytes result (line_of event ++ 10 ∷ []) }
     ensures cause { HasCause (O.faults out.old) (O.faults out.new) result }
 {
     make_room(block, out)?;
@@ -148,7 +153,9 @@ fn gather_event<O: Sink>(block: &mut Block, event: Event, out: &mut O) -> Result
 }
 
 fn gather_events<O: Sink>(block: &mut Block, events: &[Event], out: &mut O) -> Result<(), Failed>
-    ensures gathered { Gathers (O.sent out.old) (O.sent out.new) block.old.bytes block.new.bytes result (text_of_lines (map line_of events.now)) }
+    ensures gathered { Gathers (O.sent out.old) (O.sent out.new)
+        block.old.bytes block.new.bytes result
+        (text_of_lines (map line_of events.now)) }
     ensures cause { HasCause (O.faults out.old) (O.faults out.new) result }
 {
     for event in events {

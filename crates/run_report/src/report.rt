@@ -54,7 +54,8 @@ pub fn write_report<O: Sink>(
 ) -> Result<(), Unreported>
     ensures gained { let r = report.now in
         let text = report_of r.tally.now r.apps.now r.flows.now r.refused.now r.pool.now r.status in
-        Reports (O.sent out.old) (O.sent out.new) (O.faults out.old) (O.faults out.new) text result }
+        Reports (O.sent out.old) (O.sent out.new) (O.faults out.old)
+        (O.faults out.new) text result }
     ensures later { O.faults out.old ≤ O.faults out.new }
     ensures still { OnOk result (O.faults out.new ≡ O.faults out.old) }
     ensures untouched { result ≡ Err Unreported.Memory → out.new ≡ out.old }

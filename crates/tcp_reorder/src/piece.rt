@@ -17,7 +17,8 @@ fn end_at<H>(pieces: &BTreeMap<u64, KeptPiece<H>>, position: u64) -> Option<u64>
     requires in_stream { EndWithin (2 ^ 62) (all_kept pieces.now.entries) }
     ensures { MatchOption result
         (is_kept (all_kept pieces.now.entries) position ≡ false)
-        (λ end. (position < end) × (end ≤ 2 ^ 62) × ((p : ℕ) → position ≤ p → p < end → is_kept (all_kept pieces.now.entries) p ≡ true)) }
+        (λ end. (position < end) × (end ≤ 2 ^ 62)
+        × ((p : ℕ) → position ≤ p → p < end → is_kept (all_kept pieces.now.entries) p ≡ true)) }
 {
     let (begin, piece) = pieces.range(..=position).next_back()?;
     let end = *begin + u64::from(piece.len);
@@ -31,7 +32,8 @@ pub fn first_free<H>(pieces: &BTreeMap<u64, KeptPiece<H>>, from: u64, limit: u64
     requires low { from ≤ 2 ^ 62 }
     ensures above { from ≤ result }
     ensures low { result ≤ 2 ^ 62 }
-    ensures kept { (p : ℕ) → from ≤ p → p < result → is_kept (all_kept pieces.now.entries) p ≡ true }
+    ensures kept { (p : ℕ) → from ≤ p → p < result →
+        is_kept (all_kept pieces.now.entries) p ≡ true }
     ensures free { result < limit → is_kept (all_kept pieces.now.entries) result ≡ false }
 {
     let mut position = from;
@@ -63,7 +65,8 @@ pub fn least<'a, H>(
     first: &'a Option<KeptPiece<H>>,
     pieces: &'a BTreeMap<u64, KeptPiece<H>>,
 ) -> Option<(u64, &'a KeptPiece<H>)>
-    ensures { option_map (λ one. (one.0, one.1.now)) result ≡ slice_get (with_first at first.now pieces.now.entries) 0 }
+    ensures { option_map (λ one. (one.0, one.1.now)) result
+        ≡ slice_get (with_first at first.now pieces.now.entries) 0 }
 {
     match first {
         Some(piece) => Some((at, piece)),

@@ -33,10 +33,12 @@ pub(crate) fn receive(
 ) -> Result<(), Failed>
     requires held { length bytes.old.items ≤ room }
     requires reserved { room ≤ vec_capacity bytes.old }
-    ensures fails { IsErr result ↔ (room < length bytes.old.items + length piece.now) ⊎ IsSome entry }
+    ensures fails { IsErr result ↔ (room < length bytes.old.items + length piece.now)
+        ⊎ IsSome entry }
     ensures after { MatchResult result
         (λ _. bytes.new.items ≡ bytes.old.items ++ piece.now)
-        (λ _. bytes.new.items ≡ bytes.old.items ++ front_out (room - length bytes.old.items) entry piece.now) }
+        (λ _. bytes.new.items ≡ bytes.old.items
+        ++ front_out (room - length bytes.old.items) entry piece.now) }
     ensures within { length bytes.new.items ≤ room }
     ensures capacity { room ≤ vec_capacity bytes.new }
 {

@@ -45,7 +45,15 @@ impl MemShelf {
         room: usize,
         fails: Vec<(u64, usize)>,
     ) -> Result<MemShelf, AllocError>
-        ensures { IfOk result (λ s. s ≡ record { flows = replicate flows []; room = room; fails = fails.items; calls = 0; faults = 0; appended = 0 }) }
+        ensures { IfOk result (λ s. s
+            ≡ record {
+              flows = replicate flows [];
+              room = room;
+              fails = fails.items;
+              calls = 0;
+              faults = 0;
+              appended = 0;
+            }) }
     {
         Ok(MemShelf {
             flows: reserve(alloc, flows, room)?,
@@ -74,12 +82,15 @@ impl Shelf for MemShelf {
     ghost counts = { λ s. record { faults = s.faults; appended = s.appended } };
 
     fn append(&mut self, flow: u32, piece: &[u8]) -> Result<(), Failed>
-        ensures bytes { AddsPiece (Some (kept_of self.old flow)) (Some (kept_of self.new flow)) result piece.now }
-        ensures others { (other : ℕ) → other ≢ flow → Keeps (Some (kept_of self.old other)) (Some (kept_of self.new other)) }
+        ensures bytes { AddsPiece (Some (kept_of self.old flow)) (Some (kept_of self.new flow))
+            result piece.now }
+        ensures others { (other : ℕ) → other ≢ flow →
+            Keeps (Some (kept_of self.old other)) (Some (kept_of self.new other)) }
         ensures cause { HasCause self.old.faults self.new.faults result }
         ensures counted { CountsPiece self.old.appended self.new.appended result piece.now }
 
-        ensures fails { IsErr result ↔ (room_of self.old flow < length (kept_of self.old flow) + length piece.now)
+        ensures fails { IsErr result
+            ↔ (room_of self.old flow < length (kept_of self.old flow) + length piece.now)
             ⊎ IsSome (next_entry self.old.fails self.old.calls) }
         ensures after { let calls = raised self.old.calls in MatchResult result
             (λ _. self.new ≡ record self.old {
@@ -89,7 +100,8 @@ impl Shelf for MemShelf {
             })
             (λ _. self.new ≡ record self.old {
               flows = flows_with self.old flow
-                  (front_out (room_of self.old flow - length (kept_of self.old flow)) (next_entry self.old.fails self.old.calls) piece.now);
+                  (front_out (room_of self.old flow - length (kept_of self.old flow))
+                  (next_entry self.old.fails self.old.calls) piece.now);
               calls = calls;
               faults = raised self.old.faults;
             }) }
@@ -107,7 +119,8 @@ impl Shelf for MemShelf {
 
     /// Nothing is kept back, so it is none of the calls that may fail.
     fn flush(&mut self) -> Result<(), Failed>
-        ensures bytes { (flow : ℕ) → Keeps (Some (kept_of self.old flow)) (Some (kept_of self.new flow)) }
+        ensures bytes { (flow : ℕ) →
+            Keeps (Some (kept_of self.old flow)) (Some (kept_of self.new flow)) }
         ensures cause { HasCause self.old.faults self.new.faults result }
         ensures counted { self.new.appended ≡ self.old.appended }
 
@@ -139,11 +152,17 @@ fn store(
 ) -> Result<(), Failed>
     requires { AreReserved room flows.old.items }
     ensures fails { let held = slice_index_or (bytes_of flows.old.items) flow [] in
-        IsErr result ↔ ((if nat_lt flow (length (bytes_of flows.old.items)) then room else 0) < length held + length piece.now) ⊎ IsSome entry }
-    ensures after { let held = slice_index_or (bytes_of flows.old.items) flow [] in MatchResult result
-        (λ _. bytes_of flows.new.items ≡ slice_set (bytes_of flows.old.items) flow (held ++ piece.now))
+        IsErr result
+        ↔ ((if nat_lt flow (length (bytes_of flows.old.items)) then room else 0)
+        < length held + length piece.now) ⊎ IsSome entry }
+    ensures after { let held = slice_index_or (bytes_of flows.old.items) flow [] in
+        MatchResult result
+        (λ _. bytes_of flows.new.items
+        ≡ slice_set (bytes_of flows.old.items) flow (held ++ piece.now))
         (λ _. bytes_of flows.new.items ≡ slice_set (bytes_of flows.old.items) flow
-        (held ++ front_out ((if nat_lt flow (length (bytes_of flows.old.items)) then room else 0) - length held) entry piece.now)) }
+        (held ++ front_out
+        ((if nat_lt flow (length (bytes_of flows.old.items)) then room else 0) - length held)
+        entry piece.now)) }
     ensures reserved { AreReserved room flows.new.items }
 {
     match flows.get_mut(flow as usize) {

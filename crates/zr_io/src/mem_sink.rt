@@ -38,7 +38,8 @@ impl MemSink {
     /// Has room for `room` bytes in all, and takes their memory here. Each of `fails` is the number of a call
     /// that fails, the first call being number 1, and how many bytes go out before its fault.
     pub fn new(alloc: Global, room: usize, fails: Vec<(u64, usize)>) -> Result<MemSink, AllocError>
-        ensures { IfOk result (λ s. s ≡ record { bytes = []; room = room; fails = fails.items; calls = 0; faults = 0 }) }
+        ensures { IfOk result (λ s. s
+            ≡ record { bytes = []; room = room; fails = fails.items; calls = 0; faults = 0 }) }
     {
         Ok(MemSink {
             bytes: Vec::with_capacity(alloc, room)?,
@@ -71,7 +72,9 @@ impl Sink for MemSink {
         ensures after { let calls = raised self.old.calls in MatchResult result
             (λ _. self.new ≡ record self.old { bytes = self.old.bytes ++ piece.now; calls = calls })
             (λ _. self.new ≡ record self.old {
-              bytes = self.old.bytes ++ front_out (self.old.room - length self.old.bytes) (next_entry self.old.fails self.old.calls) piece.now;
+              bytes = self.old.bytes
+                  ++ front_out (self.old.room - length self.old.bytes)
+                  (next_entry self.old.fails self.old.calls) piece.now;
               calls = calls;
               faults = raised self.old.faults;
             }) }

@@ -37,7 +37,13 @@ impl MemSource {
     /// Gives at most `most` bytes at a call. The calls in `fails` fail; the first call is number 1.
     pub fn new(bytes: Vec<u8>, most: usize, fails: Vec<u64>) -> MemSource
         requires { 1 ≤ most }
-        ensures { result ≡ record { left = bytes.items; most = most; fails = fails.items; calls = 0; faults = 0 } }
+        ensures { result ≡ record {
+          left = bytes.items;
+          most = most;
+          fails = fails.items;
+          calls = 0;
+          faults = 0;
+        } }
     {
         MemSource {
             bytes,
@@ -62,10 +68,13 @@ impl Source for MemSource {
         ensures cause { HasCause self.old.faults self.new.faults result }
 
         ensures fails { IsErr result ↔ Contains self.old.fails (raised self.old.calls) }
-        ensures count { IfOk result (λ n. n ≡ min (min self.old.most (length into.old)) (length self.old.left)) }
+        ensures count { IfOk result
+            (λ n. n ≡ min (min self.old.most (length into.old)) (length self.old.left)) }
         ensures after { MatchResult result
-            (λ n. self.new ≡ record self.old { left = drop n self.old.left; calls = raised self.old.calls })
-            (λ _. self.new ≡ record self.old { calls = raised self.old.calls; faults = raised self.old.faults }) }
+            (λ n. self.new
+            ≡ record self.old { left = drop n self.old.left; calls = raised self.old.calls })
+            (λ _. self.new
+            ≡ record self.old { calls = raised self.old.calls; faults = raised self.old.faults }) }
     {
         self.calls = self.calls.saturating_add(1);
         if self.fails.contains(&self.calls) {

@@ -42,7 +42,8 @@ impl<W: Write> Sink for StdSink<W> {
         ensures bytes { AddsPiece self.old.bytes self.new.bytes result piece.now }
         ensures cause { HasCause self.old.faults self.new.faults result }
 
-        ensures after { MatchResult result (λ _. self.new.faults ≡ self.old.faults) (λ _. self.new.faults ≡ raised self.old.faults) }
+        ensures after { MatchResult result (λ _. self.new.faults ≡ self.old.faults)
+            (λ _. self.new.faults ≡ raised self.old.faults) }
     {
         let result = send(&mut self.writer, piece);
         if result.is_err() {

@@ -42,7 +42,8 @@ impl<R: Read> Source for StdSource<R> {
         ensures bytes { ReadConsumes self.old.bytes self.new.bytes result into.new }
         ensures cause { HasCause self.old.faults self.new.faults result }
 
-        ensures after { MatchResult result (λ _. self.new.faults ≡ self.old.faults) (λ _. self.new.faults ≡ raised self.old.faults) }
+        ensures after { MatchResult result (λ _. self.new.faults ≡ self.old.faults)
+            (λ _. self.new.faults ≡ raised self.old.faults) }
     {
         match self.reader.read(into) {
             Ok(count) => Ok(count),

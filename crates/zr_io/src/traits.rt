@@ -48,9 +48,11 @@ pub trait Shelf {
     /// Adds the whole piece to the flow's end, or at `Failed` a front of it. Other flows stay as they were.
     fn append(&mut self, flow: u32, piece: &[u8]) -> Result<(), Failed>
         ensures bytes { AddsPiece (kept self.old flow) (kept self.new flow) result piece.now }
-        ensures others { (other : ℕ) → other ≢ flow → Keeps (kept self.old other) (kept self.new other) }
+        ensures others { (other : ℕ) → other ≢ flow →
+            Keeps (kept self.old other) (kept self.new other) }
         ensures cause { HasCause (counts self.old).faults (counts self.new).faults result }
-        ensures counted { CountsPiece (counts self.old).appended (counts self.new).appended result piece.now };
+        ensures counted { CountsPiece (counts self.old).appended (counts self.new).appended
+            result piece.now };
 
     /// Hands on what it keeps back of any flow, as a buffered writer's flush does. What is kept of each stays as it was.
     fn flush(&mut self) -> Result<(), Failed>

@@ -76,7 +76,8 @@ impl PlainFlow {
 
 // The newest flow of the segment's key, with its number.
 fn newest(flows: &[PlainFlow], segment: &Segment<'_>) -> Option<(usize, PlainFlow)>
-    ensures { option_map found_shown result ≡ newest (key_of (shown segment.now)) (map flow_shown flows.now) }
+    ensures { option_map found_shown result
+        ≡ newest (key_of (shown segment.now)) (map flow_shown flows.now) }
 {
     let mut number = flows.len();
     while number > 0 {
@@ -103,7 +104,8 @@ fn number_of_flow(flows: &[PlainFlow], steered: &SteeredSegment<'_>) -> usize
 // The flow of the segment sees it, or begins with it.
 #[tactic(auto, unfolding(crate::specs::Flows::flows_with), using(crate::proofs::SeenAt::seen_at, crate::proofs::SeenAt::begun_at))]
 fn see(flows: &mut Vec<PlainFlow>, steered: &SteeredSegment<'_>) -> Result<(), AllocError>
-    ensures { OnOk result (map flow_shown flows.new.items ≡ flows_with (map flow_shown flows.old.items) (steered_shown steered.now)) }
+    ensures { OnOk result (map flow_shown flows.new.items
+        ≡ flows_with (map flow_shown flows.old.items) (steered_shown steered.now)) }
 {
     let number = number_of_flow(flows, steered);
     if number < flows.len() {
@@ -116,7 +118,8 @@ fn see(flows: &mut Vec<PlainFlow>, steered: &SteeredSegment<'_>) -> Result<(), A
 
 /// The flows that the segments belong to.
 pub fn flows_of(alloc: Global, steered: &[SteeredSegment<'_>]) -> Result<Vec<PlainFlow>, AllocError>
-    ensures { IfOk result (λ flows. map flow_shown flows.items ≡ flows_of (map steered_shown steered.now)) }
+    ensures { IfOk result (λ flows. map flow_shown flows.items
+        ≡ flows_of (map steered_shown steered.now)) }
 {
     let mut flows = Vec::new(alloc);
     for one in steered {
@@ -131,7 +134,8 @@ pub fn of_flow<'a>(
     number: u32,
     steered: &[SteeredSegment<'a>],
 ) -> Result<Vec<SteeredSegment<'a>>, AllocError>
-    ensures { IfOk result (λ ours. map steered_shown ours.items ≡ of_flow number (map steered_shown steered.now)) }
+    ensures { IfOk result (λ ours. map steered_shown ours.items
+        ≡ of_flow number (map steered_shown steered.now)) }
 {
     let mut flows = Vec::new(alloc);
     let mut ours = Vec::new(alloc);

@@ -79,7 +79,8 @@ impl PlainPlaced {
     // Places the values from the position `from` less 2^31 on, as far as that isn't below 0.
     fn fill(&mut self, from: u64, values: &[u8]) -> Result<(), AllocError>
         requires { from + length values.now ≤ 2 ^ 62 + 2 ^ 31 }
-        ensures { OnOk result (placed_shown self.new ≡ filled (placed_shown self.old) from values.now) }
+        ensures { OnOk result (placed_shown self.new
+            ≡ filled (placed_shown self.old) from values.now) }
     {
         for (i, byte) in values.iter().enumerate() {
             let place = from + i as u64;
@@ -98,7 +99,8 @@ impl PlainPlaced {
     /// Takes what came from the sequence number s on.
     #[tactic(auto, unfolding(zr_kinds::specs::CopyingReceiver::received))]
     pub fn receive(&mut self, base: u32, s: u32, values: &[u8]) -> Result<(), AllocError>
-        ensures { OnOk result (placed_shown self.new ≡ received base (placed_shown self.old) s values.now) }
+        ensures { OnOk result (placed_shown self.new
+            ≡ received base (placed_shown self.old) s values.now) }
     {
         let n = self.next_missing();
         let ahead = lead(base, n, s);

@@ -17,7 +17,8 @@ pub struct SteeredSegment<'a> {
 }
 
 fn steer<'a>(ports: &[u16], record_number: u32, seen: &Seen<'a>) -> Option<SteeredSegment<'a>>
-    ensures { option_map steered_shown result ≡ steer ports.now record_number (segment_seen seen.now) }
+    ensures { option_map steered_shown result
+        ≡ steer ports.now record_number (segment_seen seen.now) }
 {
     let Seen::Tcp(segment) = seen else {
         return None;
@@ -38,7 +39,8 @@ pub fn steered_of<'a>(
     seen: &[Seen<'a>],
 ) -> Result<Vec<SteeredSegment<'a>>, AllocError>
     requires { length seen.now < 2 ^ 32 }
-    ensures { IfOk result (λ steered. map steered_shown steered.items ≡ steered_of ports.now (map segment_seen seen.now)) }
+    ensures { IfOk result (λ steered. map steered_shown steered.items
+        ≡ steered_of ports.now (map segment_seen seen.now)) }
 {
     let mut steered = Vec::new(alloc);
     let mut record_number = 0;
