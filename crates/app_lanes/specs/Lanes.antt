@@ -1,8 +1,8 @@
 -- How the applications go on at their seats.
-use Rattle.std.specs.Prelude.{◌≡◌, ℕ, suc, ◌<◌, List, [], ◌∷◌, length, slice_index_or, All, Option, ⊤}
-use Rattle.board_face.specs.Opened.{new_app}
-use Rattle.word_board.specs.Board.{TheBoard}
-use Rattle.app_lanes.specs.{Seated.{Fits, SeatedGoes, seat_of}, declared.lane.Lane.{Lane}}
+use Rattle.std.specs.Prelude.{◌≡◌, ℕ, suc, ◌+◌, ◌<◌, true, false, List, [], ◌∷◌, length, slice_index_or, All, Option, ⊤}
+use Rattle.board_face.specs.{Opened.{new_app}, declared.views.app.AppSide.{AppSide}}
+use Rattle.word_board.specs.{Board.{TheBoard, TheDesk, was_given}, Desk.{AreOfBoard, AreServed}}
+use Rattle.app_lanes.specs.{Seated.{Fits, SeatedGoes, is_gone, seat_of}, declared.lane.Lane.{Lane}}
 use Rattle.zr_io.specs.Moved.{ShelfCounts}
 
 -- ---- turns
@@ -36,3 +36,36 @@ AreAtOpening board number (lane ∷ lanes) =
 
 abbrev pub AreAtBoard : {T : Type 0} → TheBoard → List (Lane T) → Type 0
 AreAtBoard board lanes = All (λ lane. (seat_of lane.seated).board ≡ board) lanes
+
+-- Each is at this board, its application has left, and all that it had to do is done.
+pub record AreDone {T : Type 0} (board : TheBoard) (lanes : List (Lane T)) : Type 0 where
+  pub at : AreAtBoard board lanes
+  pub left : All (λ lane. (seat_of lane.seated).side.view.left ≡ true) lanes
+  pub gone : All (λ lane. is_gone lane.seated ≡ true) lanes
+
+-- ---- the desk
+
+-- It is this board's, and no application has its seat yet.
+pub record HasTheSeats (desk : TheDesk) (board : TheBoard) : Type 0 where
+  pub of_board : desk.board ≡ board
+  pub free : (a : ℕ) → was_given desk (1 + a) ≡ false
+
+-- It gave seats out: it is this board's, and what is back is what was.
+pub record GaveSeats (old new : TheDesk) (board : TheBoard) : Type 0 where
+  pub of_board : new.board ≡ board
+  pub nics : new.view.nics ≡ old.view.nics
+  pub apps : new.view.apps ≡ old.view.apps
+
+-- No application's seat is back. What is back is of its board, and the card was served by all that are.
+pub record AwaitsApps (desk : TheDesk) : Type 0 where
+  pub apps : desk.view.apps ≡ []
+  pub served : AreServed desk.view
+  pub known : AreOfBoard desk.board.setting desk.view
+
+-- The seats of these applications are back, and else it is as it was. What is back is of its board, and the card was served by all that are.
+pub record TookApps (old new : TheDesk) (sides : List AppSide) : Type 0 where
+  pub board : new.board ≡ old.board
+  pub nics : new.view.nics ≡ old.view.nics
+  pub apps : new.view.apps ≡ sides
+  pub served : AreServed new.view
+  pub known : AreOfBoard new.board.setting new.view

@@ -1,9 +1,8 @@
 //! How the roles come to their seats, and back from there.
-ghost use Rattle.std.specs.Prelude.{◌≡◌, ◌+◌, ◌<◌, ◌≤◌, ℕ, [], map, reverse, true, false, All, vec_len, vec_capacity};
+ghost use Rattle.std.specs.Prelude.{◌≡◌, ◌≤◌, [], map, reverse, All, vec_len, vec_capacity};
 ghost use Rattle.board_face.specs.NicCalls.{apps_of};
 ghost use Rattle.card_feed.specs.declared.plan.Plan.{Plan};
-ghost use Rattle.word_board.specs.{Board.{was_given}, Desk.{AreOfBoard, AreServed}};
-ghost use Rattle.app_lanes.specs.{Lanes.{AreAtOpening, AreAtBoard}, Seated.{AreStarts, Begins, end_of, is_gone, left_end, seat_of, shelf_of}};
+ghost use Rattle.app_lanes.specs.{Lanes.{AreAtOpening, AreDone, AwaitsApps, GaveSeats, HasTheSeats, TookApps}, Seated.{AreStarts, Begins, end_of, left_end, seat_of, shelf_of}};
 
 use crate::lane::Lane;
 use crate::seated::{Left, Seated, Start};
@@ -20,17 +19,12 @@ pub fn open_lanes<'b, T: Shelf>(
     shelves: &mut Vec<T>,
     lanes: &mut Vec<Lane<'b, T>>,
 )
-    requires desk { desk.old.board ≡ board.now }
-    requires free { (a : ℕ) → was_given desk.old (1 + a) ≡ false }
-    requires apps { vec_len starts.old ≡ apps_of board.now.setting }
-    requires few { vec_len starts.old ≤ 8 }
+    requires desk { HasTheSeats desk.old board.now }
+    requires apps { (vec_len starts.old ≡ apps_of board.now.setting) × (vec_len starts.old ≤ 8) }
     requires shelves { vec_len shelves.old ≡ vec_len starts.old }
     requires starts { (plan : Plan) × AreStarts plan starts.old.items }
-    requires none { lanes.old.items ≡ [] }
-    requires room { vec_len starts.old ≤ vec_capacity lanes.old }
-    ensures desk { desk.new.board ≡ board.now }
-    ensures back { (desk.new.view.nics ≡ desk.old.view.nics)
-        × (desk.new.view.apps ≡ desk.old.view.apps) }
+    requires room { (lanes.old.items ≡ []) × (vec_len starts.old ≤ vec_capacity lanes.old) }
+    ensures desk { GaveSeats desk.old desk.new board.now }
     ensures shelves { (shelves.new.items ≡ [])
         × (vec_capacity shelves.new ≡ vec_capacity shelves.old) }
     ensures lanes { AreAtOpening board.now 0 (reverse lanes.new.items) }
@@ -62,21 +56,13 @@ pub fn close_lanes<T: Shelf>(
     lefts: &mut Vec<Left>,
     shelves: &mut Vec<T>,
 )
-    requires lanes { AreAtBoard desk.old.board lanes.items }
-    requires left { All (λ lane. (seat_of lane.seated).side.view.left ≡ true) lanes.items }
-    requires gone { All (λ lane. is_gone lane.seated ≡ true) lanes.items }
-    requires apps { desk.old.view.apps ≡ [] }
-    requires served { AreServed desk.old.view }
-    requires known { AreOfBoard desk.old.board.setting desk.old.view }
+    requires lanes { AreDone desk.old.board lanes.items }
+    requires desk { AwaitsApps desk.old }
     requires none { (lefts.old.items ≡ []) × (shelves.old.items ≡ []) }
     requires room { (vec_len lanes ≤ vec_capacity lefts.old)
         × (vec_len lanes ≤ vec_capacity shelves.old) }
-    ensures board { desk.new.board ≡ desk.old.board }
-    ensures nics { desk.new.view.nics ≡ desk.old.view.nics }
-    ensures served { AreServed desk.new.view }
-    ensures known { AreOfBoard desk.new.board.setting desk.new.view }
-    ensures apps { desk.new.view.apps
-        ≡ map (λ lane. (seat_of lane.seated).side) (reverse lanes.entry.items) }
+    ensures took { TookApps desk.old desk.new
+        (map (λ lane. (seat_of lane.seated).side) (reverse lanes.entry.items)) }
     ensures ends { map left_end lefts.new.items
         ≡ map (λ lane. end_of lane.seated) (reverse lanes.entry.items) }
     ensures shelves { shelves.new.items

@@ -1,10 +1,11 @@
 -- What each step of the core does.
 use Rattle.std.specs.Prelude.{List, zero, suc, ◌≡◌, ◌≢◌, ℕ, ◌+◌, ◌-◌, ◌^◌, ◌<◌, ◌≤◌, min, Bool, true, false, ◌||◌, ◌==◌, [], ◌∷◌, ◌++◌, Option, Some, None, length}
-use Rattle.std.specs.Int.{cast_signed}
-use Rattle.board_face.specs.{declared.views.app.{LentPiece.{LentPiece}, AppView.{AppView}, WrittenEntry.{WrittenEntry}}, AppCalls.{IsLive, AppOnlySaw}}
-use Rattle.board_face.specs.{AppEvents.{gave, entry_of, reserve_of}, Looks.{AppRose, AppLooksStay}, declared.views.app.AppLook.TheVariants.{RawOnItsWay, RefillInUse}}
+use Rattle.std.specs.{Prelude.{Result, OnOk, OnErr}, Int.{cast_signed}, Io.KnownBytes.{Keeps}}
+use Rattle.zr_io.specs.Moved.{Gained}
+use Rattle.board_face.specs.{declared.views.app.{LentPiece.{LentPiece}, AppView.{AppView}, WrittenEntry.{WrittenEntry}}, AppCalls.{IsHere, IsLive, AppOnlySaw}}
+use Rattle.board_face.specs.{AppEvents.{gave, entry_of, reserve_of}, Looks.{AppRose, AppLooksStay}, declared.views.app.AppLook.{AppLook, TheVariants.{RawOnItsWay, RefillInUse, NoSpare}}}
 use Rattle.flow_queues.specs.declared.queues.{Lending.{Lending}, Waiting.{Waiting, TheVariants.{InArea, Copied}}, FlowQueue.{FlowQueue}}
-use Rattle.flow_queues.specs.{Core.{total, LieApart, lent_piece}, Lent.{IsNext, SawNoSpare, LentNext}}
+use Rattle.flow_queues.specs.{Core.{total, LieApart, IsIn, OnlyReads, IsReadOf, lent_piece}, Lent.{IsNext, SawNoSpare, LentNext}}
 use Rattle.zr_kinds.specs.declared.ring.{Completion.{Completion}, Rqe.{Rqe}}
 use Rattle.tcp_reorder.specs.Queue.{next_of}
 use mir.Syntax.{w32}
@@ -12,7 +13,7 @@ use Rattle.area_layout.specs.Layout.{Shape, off_of, judged}
 use Rattle.circular_buffer.specs.Buffer.{Buffer, buffer}
 use Rattle.completion_ring.specs.Ring.{Ring, ring, IsFull}
 use Rattle.app_worker.specs.declared.{stack.{Stray.{Stray}, Delivery.{Delivery}}, reading.Pushed.{Pushed, TheVariants.{Nothing, All, Part, InUse}}}
-use Rattle.app_worker.specs.{declared.stack.Delivery.TheVariants.{Did, NoneInOrder, Full, Unsettled, ReserveHeld}, State.{TellsOf}}
+use Rattle.app_worker.specs.{declared.stack.Delivery.TheVariants.{Did, NoneInOrder, Full, Unsettled, ReserveHeld}, State.{TellsOf}, ReadWhole.{IsReadUpTo}}
 
 -- ---- lending
 
@@ -54,6 +55,48 @@ Delivered old new was now posted then copied copied_now flush flush_now Unsettle
 Delivered old new was now posted then copied copied_now flush flush_now ReserveHeld = SawNoSpare old new × (now ≡ was) × (then ≡ posted)
     × (copied_now ≡ copied) × (flush_now ≡ flush) × IsNext true was.queue
 
+-- so it is of the look that was the cause where nothing was lent
+abbrev pub IsSoOfDelivery : (AppLook → Type 0) → Delivery → Type 0
+IsSoOfDelivery is_so Unsettled = is_so RawOnItsWay
+IsSoOfDelivery is_so ReserveHeld = is_so NoSpare
+IsSoOfDelivery is_so other = Unit {0}
+
+-- ---- reading
+
+-- a loan may be read: it is of a note that was taken, and is out, and no other has a byte of it
+pub record MayRead (v : AppView) (lending : Lending) : Type 0 where
+  pub here : IsHere v
+  pub apart : LieApart v
+  pub out : IsIn (lent_piece v.taken lending) v.loans
+  pub note : lending.note < length v.taken
+
+-- what is read: the first `most` bytes of a loan, for a flow
+pub record Front : Type 0 where
+  pub lending : Lending
+  pub most : ℕ
+  pub flow : ℕ
+
+abbrev pub first_bytes : Lending → ℕ → ℕ → Front
+first_bytes lending most flow = record { lending = lending; most = most; flow = flow }
+
+-- Nothing happened but that bytes were read, and at `Ok` each of these was.
+pub record ReadsFront {T E : Type 0} (old new : AppView) (front : Front) (result : Result T E) : Type 0 where
+  pub only : OnlyReads old new
+  pub through : OnOk result (IsReadUpTo new.reads (lent_piece old.taken front.lending) front.most)
+
+-- A count of bytes went on by `most` at `Ok`, and by fewer at `Err`.
+pub record CountsFront {T E : Type 0} (most was now : ℕ) (result : Result T E) : Type 0 where
+  pub within : (was ≤ now) × (now ≤ was + most)
+  pub whole : OnOk result (now ≡ was + most)
+  pub short : OnErr result (now < was + most)
+
+-- The flow gained the first of these bytes as they were read: at least as many as are counted, and at `Ok` all. No other flow did.
+pub record AppendsFront {T E : Type 0} (old new : AppView) (kept kept_now : ℕ → Option (List ℕ)) (front : Front) (count : ℕ) (result : Result T E)
+    : Type 0 where
+  pub gained : Gained (kept front.flow) (kept_now front.flow) (IsReadOf old.taken new.reads front.lending count front.most)
+  pub exact : OnOk result (Gained (kept front.flow) (kept_now front.flow) (IsReadOf old.taken new.reads front.lending front.most front.most))
+  pub others : (other : ℕ) → other ≢ front.flow → Keeps (kept other) (kept_now other)
+
 -- ---- giving back
 
 -- A loan that was due was given back: its entry was written.
@@ -75,6 +118,12 @@ Given most old new (Some lending) due was now true = Gave old new lending × (du
 Given most old new (Some lending) due was now false = AppOnlySaw RefillInUse old new × (due ≡ Some lending) × (now ≡ was)
 
 -- ---- what follows a loan that was given back
+
+-- it may write the entries that are left, of which each names the buffer
+pub record MayPush (v : AppView) (stray : Stray) : Type 0 where
+  pub here : IsHere v
+  pub counted : v.scrubbed ≡ false
+  pub names : 0 < stray.left → judged v.setting.layout stray.entry ≡ Some stray.buffer
 
 -- so many raw entries
 abbrev pub raw_copies : ℕ → Rqe → List WrittenEntry

@@ -1,10 +1,9 @@
 //! What is next in a stream is lent, and posted.
-ghost use Rattle.std.specs.Prelude.{◌≡◌, ◌≢◌, false, ℕ, ◌+◌, ◌<◌, ◌≤◌, [], ◌∷◌, ◌++◌, length, ◌||◌, ◌==◌, ◌-◌};
+ghost use Rattle.std.specs.Prelude.{◌≡◌, ◌≢◌, ℕ, ◌≤◌, [], ◌∷◌, ◌++◌, length, ◌||◌, ◌==◌};
 ghost use Rattle.completion_ring.specs.Ring.{ring};
-ghost use Rattle.tcp_reorder.specs.Values.{AreSized};
-ghost use Rattle.board_face.specs.{AppCalls.{IsHere, HasPlace}, AppEvents.{app_gist, reserve_of}, declared.views.app.{AppLook.TheVariants.{NoSpare, RawOnItsWay}, HeldPiece.{HeldPiece}}};
-ghost use Rattle.flow_queues.specs.Core.{LieApart, total, over_kept, marks_of_waiting, short_bytes, IsOfNote, Each, unsplit_len};
-ghost use Rattle.app_worker.specs.Steps.{Delivered, completion_of};
+ghost use Rattle.board_face.specs.{AppCalls.{HasPlace}, AppEvents.{app_gist, reserve_of}, declared.views.app.HeldPiece.{HeldPiece}};
+ghost use Rattle.flow_queues.specs.{Core.{total, over_kept}, Lent.{CanLend, IsBacked}};
+ghost use Rattle.app_worker.specs.Steps.{Delivered, IsSoOfDelivery, completion_of};
 ghost use Rattle.zr_kinds.specs.Limits.{longest_payload};
 
 use crate::stack::Delivery;
@@ -51,23 +50,15 @@ pub fn deliver<F: AppFace>(
     copied: &mut u64,
     flush: &mut bool,
 ) -> Delivery
-    requires here { IsHere (F.seen face.old) }
-    requires counted { (F.seen face.old).scrubbed ≡ false }
-    requires apart { LieApart (F.seen face.old) }
-    requires owns { (F.seen face.old).owns ≡ [] }
+    requires can { CanLend (F.seen face.old) }
     requires out { (f : HeldPiece → ℕ)
         → over_kept f own.old.queue ≤ total f (F.seen face.old).helds }
-    requires notes { Each (λ k. IsOfNote (F.seen face.old).taken k.piece) own.old.queue.kept }
-    requires sized { AreSized marks_of_waiting own.old.queue.kept }
-    requires spare { (F.seen face.old).spares + short_bytes own.old.queue
-        ≤ total unsplit_len (F.seen face.old).taken }
+    requires backed { IsBacked (F.seen face.old) own.old.queue }
     ensures delivered { Delivered (F.seen face.old) (F.seen face.new) own.old own.new posted.old
         posted.new copied.old copied.new flush.old flush.new
         result }
-    ensures told { result ≡ Delivery.Unsettled
-        → F.tells RawOnItsWay (app_gist (F.seen face.new)) (F.beside face.new) }
-    ensures no_spare { result ≡ Delivery.ReserveHeld
-        → F.tells NoSpare (app_gist (F.seen face.new)) (F.beside face.new) }
+    ensures told { IsSoOfDelivery (λ look.
+        F.tells look (app_gist (F.seen face.new)) (F.beside face.new)) result }
     ensures beside { F.beside face.new ≡ F.beside face.old }
 {
     if posted.is_full() {

@@ -1,9 +1,9 @@
 //! All that an application has out is given up.
-ghost use Rattle.std.specs.Prelude.{◌≡◌, false, true, ℕ, ◌<◌, ◌≤◌, [], None};
+ghost use Rattle.std.specs.Prelude.{◌≡◌, ℕ, ◌≤◌, [], None};
 ghost use Rattle.circular_buffer.specs.Buffer.{buffer};
 ghost use Rattle.board_face.specs.{declared.views.app.LentPiece.{LentPiece}, AppCalls.{IsHere}};
 ghost use Rattle.flow_queues.specs.Core.{LieApart, total, lent_piece, over_due, over_read};
-ghost use Rattle.app_worker.specs.{State.{Common}, StateOf.{state_of}, Whole.{Torn}, Letting.{Abandons, LetGo}};
+ghost use Rattle.app_worker.specs.{StateOf.{state_of}, Works.{MayLetGo}, Letting.{Abandons, LetGo}};
 
 use crate::stack::Stack;
 use board_face::AppFace;
@@ -62,12 +62,7 @@ fn abandon_leaked<F: AppFace>(face: &mut F, leaked: &mut HeapCircularBuffer<Lend
 
 /// Gives up all pieces and all loans.
 pub fn let_go<F: AppFace>(face: &mut F, st: &mut Stack)
-    requires here { IsHere (F.seen face.old) }
-    requires torn { Torn (state_of st.old) (F.seen face.old) }
-    requires common { Common (state_of st.old) (F.seen face.old) }
-    requires reaped { st.old.posted.entries ≡ [] }
-    requires not_yet { st.old.bare ≡ false }
-    requires pushed { st.old.stray.left ≡ 0 }
+    requires may { MayLetGo (state_of st.old) (F.seen face.old) }
     ensures done { LetGo (state_of st.old) (state_of st.new) (F.seen face.old) (F.seen face.new) }
     ensures beside { F.beside face.new ≡ F.beside face.old }
 {

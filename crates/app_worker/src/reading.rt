@@ -1,10 +1,10 @@
 //! A loan is read, and what was read is appended; and a loan is given back.
-ghost use Rattle.std.specs.{Prelude.{◌≡◌, false, ◌≢◌, ℕ, ◌+◌, ◌-◌, ◌^◌, ◌<◌, ◌≤◌, List, length, IfSome, OnOk, OnErr, MatchBool, Some, ◌⊎◌}, Io.KnownBytes.{Keeps}};
+ghost use Rattle.std.specs.Prelude.{◌≡◌, false, ◌+◌, ◌-◌, ◌^◌, ◌<◌, ◌≤◌, IfSome, MatchBool, Some, ◌⊎◌};
 ghost use Rattle.area_layout.specs.Layout.{judged};
-ghost use Rattle.zr_io.specs.Moved.{Gained, Rose, raised_by};
+ghost use Rattle.zr_io.specs.Moved.{HasCause, raised_by};
 ghost use Rattle.board_face.specs.{AppCalls.{IsHere, IsLive, AppOnlySaw}, AppEvents.{app_gist, pushed_raw}, declared.views.app.AppLook.TheVariants.{RefillInUse}};
-ghost use Rattle.flow_queues.specs.Core.{LieApart, IsIn, lent_piece, OnlyReads, IsReadOf};
-ghost use Rattle.app_worker.specs.{ReadWhole.{IsReadUpTo}, Steps.{Given, KeptDue, NotKept, Pushes}};
+ghost use Rattle.flow_queues.specs.Core.{LieApart, IsIn, lent_piece};
+ghost use Rattle.app_worker.specs.Steps.{MayRead, first_bytes, ReadsFront, CountsFront, AppendsFront, Given, KeptDue, NotKept, MayPush, Pushes};
 
 use crate::stack::Stray;
 use board_face::AppFace;
@@ -27,29 +27,15 @@ pub fn read_loan<F: AppFace, T: Shelf>(
     chunk: &mut [u8; CHUNK],
     shelf: &mut T,
 ) -> Result<(), Failed>
-    requires here { IsHere (F.seen face.old) }
-    requires apart { LieApart (F.seen face.old) }
-    requires out { IsIn (lent_piece (F.seen face.old).taken lending.now) (F.seen face.old).loans }
-    requires note { lending.now.note < length (F.seen face.old).taken }
+    requires may { MayRead (F.seen face.old) lending.now }
     requires part { most ≤ lending.now.loan.len }
     requires room { bytes.old + most < 2 ^ 64 }
-    ensures only { OnlyReads (F.seen face.old) (F.seen face.new) }
-    ensures counted { (bytes.old ≤ bytes.new) × (bytes.new ≤ bytes.old + most) }
-    ensures whole { OnOk result (bytes.new ≡ bytes.old + most) }
-    ensures short { OnErr result (bytes.new < bytes.old + most) }
-    ensures gained { Gained (T.kept shelf.old flow) (T.kept shelf.new flow)
-        (λ (read : List ℕ). IsReadOf (F.seen face.old).taken (F.seen face.new).reads lending.now
-        (bytes.new - bytes.old) most read) }
-    ensures exact { OnOk result (Gained (T.kept shelf.old flow) (T.kept shelf.new flow)
-        (λ (read : List ℕ). IsReadOf (F.seen face.old).taken (F.seen face.new).reads lending.now
-        most most read)) }
-    ensures through { OnOk result
-        (IsReadUpTo (F.seen face.new).reads (lent_piece (F.seen face.old).taken lending.now) most) }
-    ensures others { (other : ℕ) → other ≢ flow
-        → Keeps (T.kept shelf.old other) (T.kept shelf.new other) }
-    ensures later { (T.counts shelf.old).faults ≤ (T.counts shelf.new).faults }
-    ensures still { OnOk result ((T.counts shelf.new).faults ≡ (T.counts shelf.old).faults) }
-    ensures cause { OnErr result (Rose (T.counts shelf.old).faults (T.counts shelf.new).faults) }
+    ensures reads { ReadsFront (F.seen face.old) (F.seen face.new)
+        (first_bytes lending.now most flow) result }
+    ensures counted { CountsFront most bytes.old bytes.new result }
+    ensures kept { AppendsFront (F.seen face.old) (F.seen face.new) (T.kept shelf.old)
+        (T.kept shelf.new) (first_bytes lending.now most flow) (bytes.new - bytes.old) result }
+    ensures cause { HasCause (T.counts shelf.old).faults (T.counts shelf.new).faults result }
     ensures appended { (T.counts shelf.new).appended
         ≡ raised_by (T.counts shelf.old).appended (bytes.new - bytes.old) }
     ensures beside { F.beside face.new ≡ F.beside face.old }
@@ -175,10 +161,7 @@ fn push_stray<F: AppFace>(face: &mut F, stray: &Stray) -> bool
 
 /// Writes the entries that are left. One is dropped where a loan in its buffer is out.
 pub fn push_strays<F: AppFace>(face: &mut F, stray: &mut Stray) -> Pushed
-    requires here { IsHere (F.seen face.old) }
-    requires counted { (F.seen face.old).scrubbed ≡ false }
-    requires names { 0 < stray.old.left
-        → judged (F.seen face.old).setting.layout stray.old.entry ≡ Some stray.old.buffer }
+    requires may { MayPush (F.seen face.old) stray.old }
     ensures pushes { Pushes (F.seen face.old) (F.seen face.new) stray.old stray.new result }
     ensures told { result ≡ Pushed.InUse
         → F.tells RefillInUse (app_gist (F.seen face.new)) (F.beside face.new) }

@@ -1,8 +1,8 @@
 //! The stages of a turn: lending what is in order, and reading what is more than it keeps unread.
-ghost use Rattle.std.specs.Prelude.{◌≡◌, false, true, ◌+◌, ◌≤◌, [], ◌++◌, length};
+ghost use Rattle.std.specs.Prelude.{◌≡◌, false, ◌+◌, ◌≤◌, [], ◌++◌, length};
 ghost use Rattle.completion_ring.specs.Ring.{ring};
-ghost use Rattle.board_face.specs.{AppCalls.{IsHere}, AppEvents.{app_gist}, declared.views.app.AppLook.TheVariants.{RawOnItsWay, NoSpare, NotQuiet}};
-ghost use Rattle.app_worker.specs.{StateOf.{state_of}, Works.{Works, NoneDue, MayLend}, ShelfWent.{ShelfWent}, Stages.{kept_of, ReadsTo, LentSome, LendsAll, ScrubsOnce, Leaves}};
+ghost use Rattle.board_face.specs.{AppEvents.{app_gist}, declared.views.app.AppLook.TheVariants.{NotQuiet}};
+ghost use Rattle.app_worker.specs.{StateOf.{state_of}, Works.{Works, NoneDue, MayLend}, ShelfWent.{ShelfWent}, Steps.{IsSoOfDelivery}, Stages.{kept_of, ReadsTo, LentSome, LendsAll, IsSoOfLent, MayScrub, ScrubsOnce, MayLeave, Leaves}};
 
 use crate::letting::let_go;
 use crate::stack::{Delivery, Stack};
@@ -47,11 +47,10 @@ pub enum Lent {
 /// Reaps all that is posted.
 fn reap_all(st: &mut Stack)
     requires { length st.old.unread.items + length st.old.posted.entries ≤ st.old.unread.capacity }
-    ensures { state_of st.new
-        ≡ record (state_of st.old) {
-          unread = st.old.unread.items ++ st.old.posted.entries;
-          posted = ring [] st.old.posted.places;
-        } }
+    ensures { state_of st.new ≡ record (state_of st.old) {
+      unread = st.old.unread.items ++ st.old.posted.entries;
+      posted = ring [] st.old.posted.places;
+    } }
 {
     while let Some(entry) = st.posted.reap() {
         let _ = st.unread.try_push_back(entry);
@@ -113,10 +112,8 @@ fn lend_some<F: AppFace>(face: &mut F, st: &mut Stack) -> (bool, Delivery)
     requires more { st.old.ended ≡ false }
     ensures lends { LentSome (state_of st.old) (state_of st.new) (F.seen face.old) (F.seen face.new)
         result.0 result.1 }
-    ensures told { result.1 ≡ Delivery.Unsettled
-        → F.tells RawOnItsWay (app_gist (F.seen face.new)) (F.beside face.new) }
-    ensures no_spare { result.1 ≡ Delivery.ReserveHeld
-        → F.tells NoSpare (app_gist (F.seen face.new)) (F.beside face.new) }
+    ensures told { IsSoOfDelivery (λ look.
+        F.tells look (app_gist (F.seen face.new)) (F.beside face.new)) result.1 }
     ensures beside { F.beside face.new ≡ F.beside face.old }
 {
     let mut did = false;
@@ -134,10 +131,8 @@ pub fn lend_all<F: AppFace, T: Shelf>(face: &mut F, st: &mut Stack, shelf: &mut 
     ensures lends { LendsAll (state_of st.old) (state_of st.new) (F.seen face.old) (F.seen face.new)
         (T.kept shelf.old) (T.kept shelf.new) (T.counts shelf.old).faults
         (T.counts shelf.new).faults result }
-    ensures told { result ≡ Lent.Stuck
-        → F.tells RawOnItsWay (app_gist (F.seen face.new)) (F.beside face.new) }
-    ensures no_spare { result ≡ Lent.NoSpare
-        → F.tells NoSpare (app_gist (F.seen face.new)) (F.beside face.new) }
+    ensures told { IsSoOfLent (λ look.
+        F.tells look (app_gist (F.seen face.new)) (F.beside face.new)) result }
     ensures went { ShelfWent Lent.Failed (state_of st.old) (state_of st.new) (T.counts shelf.old)
         (T.counts shelf.new) result }
     ensures beside { F.beside face.new ≡ F.beside face.old }
@@ -166,9 +161,7 @@ pub fn lend_all<F: AppFace, T: Shelf>(face: &mut F, st: &mut Stack, shelf: &mut 
 
 /// Scrubs, unless that was done before, if each refill slot is free: whether it is done.
 pub fn scrub<F: AppFace>(face: &mut F, scrubbed: &mut bool) -> bool
-    requires here { IsHere (F.seen face.old) }
-    requires loans { (F.seen face.old).loans ≡ [] }
-    requires known { (F.seen face.old).scrubbed ≡ scrubbed.old }
+    requires may { MayScrub scrubbed.old (F.seen face.old) }
     ensures scrubs { ScrubsOnce scrubbed.old scrubbed.new (F.seen face.old) (F.seen face.new)
         result }
     ensures told { result ≡ false
@@ -188,12 +181,7 @@ pub fn scrub<F: AppFace>(face: &mut F, scrubbed: &mut bool) -> bool
 
 /// Scrubs, and leaves if that is done: whether it left.
 pub fn leave<F: AppFace>(face: &mut F, scrubbed: &mut bool) -> bool
-    requires here { IsHere (F.seen face.old) }
-    requires helds { (F.seen face.old).helds ≡ [] }
-    requires loans { (F.seen face.old).loans ≡ [] }
-    requires owns { (F.seen face.old).owns ≡ [] }
-    requires ended { (F.seen face.old).ended ≡ true }
-    requires known { (F.seen face.old).scrubbed ≡ scrubbed.old }
+    requires may { MayLeave scrubbed.old (F.seen face.old) }
     ensures leaves { Leaves scrubbed.old scrubbed.new (F.seen face.old) (F.seen face.new) result }
     ensures told { result ≡ false
         → F.tells NotQuiet (app_gist (F.seen face.new)) (F.beside face.new) }

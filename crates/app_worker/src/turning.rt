@@ -1,8 +1,8 @@
 //! The steps of a turn, over all that an application keeps.
 ghost use Rattle.std.specs.Prelude.{◌≡◌, ◌≢◌, false, true, ◌<◌, ◌≤◌, [], length, ◌^◌, IfSome, ◌⊎◌};
-ghost use Rattle.board_face.specs.{AppCalls.{TookLinear}, Texts.{IsLinearNote}, declared.views.app.{AppView.{AppView}, AppLook.TheVariants.{RawOnItsWay, NoNote as no_note, NoSpare, RefillInUse}}, AppEvents.{app_gist}};
+ghost use Rattle.board_face.specs.{AppCalls.{TookLinear}, Texts.{IsLinearNote}, declared.views.app.{AppView.{AppView}, AppLook.TheVariants.{NoNote as no_note, RefillInUse}}, AppEvents.{app_gist}};
 ghost use Rattle.flow_queues.specs.{Core.{Each}, Totals.{wanted_of}, Flows.{IsAtRest, IsIndex}};
-ghost use Rattle.app_worker.specs.{State.{Working, Common}, StateOf.{state_of}, Works.{Works, NoneDue, StillWorks}, ShelfWent.{ShelfWent}, Whole.{Lends, Gives, Takes, Reads}};
+ghost use Rattle.app_worker.specs.{State.{Working, Common}, StateOf.{state_of}, Works.{Works, NoneDue, StillWorks}, ShelfWent.{ShelfWent}, Steps.{IsSoOfDelivery}, Whole.{Lends, Gives, Takes, Reads}};
 
 use crate::lending::deliver;
 use crate::reading::{give_due, keep_due, read_loan};
@@ -46,10 +46,8 @@ pub fn deliver_one<F: AppFace>(face: &mut F, st: &mut Stack) -> Delivery
         (F.seen face.new) }
     ensures lends { Lends (state_of st.old) (state_of st.new) (F.seen face.old) (F.seen face.new)
         result }
-    ensures told { result ≡ Delivery.Unsettled
-        → F.tells RawOnItsWay (app_gist (F.seen face.new)) (F.beside face.new) }
-    ensures no_spare { result ≡ Delivery.ReserveHeld
-        → F.tells NoSpare (app_gist (F.seen face.new)) (F.beside face.new) }
+    ensures told { IsSoOfDelivery (λ look.
+        F.tells look (app_gist (F.seen face.new)) (F.beside face.new)) result }
     ensures beside { F.beside face.new ≡ F.beside face.old }
 {
     if st.active >= st.flows.len() {

@@ -66,6 +66,17 @@ module _ (was pool now : PoolState) (old mid new : NicView) (count : ℕ) (stood
       ∙ length-append old.sent sends.gone in
       omega (arith, before, after, same, sent)
 
+  -- it came as far as notes were sent and entries dealt with
+  pub dealt-steps : (closed : Bool) → 0 < count → card_steps closed old < card_steps closed new
+  dealt-steps closed some =
+      let sent : length mid.sent ≡ length old.sent + length sends.gone = ap (λ (v : NicView). length v.sent) sends.view
+      ∙ length-append old.sent sends.gone in
+      let dealt : length new.dealt ≡ length mid.dealt + length drains.more = ap (λ (v : NicView). length v.dealt) drains.deals.view
+      ∙ length-append mid.dealt drains.more in
+      let still_sent : length new.sent ≡ length mid.sent = ap (λ (v : NicView). length v.sent) drains.deals.view in
+      let still_dealt : length mid.dealt ≡ length old.dealt = ap (λ (v : NicView). length v.dealt) sends.view in
+      omega (arith, sent, dealt, still_sent, still_dealt, drains.many, some)
+
   still-pending : pending_count now ≡ pending_count pool
   still-pending = ap pending_count now_is
 
@@ -153,6 +164,13 @@ module _ (was now : PoolState) (old new : NicView) (o : Offer) (stood : PoolStan
 
 module _ (was now : PoolState) (old new : NicView) (count : ℕ) (drains : DrainsRings was.stats now.stats old new count)
     (now_is : now ≡ record was { stats = now.stats }) where
+  pub drained-steps : (closed : Bool) → 0 < count → card_steps closed old < card_steps closed new
+  drained-steps closed some =
+      let sent : length new.sent ≡ length old.sent = ap (λ (v : NicView). length v.sent) drains.deals.view in
+      let dealt : length new.dealt ≡ length old.dealt + length drains.more = ap (λ (v : NicView). length v.dealt) drains.deals.view
+      ∙ length-append old.dealt drains.more in
+      omega (arith, sent, dealt, drains.many, some)
+
   pub drained-idle : {B : Type 0} (tells : NicLook → NicView → B → Type 0) (beside_now : B) (intake : Intake) (closed : Bool) → closed ≡ true
       → count ≡ 0
       → nic_gist new ≡ nic_gist old
@@ -165,6 +183,13 @@ module _ (was now : PoolState) (old new : NicView) (count : ℕ) (drains : Drain
     rings = rings;
     notes = inl is_closed;
   }
+
+-- ---- the answers
+
+-- each way of a test leads on
+pub answer-then : (did : Bool) (A B C D : Type 0) → MatchBool did A B → (A → C) → (B → D) → MatchBool did C D
+answer-then true A B C D answer if_did if_not = if_did answer
+answer-then false A B C D answer if_did if_not = if_not answer
 
 -- ---- where no frame is offered
 

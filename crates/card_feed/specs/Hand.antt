@@ -11,9 +11,9 @@ use Rattle.card_feed.specs.{declared.intake.Route.{Route}, Offered.{payload_in}}
 abbrev pub HaveApps : List ℕ → List Flow → Type 0
 HaveApps ports flows = (number : ℕ) (flow : Flow) → slice_get flows number ≡ Some flow → app_of ports flow.key.dport ≡ Some flow.app
 
--- the frame at hand has some bytes that count, for one of the applications
-pub record HandFits (ports frame : List ℕ) (route : Route) : Type 0 where
-  pub app : route.app < length ports
+-- the frame at hand has some bytes that count, for one of so many applications
+pub record HandFits (apps : ℕ) (frame : List ℕ) (route : Route) : Type 0 where
+  pub app : route.app < apps
   pub len : route.len ≤ length (payload_in frame)
   pub some : 0 < route.len
   pub most : route.len ≤ longest_payload

@@ -56,6 +56,13 @@ pub record OnlyOpens (was now : Intake) : Type 0 where
   pub refused : now.refused.items ≡ was.refused.items
   pub split : now.split ≡ was.split
 
+-- Nothing more was read: the reading is where it was, with its count and its ports, and what may be refused is as before.
+pub record ReadsNothing (was now : Intake) : Type 0 where
+  pub stage_is : now.stage ≡ was.stage
+  pub tally : now.counting.tally ≡ was.counting.tally
+  pub ports : now.table.ports ≡ was.table.ports
+  pub split : now.split ≡ was.split
+
 -- what arrives is for an intake that wants it
 abbrev pub IsTimely : Intake → Arrived → Type 0
 IsTimely intake (arrived.Frame found bytes) = IsReadable intake

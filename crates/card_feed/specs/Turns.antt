@@ -54,6 +54,13 @@ Receives split ports was now frames more arrived.Nothing = (now ≡ was) × (mor
 Receives split ports was now frames more (arrived.Over end) =
     (more ≡ frames) × (now.at_hand ≡ None) × (now.stage ≡ stage.Over end)
 
+-- ---- what a turn leaves alone
+
+-- the greatest payload that isn't split, and the board's setting
+pub record KeepsSetting (was now : PoolState) (old new : NicView) : Type 0 where
+  pub split : now.split ≡ was.split
+  pub setting : new.setting ≡ old.setting
+
 -- ---- the frame at hand
 
 -- It is accepted; or it is refused, and its number is noted; or it stays at hand, and the rings are drained.

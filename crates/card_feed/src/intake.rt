@@ -1,6 +1,6 @@
 //! What the card keeps of what it reads.
 
-ghost use Rattle.std.specs.{Prelude.{vec_capacity}, Option.{ForSome}};
+ghost use Rattle.std.specs.{Prelude.{length, vec_capacity}, Option.{ForSome}};
 ghost use Rattle.card_feed.specs.Hand.{HaveApps, HandFits, HasRoom};
 
 use flow_table::FlowTable;
@@ -52,6 +52,6 @@ pub struct Intake {
     /// What the capture's interfaces and empty vectors are made of.
     pub alloc: Global,
     ghost apps: { HaveApps table.ports table.flows },
-    ghost hand_fits: { ForSome hand (HandFits table.ports bytes.items) },
+    ghost hand_fits: { ForSome hand (HandFits (length table.ports) bytes.items) },
     ghost room: { ForSome hand (HasRoom split refused.items (vec_capacity refused)) },
 }

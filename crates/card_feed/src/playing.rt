@@ -1,10 +1,10 @@
 //! The part of a turn that is played at the face: the frame at hand is offered, or the card finishes.
 
-ghost use Rattle.std.specs.Prelude.{◌≡◌, ◌≢◌, ◌⊎◌, ℕ, ◌<◌, ◌≤◌, Bool, length, take, true, false, Some, None};
+ghost use Rattle.std.specs.Prelude.{◌≡◌, ◌≢◌, ◌⊎◌, ℕ, ◌<◌, ◌≤◌, Bool, MatchBool, length, take, true, false, Some, None};
 ghost use Rattle.zr_kinds.specs.Limits.{longest_payload};
 ghost use Rattle.board_face.specs.{Looks.{NicRose}, NicCalls.{apps_of, IsOpen}, NicEvents.{nic_gist}, declared.views.nic.NicLook.TheVariants.{NoteInUse}};
 ghost use Rattle.page_pool.specs.{declared.offer.Offer.{Offer as TheOffer}, Frames.{offered}, Offer.{Offers, KeepsRest}, Pool.{PoolStands, HasNonePending, IsNextApp, pending_count}};
-ghost use Rattle.card_feed.specs.{Offered.{payload_in}, Hand.{offered_by}, Coming.{is_over}, Feed.{FeedFits, card_steps}, Turns.{OffersHand, Finishes, KeepsUp, FeedPlays, HasLooked, IsIdle}, Parts.{feed_of}, declared.intake.Intake.{Intake as TheIntake}};
+ghost use Rattle.card_feed.specs.{Offered.{payload_in}, Hand.{HandFits, offered_by}, Intake.{ReadsNothing}, Coming.{is_over}, Feed.{FeedFits, IsReady, card_steps}, Turns.{KeepsSetting, OffersHand, Finishes, KeepsUp, FeedPlays, HasLooked, IsIdle}, Parts.{feed_of}, declared.intake.Intake.{Intake as TheIntake}};
 
 use crate::intake::{Intake, Route};
 use board_face::NicFace;
@@ -26,10 +26,7 @@ pub fn payload_in(frame: &[u8]) -> &[u8]
 fn offer<F: NicFace>(route: &Route, frame: &[u8], pool: &mut Pool, face: &mut F) -> Verdict
     requires open { IsOpen (F.seen face.old) }
     requires stands { PoolStands pool.old (F.seen face.old) }
-    requires app { route.now.app < apps_of (F.seen face.old).setting }
-    requires len { route.now.len ≤ length (payload_in frame.now) }
-    requires some { 0 < route.now.len }
-    requires most { route.now.len ≤ longest_payload }
+    requires hand { HandFits (apps_of (F.seen face.old).setting) frame.now route.now }
     ensures stands { PoolStands pool.new (F.seen face.new) }
     ensures offers { (o : TheOffer)
         × (offered o ≡ offered_by route.now (take route.now.len (payload_in frame.now)))
@@ -60,28 +57,20 @@ pub fn offer_hand<F: NicFace>(
     face: &mut F,
 ) -> bool
     requires hand { intake.old.hand ≡ Some route }
-    requires open { IsOpen (F.seen face.old) }
-    requires stands { PoolStands pool.old (F.seen face.old) }
-    requires apps { length intake.old.table.ports ≡ apps_of (F.seen face.old).setting }
+    requires fits { FeedFits (feed_of intake.old pool.old false) (F.seen face.old) }
     requires split { pool.old.split ≡ intake.old.split }
-    ensures stands { PoolStands pool.new (F.seen face.new) }
+    ensures ready { IsReady (feed_of intake.new pool.new false) (F.seen face.new) }
     ensures offers { OffersHand (feed_of intake.old pool.old false)
         (feed_of intake.new pool.new false) (F.seen face.old) (F.seen face.new)
         (offered_by route (take route.len (payload_in intake.old.bytes.items))) }
-    ensures split { (intake.new.split ≡ intake.old.split) × (pool.new.split ≡ pool.old.split) }
-    ensures same { (intake.new.stage ≡ intake.old.stage)
-        × (intake.new.counting.tally ≡ intake.old.counting.tally)
-        × (intake.new.table.ports ≡ intake.old.table.ports) }
-    ensures setting { ((F.seen face.new).setting ≡ (F.seen face.old).setting)
-        × IsOpen (F.seen face.new) }
-    ensures waits { intake.new.hand ≢ None → 0 < pending_count pool.new }
+    ensures keeps { KeepsSetting pool.old pool.new (F.seen face.old) (F.seen face.new) }
+    ensures same { ReadsNothing intake.old intake.new }
     ensures later { card_steps false (F.seen face.old) ≤ card_steps false (F.seen face.new) }
-    ensures rises { result ≡ true → 0 < pending_count pool.old
-        → card_steps false (F.seen face.old) < card_steps false (F.seen face.new) }
-    ensures idle { result ≡ false
-        → IsIdle F.tells (F.beside face.new) (feed_of intake.old pool.old false)
-        (feed_of intake.new pool.new false)
-        (F.seen face.old) (F.seen face.new) }
+    ensures answer { MatchBool result
+        (0 < pending_count pool.old
+        → card_steps false (F.seen face.old) < card_steps false (F.seen face.new))
+        (IsIdle F.tells (F.beside face.new) (feed_of intake.old pool.old false)
+        (feed_of intake.new pool.new false) (F.seen face.old) (F.seen face.new)) }
     ensures beside { F.beside face.new ≡ F.beside face.old }
 {
     let pending = pool.pending();
@@ -111,15 +100,14 @@ pub fn finish<F: NicFace>(pool: &mut Pool, closed: &mut bool, face: &mut F) -> b
     ensures finishes { (intake : TheIntake) → intake.hand ≡ None
         → Finishes (feed_of intake pool.old closed.old) (feed_of intake pool.new closed.new)
         (F.seen face.old) (F.seen face.new) }
-    ensures split { pool.new.split ≡ pool.old.split }
-    ensures setting { (F.seen face.new).setting ≡ (F.seen face.old).setting }
-    ensures on { closed.new ≡ false → IsOpen (F.seen face.new) }
-    ensures ended { closed.new ≡ true → ((F.seen face.new).ended ≡ true) × HasNonePending pool.new }
-    ensures rises { result ≡ true
-        → card_steps closed.old (F.seen face.old) < card_steps closed.new (F.seen face.new) }
-    ensures idle { result ≡ false → (intake : TheIntake) → IsIdle F.tells (F.beside face.new)
+    ensures keeps { KeepsSetting pool.old pool.new (F.seen face.old) (F.seen face.new) }
+    ensures closed { MatchBool closed.new
+        (((F.seen face.new).ended ≡ true) × HasNonePending pool.new) (IsOpen (F.seen face.new)) }
+    ensures answer { MatchBool result
+        (card_steps closed.old (F.seen face.old) < card_steps closed.new (F.seen face.new))
+        ((intake : TheIntake) → IsIdle F.tells (F.beside face.new)
         (feed_of intake pool.old closed.old) (feed_of intake pool.new closed.new)
-        (F.seen face.old) (F.seen face.new) }
+        (F.seen face.old) (F.seen face.new)) }
     ensures beside { F.beside face.new ≡ F.beside face.old }
 {
     let pending = pool.pending();
@@ -140,15 +128,14 @@ pub fn keep_up<F: NicFace>(pool: &mut Pool, face: &mut F) -> bool
     ensures keeps_up { (intake : TheIntake) (closed : Bool)
         → KeepsUp (feed_of intake pool.old closed) (feed_of intake pool.new closed)
         (F.seen face.old) (F.seen face.new) }
-    ensures split { pool.new.split ≡ pool.old.split }
-    ensures setting { (F.seen face.new).setting ≡ (F.seen face.old).setting }
+    ensures keeps { KeepsSetting pool.old pool.new (F.seen face.old) (F.seen face.new) }
     ensures open { IsOpen (F.seen face.new) }
-    ensures rises { result ≡ true
-        → card_steps false (F.seen face.old) < card_steps false (F.seen face.new) }
-    ensures idle { result ≡ false → (intake : TheIntake) (closed : Bool)
+    ensures answer { MatchBool result
+        (card_steps false (F.seen face.old) < card_steps false (F.seen face.new))
+        ((intake : TheIntake) (closed : Bool)
         → HasLooked (HasNonePending pool.new) F.tells (F.beside face.new)
         (feed_of intake pool.old closed) (feed_of intake pool.new closed) (F.seen face.old)
-        (F.seen face.new) }
+        (F.seen face.new)) }
     ensures beside { F.beside face.new ≡ F.beside face.old }
 {
     let pending = pool.pending();
@@ -166,22 +153,19 @@ pub fn play<F: NicFace>(
 ) -> bool
     requires fits { FeedFits (feed_of intake.old pool.old closed.old) (F.seen face.old) }
     requires split { pool.old.split ≡ intake.old.split }
-    ensures fits { FeedFits (feed_of intake.new pool.new closed.new) (F.seen face.new) }
-    ensures waits { intake.new.hand ≢ None → 0 < pending_count pool.new }
+    ensures ready { IsReady (feed_of intake.new pool.new closed.new) (F.seen face.new) }
     ensures split { pool.new.split ≡ intake.new.split }
     ensures plays { FeedPlays (feed_of intake.old pool.old closed.old)
         (feed_of intake.new pool.new closed.new) (F.seen face.old) (F.seen face.new) }
-    ensures same { (intake.new.stage ≡ intake.old.stage)
-        × (intake.new.counting.tally ≡ intake.old.counting.tally)
-        × (intake.new.table.ports ≡ intake.old.table.ports) }
+    ensures same { ReadsNothing intake.old intake.new }
     ensures later { card_steps closed.old (F.seen face.old)
         ≤ card_steps closed.new (F.seen face.new) }
-    ensures rises { result ≡ true → (intake.old.hand ≢ None → 0 < pending_count pool.old)
-        → card_steps closed.old (F.seen face.old) < card_steps closed.new (F.seen face.new) }
-    ensures idle { result ≡ false → ((intake.old.hand ≡ None) × (is_over intake.old.stage ≡ false))
+    ensures answer { MatchBool result
+        ((intake.old.hand ≢ None → 0 < pending_count pool.old)
+        → card_steps closed.old (F.seen face.old) < card_steps closed.new (F.seen face.new))
+        (((intake.old.hand ≡ None) × (is_over intake.old.stage ≡ false))
         ⊎ IsIdle F.tells (F.beside face.new) (feed_of intake.old pool.old closed.old)
-        (feed_of intake.new pool.new closed.new)
-        (F.seen face.old) (F.seen face.new) }
+        (feed_of intake.new pool.new closed.new) (F.seen face.old) (F.seen face.new)) }
     ensures beside { F.beside face.new ≡ F.beside face.old }
 {
     if *closed {

@@ -6,7 +6,7 @@ use Rattle.zr_kinds.specs.CopyingReceiver.{Placed, nothing_placed, next_missing,
 use Rattle.area_layout.specs.Layout.{Shape, size_of, total as buffers_of}
 use Rattle.tcp_reorder.specs.{Queue.{Queue}, Values.{Holds}}
 use Rattle.board_face.specs.declared.views.app.{Origin.{Origin, TheVariants.{Note as of_note, Copied as of_copy}}, HeldPiece.{HeldPiece}, LentPiece.{LentPiece}}
-use Rattle.board_face.specs.declared.views.app.{Reading.{Reading}, TakenNote.{TakenNote}, AppView.{AppView}}
+use Rattle.board_face.specs.{AppCalls.{IsHere}, declared.views.app.{Reading.{Reading}, TakenNote.{TakenNote}, AppView.{AppView}}}
 use Rattle.flow_queues.specs.declared.queues.{NotePiece.{NotePiece}, Short.{Short}, Waiting.{Waiting, TheVariants.{InArea, Copied}}, Lending.{Lending}}
 use Rattle.flow_queues.specs.{declared.queues.FlowQueue.{FlowQueue}, Marks.{Mark, marks_from, Numbered, numbered, of_flow, marks_of_note}}
 
@@ -44,6 +44,11 @@ is_odd layout p = if (p.len == 0) || (nat_lt longest_payload p.len || lies_out l
 pub record LieApart (v : AppView) : Type 0 where
   pub once : (b x : ℕ) → total (λ h. has_at b x h.place) v.helds + total (λ l. has_at b x l.place) v.loans ≤ 1
   pub some : total (λ h. is_odd v.setting.layout h.place) v.helds + total (λ l. is_odd v.setting.layout l.place) v.loans ≡ 0
+
+-- it hasn't left, and what it holds lies apart
+pub record HoldsApart (v : AppView) : Type 0 where
+  pub here : IsHere v
+  pub apart : LieApart v
 
 -- ---- tokens
 

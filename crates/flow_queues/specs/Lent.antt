@@ -1,16 +1,29 @@
 -- What is next in a stream is lent.
-use Rattle.std.specs.Prelude.{◌≡◌, ◌≢◌, ℕ, ◌+◌, ◌<◌, Bool, true, false, Some, length}
-use Rattle.tcp_reorder.specs.{declared.places.Span.{Span}, Queue.{Kept, Queue, next_of, front_of, IsSound}, Gaps.{LosesFirst}}
+use Rattle.std.specs.Prelude.{◌≡◌, ◌≢◌, ℕ, ◌+◌, ◌<◌, ◌≤◌, Bool, true, false, Some, [], length}
+use Rattle.tcp_reorder.specs.{declared.places.Span.{Span}, Queue.{Kept, Queue, next_of, front_of, IsSound}, Gaps.{LosesFirst}, Values.{AreSized}}
 use Rattle.board_face.specs.{AppCalls.{AppOnlySaw}, AppEvents.{app_saw, came_to_rest}, Looks.{AppRose, AppLooksStay}}
-use Rattle.board_face.specs.declared.views.app.{AppLook.TheVariants.{RawOnItsWay, NoSpare}, HeldPiece.{HeldPiece}, LentPiece.{LentPiece}, AppView.{AppView}}
+use Rattle.board_face.specs.declared.views.app.{AppLook.{AppLook, TheVariants.{RawOnItsWay, NoSpare}}, HeldPiece.{HeldPiece}, LentPiece.{LentPiece}, AppView.{AppView}}
 use Rattle.flow_queues.specs.declared.{queues.{Waiting.{Waiting, TheVariants.{InArea, Copied}}, Lending.{Lending}, FlowQueue.{FlowQueue}}, lending.Next.{Next}}
 use Rattle.flow_queues.specs.declared.lending.Next.TheVariants.{Lent, LentCopy, NoneInOrder, Unsettled, ReserveHeld}
-use Rattle.flow_queues.specs.Core.{total, LieApart, lent_piece, is_copy, over_waiting, short_len, held_len, marks_of_waiting, marks_of_loan}
+use Rattle.flow_queues.specs.Core.{total, Each, HoldsApart, LieApart, IsOfNote, lent_piece, is_copy, over_waiting, short_len, short_bytes, unsplit_len, held_len, marks_of_waiting, marks_of_loan}
 
 -- bytes that came with their note
 abbrev pub is_short : Waiting → Bool
 is_short (InArea p) = false
 is_short (Copied s) = true
+
+-- it has neither left nor scrubbed, what it holds lies apart, and it owns no buffer that it hasn't lent
+pub record CanLend (v : AppView) : Type 0 where
+  pub holds : HoldsApart v
+  pub counted : v.scrubbed ≡ false
+  pub owns : v.owns ≡ []
+
+-- What the queue keeps is of notes that were taken, as long as its place there, and each of its bytes that is in no piece may still
+-- take a spare.
+pub record IsBacked (v : AppView) (queue : Queue Waiting) : Type 0 where
+  pub notes : Each (λ k. IsOfNote v.taken k.piece) queue.kept
+  pub sized : AreSized marks_of_waiting queue.kept
+  pub spare : v.spares + short_bytes queue ≤ total unsplit_len v.taken
 
 -- something is next in the stream, and it is of this kind
 pub record IsNext (short : Bool) (queue : Queue Waiting) : Type 0 where
@@ -56,5 +69,11 @@ abbrev pub LendsNext : AppView → AppView → FlowQueue → FlowQueue → Next 
 LendsNext old new was now (Lent lending) = LentNext old new was now lending × (is_copy (lent_piece old.taken lending) ≡ 0)
 LendsNext old new was now (LentCopy lending) = LentNext old new was now lending × (is_copy (lent_piece old.taken lending) ≡ 1)
 LendsNext old new was now NoneInOrder = (new ≡ old) × (now ≡ was) × (was.queue.popped ≡ next_of was.queue)
-LendsNext old new was now Unsettled = AppOnlySaw RawOnItsWay old new × (now ≡ was) × (was.queue.popped ≢ next_of was.queue)
+LendsNext old new was now Unsettled = AppOnlySaw RawOnItsWay old new × (now ≡ was) × (was.queue.popped ≢ next_of was.queue) × (old.settled ≡ false)
 LendsNext old new was now ReserveHeld = SawNoSpare old new × (now ≡ was) × IsNext true was.queue
+
+-- so it is of the look that was the cause where nothing was lent
+abbrev pub IsSoOfNext : (AppLook → Type 0) → Next → Type 0
+IsSoOfNext is_so Unsettled = is_so RawOnItsWay
+IsSoOfNext is_so ReserveHeld = is_so NoSpare
+IsSoOfNext is_so other = Unit {0}

@@ -1,7 +1,7 @@
 -- Pieces that wait are cut, and given up.
 use Rattle.std.specs.Prelude.{◌≡◌, ℕ, ◌+◌, ◌<◌, Option, Some, None}
-use Rattle.zr_kinds.specs.declared.place.Place.{Place}
-use Rattle.board_face.specs.{Texts.{front_place, rest_place}, declared.views.app.{HeldPiece.{HeldPiece}, AppView.{AppView}}, AppEvents.{released}}
+use Rattle.zr_kinds.specs.declared.place.{Note.{Note}, Place.{Place}}
+use Rattle.board_face.specs.{Texts.{IsSplitNote, front_place, rest_place}, declared.views.app.{HeldPiece.{HeldPiece}, AppView.{AppView}}, AppEvents.{released}}
 use Rattle.flow_queues.specs.{declared.queues.{NotePiece.{NotePiece}, Waiting.{Waiting, TheVariants.{InArea, Copied}}}, Core.{total, IsIn, LieApart, held_piece}}
 
 -- the first bytes of a piece, and the others
@@ -53,3 +53,9 @@ given_back v (Copied s) = v
 -- a whole piece
 abbrev pub whole_piece : ℕ → Place → NotePiece
 whole_piece number place = record { note = number; at = 0; held = place }
+
+-- the piece is that of which the note with this number tells, and it is out
+pub record CameWith (v : AppView) (note : Note) (number : ℕ) (held : Place) : Type 0 where
+  pub fields : IsSplitNote note
+  pub place : held ≡ note.place
+  pub out : IsIn (held_piece (whole_piece number held)) v.helds

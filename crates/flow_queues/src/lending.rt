@@ -1,8 +1,8 @@
 //! What is next in a stream is lent: a piece that lies in the area, or a copy of bytes that came with their note.
-ghost use Rattle.std.specs.Prelude.{◌≡◌, true, false, ℕ, ◌+◌, ◌≤◌, [], None, MatchOption};
-ghost use Rattle.tcp_reorder.specs.Values.{AreSized};
-ghost use Rattle.board_face.specs.{AppCalls.{IsHere}, AppEvents.{app_gist}, declared.views.app.{AppLook.TheVariants.{RawOnItsWay, NoSpare}, HeldPiece.{HeldPiece}}};
-ghost use Rattle.flow_queues.specs.{Core.{LieApart, total, over_kept, marks_of_waiting, short_bytes, unsplit_len, IsOfNote, Each, lent_piece, is_copy}, Lent.{IsNext, LentNext, LendsNext, SawNoSpare}};
+ghost use Rattle.std.specs.Prelude.{◌≡◌, true, false, ℕ, ◌≤◌, None, MatchOption};
+ghost use Rattle.board_face.specs.{AppEvents.{app_gist}, declared.views.app.{AppLook.TheVariants.{NoSpare}, HeldPiece.{HeldPiece}}};
+ghost use Rattle.flow_queues.specs.Core.{HoldsApart, total, over_kept, IsOfNote, Each, lent_piece, is_copy};
+ghost use Rattle.flow_queues.specs.Lent.{CanLend, IsBacked, IsNext, IsSoOfNext, LentNext, LendsNext, SawNoSpare};
 
 use crate::queues::{FlowQueue, Lending, Short, Waiting};
 use board_face::AppFace;
@@ -24,10 +24,9 @@ pub enum Next {
 
 /// Lends the piece that is next in the stream.
 fn lend_piece<F: AppFace>(face: &mut F, own: &mut FlowQueue) -> Lending
-    requires here { IsHere (F.seen face.old) }
+    requires holds { HoldsApart (F.seen face.old) }
     requires settled { (F.seen face.old).settled ≡ true }
     requires counted { (F.seen face.old).scrubbed ≡ false }
-    requires apart { LieApart (F.seen face.old) }
     requires out { (f : HeldPiece → ℕ)
         → over_kept f own.old.queue ≤ total f (F.seen face.old).helds }
     requires notes { Each (λ k. IsOfNote (F.seen face.old).taken k.piece) own.old.queue.kept }
@@ -54,15 +53,9 @@ fn lend_piece<F: AppFace>(face: &mut F, own: &mut FlowQueue) -> Lending
 /// Copies the bytes that are next in the stream into a spare, and lends that. `None` says that no buffer is free, and the
 /// reserve is held.
 fn lend_copy<F: AppFace>(face: &mut F, own: &mut FlowQueue) -> Option<Lending>
-    requires here { IsHere (F.seen face.old) }
+    requires can { CanLend (F.seen face.old) }
     requires settled { (F.seen face.old).settled ≡ true }
-    requires counted { (F.seen face.old).scrubbed ≡ false }
-    requires apart { LieApart (F.seen face.old) }
-    requires owns { (F.seen face.old).owns ≡ [] }
-    requires notes { Each (λ k. IsOfNote (F.seen face.old).taken k.piece) own.old.queue.kept }
-    requires sized { AreSized marks_of_waiting own.old.queue.kept }
-    requires spare { (F.seen face.old).spares + short_bytes own.old.queue
-        ≤ total unsplit_len (F.seen face.old).taken }
+    requires backed { IsBacked (F.seen face.old) own.old.queue }
     requires next { IsNext true own.old.queue }
     ensures lent { MatchOption result
         (SawNoSpare (F.seen face.old) (F.seen face.new) × (own.new ≡ own.old))
@@ -92,22 +85,13 @@ fn lend_copy<F: AppFace>(face: &mut F, own: &mut FlowQueue) -> Option<Lending>
 
 /// Lends what is next in the stream. Bytes that came with their note are copied into a spare for that.
 pub fn lend_next<F: AppFace>(face: &mut F, own: &mut FlowQueue) -> Next
-    requires here { IsHere (F.seen face.old) }
-    requires counted { (F.seen face.old).scrubbed ≡ false }
-    requires apart { LieApart (F.seen face.old) }
-    requires owns { (F.seen face.old).owns ≡ [] }
+    requires can { CanLend (F.seen face.old) }
     requires out { (f : HeldPiece → ℕ)
         → over_kept f own.old.queue ≤ total f (F.seen face.old).helds }
-    requires notes { Each (λ k. IsOfNote (F.seen face.old).taken k.piece) own.old.queue.kept }
-    requires sized { AreSized marks_of_waiting own.old.queue.kept }
-    requires spare { (F.seen face.old).spares + short_bytes own.old.queue
-        ≤ total unsplit_len (F.seen face.old).taken }
+    requires backed { IsBacked (F.seen face.old) own.old.queue }
     ensures lends { LendsNext (F.seen face.old) (F.seen face.new) own.old own.new result }
-    ensures unsettled { result ≡ Next.Unsettled → (F.seen face.old).settled ≡ false }
-    ensures told { result ≡ Next.Unsettled
-        → F.tells RawOnItsWay (app_gist (F.seen face.new)) (F.beside face.new) }
-    ensures no_spare { result ≡ Next.ReserveHeld
-        → F.tells NoSpare (app_gist (F.seen face.new)) (F.beside face.new) }
+    ensures told { IsSoOfNext (λ look.
+        F.tells look (app_gist (F.seen face.new)) (F.beside face.new)) result }
     ensures beside { F.beside face.new ≡ F.beside face.old }
 {
     let Some(first) = own.queue.front_piece() else {

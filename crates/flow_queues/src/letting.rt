@@ -1,7 +1,7 @@
 //! All pieces that wait are given up.
 ghost use Rattle.std.specs.Prelude.{◌≡◌, ℕ, ◌+◌, ◌<◌, ◌≤◌, [], map};
-ghost use Rattle.board_face.specs.{declared.views.app.HeldPiece.{HeldPiece}, AppCalls.{IsHere}};
-ghost use Rattle.flow_queues.specs.{Core.{LieApart, total, over_kept, short_bytes}, Pieces.{OnlyHelds}, Flows.{facts_of}};
+ghost use Rattle.board_face.specs.declared.views.app.HeldPiece.{HeldPiece};
+ghost use Rattle.flow_queues.specs.{Core.{HoldsApart, total, over_kept, short_bytes}, Pieces.{OnlyHelds}, Flows.{facts_of}};
 
 use crate::queues::{FlowQueue, Waiting, give_back};
 use board_face::AppFace;
@@ -9,8 +9,7 @@ use tcp_reorder::RecvQueue;
 
 /// Gives up all pieces of a queue.
 fn release_kept<F: AppFace>(face: &mut F, queue: &mut RecvQueue<Waiting>)
-    requires here { IsHere (F.seen face.old) }
-    requires apart { LieApart (F.seen face.old) }
+    requires holds { HoldsApart (F.seen face.old) }
     requires out { (f : HeldPiece → ℕ) → over_kept f queue.old ≤ total f (F.seen face.old).helds }
     ensures only { OnlyHelds (F.seen face.old) (F.seen face.new) (λ f. over_kept f queue.old)
         (λ f. 0) }
@@ -25,8 +24,7 @@ fn release_kept<F: AppFace>(face: &mut F, queue: &mut RecvQueue<Waiting>)
 
 /// Gives up all pieces of all flows.
 pub fn release_all<F: AppFace>(face: &mut F, flows: &mut Vec<FlowQueue>)
-    requires here { IsHere (F.seen face.old) }
-    requires apart { LieApart (F.seen face.old) }
+    requires holds { HoldsApart (F.seen face.old) }
     requires out { (f : HeldPiece → ℕ)
         → total f (F.seen face.old).helds ≡ total (λ flow. over_kept f flow.queue) flows.old.items }
     ensures view { F.seen face.new ≡ record (F.seen face.old) { helds = [] } }

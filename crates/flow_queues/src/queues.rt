@@ -2,8 +2,8 @@
 ghost use Rattle.std.specs.Prelude.{◌≡◌, true, false, ◌+◌, ◌-◌, ◌^◌, ◌<◌, ◌≤◌, IfSome, OnOk, List, Some, slice_get};
 ghost use Rattle.zr_kinds.specs.CopyingReceiver.{Placed};
 ghost use Rattle.tcp_reorder.specs.Values.{Holds};
-ghost use Rattle.board_face.specs.{AppCalls.{IsHere}, Texts.{IsSplitNote}, declared.views.app.TakenNote.{TakenNote}};
-ghost use Rattle.flow_queues.specs.{Marks.{Mark}, Core.{LieApart, IsIn, total, held_piece, over_kept, marks_of_waiting, received_note, short_bytes, IsOfNote, Each, held_len}, Pieces.{OnlyHelds, GaveFront, CutFirst, whole_piece, over_others, IsOut, given_back}, Lent.{is_short}};
+ghost use Rattle.board_face.specs.declared.views.app.TakenNote.{TakenNote};
+ghost use Rattle.flow_queues.specs.{Marks.{Mark}, Core.{HoldsApart, IsIn, held_piece, marks_of_waiting, received_note, IsOfNote, Each}, Pieces.{CameWith, OnlyHelds, GaveFront, CutFirst, whole_piece, over_others, IsOut, given_back}, Lent.{is_short}, Taking.{EntersPiece}};
 
 use board_face::{AppFace, Held, Loan};
 use tcp_reorder::RecvQueue;
@@ -64,8 +64,7 @@ pub struct FlowQueue {
 
 /// Gives the first bytes of a piece up.
 fn skip<F: AppFace>(face: &mut F, piece: NotePiece, n: u32) -> NotePiece
-    requires here { IsHere (F.seen face.old) }
-    requires apart { LieApart (F.seen face.old) }
+    requires holds { HoldsApart (F.seen face.old) }
     requires out { IsIn (held_piece piece) (F.seen face.old).helds }
     requires part { n < piece.held.len }
     requires small { piece.at + piece.held.len < 2 ^ 32 }
@@ -87,8 +86,7 @@ fn skip<F: AppFace>(face: &mut F, piece: NotePiece, n: u32) -> NotePiece
 
 /// Takes the first bytes of a piece off, and the others if there are any.
 fn split<F: AppFace>(face: &mut F, piece: NotePiece, n: u32) -> (NotePiece, Option<NotePiece>)
-    requires here { IsHere (F.seen face.old) }
-    requires apart { LieApart (F.seen face.old) }
+    requires holds { HoldsApart (F.seen face.old) }
     requires out { IsIn (held_piece piece) (F.seen face.old).helds }
     requires some { 0 < n }
     requires part { n ≤ piece.held.len }
@@ -127,21 +125,14 @@ pub fn enter<F: AppFace>(
     number: u64,
     held: Held,
 ) -> Result<(), Wanting>
-    requires here { IsHere (F.seen face.old) }
-    requires apart { LieApart (F.seen face.old) }
-    requires fields { IsSplitNote note.now }
-    requires place { held ≡ note.now.place }
-    requires out { IsIn (held_piece (whole_piece number held)) (F.seen face.old).helds }
-    ensures only { OnlyHelds (F.seen face.old) (F.seen face.new)
-        (λ f. f (held_piece (whole_piece number held)) + over_kept f queue.old)
-        (λ f. over_kept f queue.new) }
-    ensures fewer { total held_len (F.seen face.new).helds
-        ≤ total held_len (F.seen face.old).helds }
+    requires holds { HoldsApart (F.seen face.old) }
+    requires came { CameWith (F.seen face.old) note.now number held }
+    ensures some { EntersPiece (F.seen face.old) (F.seen face.new) queue.old queue.new
+        (whole_piece number held) }
     ensures same { (queue.new.base ≡ queue.old.base) × (queue.new.popped ≡ queue.old.popped) }
     ensures enters { OnOk result ((placed : Placed Mark) → Holds marks_of_waiting queue.old placed →
         Holds marks_of_waiting queue.new
         (received_note queue.old.base placed (record { number = number; note = note.now }))) }
-    ensures short { short_bytes queue.new ≡ short_bytes queue.old }
     ensures notes { (taken : List TakenNote) (t : TakenNote) → slice_get taken number ≡ Some t
         → t.note.split ≡ true
         → Each (λ k. IsOfNote taken k.piece) queue.old.kept
@@ -181,8 +172,7 @@ pub fn enter<F: AppFace>(
 
 /// Gives up what was to wait: a piece in the area is released.
 pub fn give_back<F: AppFace>(face: &mut F, waiting: Waiting)
-    requires here { IsHere (F.seen face.old) }
-    requires apart { LieApart (F.seen face.old) }
+    requires holds { HoldsApart (F.seen face.old) }
     requires out { IsOut (F.seen face.old) waiting }
     ensures view { F.seen face.new ≡ given_back (F.seen face.old) waiting }
     ensures beside { F.beside face.new ≡ F.beside face.old }
@@ -195,8 +185,7 @@ pub fn give_back<F: AppFace>(face: &mut F, waiting: Waiting)
 
 /// Gives a piece up, if there is one.
 fn give_up<F: AppFace>(face: &mut F, piece: Option<NotePiece>)
-    requires here { IsHere (F.seen face.old) }
-    requires apart { LieApart (F.seen face.old) }
+    requires holds { HoldsApart (F.seen face.old) }
     requires out { IfSome piece (λ p. IsIn (held_piece p) (F.seen face.old).helds) }
     ensures only { OnlyHelds (F.seen face.old) (F.seen face.new) (λ f. over_others f piece)
         (λ f. 0) }

@@ -1,9 +1,9 @@
 //! A short payload enters its flow's queue.
-ghost use Rattle.std.specs.Prelude.{◌≡◌, false, ℕ, ◌+◌, ◌≤◌, List, length, OnOk, Some, slice_get};
-ghost use Rattle.board_face.specs.{Texts.{IsLinearNote}, declared.views.app.{HeldPiece.{HeldPiece}, TakenNote.{TakenNote}}};
+ghost use Rattle.std.specs.Prelude.{◌≡◌, false, List, length, OnOk, Some, slice_get};
+ghost use Rattle.board_face.specs.{Texts.{IsLinearNote}, declared.views.app.TakenNote.{TakenNote}};
 ghost use Rattle.tcp_reorder.specs.Values.{Holds};
 ghost use Rattle.zr_kinds.specs.CopyingReceiver.{Placed};
-ghost use Rattle.flow_queues.specs.{Marks.{Mark}, Core.{over_kept, short_bytes, marks_of_waiting, received_note, IsOfNote, Each}};
+ghost use Rattle.flow_queues.specs.{Marks.{Mark}, Core.{marks_of_waiting, received_note, IsOfNote, Each}, Taking.{EntersPayload}};
 
 use crate::queues::{Short, Waiting, Wanting};
 use std::alloc::Global;
@@ -20,8 +20,7 @@ pub fn enter_short(
 ) -> Result<(), Wanting>
     requires fields { IsLinearNote note.now }
     requires payload { length payload.now ≡ note.now.total }
-    ensures over { (f : HeldPiece → ℕ) → over_kept f queue.new ≡ over_kept f queue.old }
-    ensures short { short_bytes queue.new ≤ short_bytes queue.old + note.now.total }
+    ensures some { EntersPayload queue.old queue.new note.now }
     ensures same { (queue.new.base ≡ queue.old.base) × (queue.new.popped ≡ queue.old.popped) }
     ensures enters { OnOk result ((placed : Placed Mark) → Holds marks_of_waiting queue.old placed →
         Holds marks_of_waiting queue.new

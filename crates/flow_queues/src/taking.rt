@@ -1,8 +1,8 @@
 //! A note is taken: what its flow wants of it enters the flow's queue, which is made where there is none.
 ghost use Rattle.std.specs.Prelude.{◌≡◌, ℕ, ◌+◌, List, MatchResult, length, take};
 ghost use Rattle.zr_kinds.specs.declared.ring.Completion.{Completion};
-ghost use Rattle.board_face.specs.{AppCalls.{IsHere, TookNote, TookLinear}, declared.views.app.AppView.{AppView}, Texts.{IsLinearNote, IsSplitNote}};
-ghost use Rattle.flow_queues.specs.{declared.queues.Lending.{Lending}, Core.{IsIn, LieApart, held_piece, HasTokens, Stands}, Pieces.{whole_piece}, Flows.{IsIndex}, Taking.{TakesPiece, LosesPiece, TakesPayload, LosesPayload}};
+ghost use Rattle.board_face.specs.{AppCalls.{TookNote, TookLinear}, declared.views.app.AppView.{AppView}, Texts.{IsLinearNote}};
+ghost use Rattle.flow_queues.specs.{declared.queues.Lending.{Lending}, Core.{HoldsApart, HasTokens, Stands}, Pieces.{CameWith}, Flows.{IsIndex}, Taking.{TakesPiece, LosesPiece, TakesPayload, LosesPayload}};
 
 use crate::places::place_for;
 use crate::queues::{FlowQueue, Wanting, enter};
@@ -23,11 +23,8 @@ pub fn take_piece<F: AppFace>(
     number: u64,
     held: Held,
 ) -> Result<usize, Wanting>
-    requires here { IsHere (F.seen face.old) }
-    requires apart { LieApart (F.seen face.old) }
-    requires fields { IsSplitNote note.now }
-    requires place { held ≡ note.now.place }
-    requires out { IsIn (held_piece (whole_piece number held)) (F.seen face.old).helds }
+    requires holds { HoldsApart (F.seen face.old) }
+    requires came { CameWith (F.seen face.old) note.now number held }
     requires index { IsIndex index.old.entries flows.old.items }
     ensures takes { MatchResult result
         (λ i. TakesPiece (F.seen face.old) (F.seen face.new) flows.old.items flows.new.items

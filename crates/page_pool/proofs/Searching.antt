@@ -1,7 +1,7 @@
 -- One more ring was drained, or one more word swept.
-use Rattle.std.proofs.Common.{◌≡◌, ℕ, zero, suc, ◌+◌, ◌-◌, ◌<◌, ◌≤◌, ◌^◌, ◌⊎◌, inl, inr, List, [], ◌∷◌, ◌++◌}
-use Rattle.std.proofs.Common.{length, append_assoc, length-append, refl, sym, ◌∙◌, ap, arith, below_more, ⊎_elim, min, Bool, true, false}
-use Rattle.std.{specs.{Prelude.{◌≢◌, MatchBool, ◌||◌, nat_eq}, List.{list_any, range_with_len}}, proofs.lemmas.Bool.{true≢false, cases_lt, cases_Bool, eq-eqb}}
+use Rattle.std.proofs.Common.{◌≡◌, ℕ, zero, suc, ◌+◌, ◌<◌, ◌≤◌, ◌⊎◌, inl, inr, List, [], ◌∷◌, ◌++◌}
+use Rattle.std.proofs.Common.{length, append_assoc, length-append, refl, sym, ◌∙◌, ap, arith, below_more, ⊎_elim, Bool, true, false}
+use Rattle.std.{specs.{Prelude.{◌≢◌, ◌||◌, nat_eq}, List.{list_any, range_with_len}}, proofs.lemmas.Bool.{true≢false, cases_lt, cases_Bool, eq-eqb}}
 use Rattle.std.proofs.{Math.Bool.{or-true}, lemmas.List.{append-nil, Folds.{list_any-append}}}
 use Rattle.zr_kinds.specs.declared.outcome.PoolStats.{PoolStats}
 use Rattle.area_layout.specs.Layout.{pool_buffers}
@@ -9,7 +9,7 @@ use Rattle.board_face.specs.{Looks.{NicRose, same_nic_look, NicLooksStay}, NicEv
 use Rattle.board_face.specs.{NicCalls.{apps_of, free_words_of, HasSweptAll, lost_of, sent_unsplit_bytes, SweptWord}, declared.views.nic.Dealt.{Dealt}}
 use Rattle.board_face.{specs.declared.views.nic.{NicLook.TheVariants.{RingEmpty, Swept}, NicView.{NicView}}, proofs.LostLemmas.{buffers-accounted}}
 use Rattle.board_face.proofs.LookLemmas.{NicLooksStay-same, NicLooksStay-trans, NicRose-later, NicRose-before, times-more}
-use Rattle.page_pool.specs.{Dealing.{DealsWith, IsRaised}, Gathering.{DrainsRing, Gathers, HasAtMost, RefillsFirst, SweepsFirst}}
+use Rattle.page_pool.specs.{Dealing.{DealsWith}, Gathering.{DrainsRing, Gathers, HasAtMost, RefillsFirst, SweepsFirst}}
 use Rattle.page_pool.specs.{Searching.{enough, AreRingsDone, AreSwept, AreToldOf, Searches}}
 use Rattle.page_pool.specs.declared.search_end.SearchEnd.{SearchEnd, TheVariants.{Fast, Refill, Slow, Empty}}
 use Rattle.page_pool.proofs.Entries.{CountsStrays-none, CachesFreed-none, CachesFreed-trans}

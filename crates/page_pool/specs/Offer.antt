@@ -1,9 +1,9 @@
 -- What becomes of a frame that is offered.
 use Rattle.std.specs.Prelude.{◌≡◌, ◌≢◌, ℕ, ◌+◌, ◌-◌, ◌<◌, ◌≤◌, nat_le, true, false, if◌then◌else◌, List, [], ◌∷◌, ◌++◌}
 use Rattle.std.specs.Prelude.{length, map, take, drop, reverse, slice_index, Option, Some, None}
-use Rattle.zr_kinds.specs.declared.{place.{Note.{Note}, Place.{Place}}, outcome.PoolStats.{PoolStats}}
+use Rattle.zr_kinds.specs.{Limits.{longest_payload}, declared.{place.{Note.{Note}, Place.{Place}}, outcome.PoolStats.{PoolStats}}}
 use Rattle.area_layout.specs.Layout.{pool_buffers, least_size, size_of}
-use Rattle.board_face.specs.{Looks.{NicRose, NicLooksStay}, NicEvents.{fresh}, NicCalls.{Closed, HasSweptAll, sent_unsplit_bytes}, Tokens.{filled_by}}
+use Rattle.board_face.specs.{Looks.{NicRose, NicLooksStay}, NicEvents.{fresh}, NicCalls.{apps_of, IsOpen, Closed, HasSweptAll, sent_unsplit_bytes}, Tokens.{filled_by}}
 use Rattle.board_face.specs.declared.views.{parts.{Setting.{Setting}, Filling.{Filling}}, nic.{NicLook.TheVariants.{NoteInUse}, SentNote.{SentNote}, NicView.{NicView}}}
 use Rattle.page_pool.specs.{declared.offer.{Offer.{Offer}, Verdict.{Verdict, TheVariants.{Accepted, NoRoom, Busy}}}, Frames.{offered, ShowsFrame}}
 use Rattle.page_pool.specs.Packing.{Current, Target, Part, fits, needed, packing, taken, current as in_current, fresh as in_fresh}
@@ -56,6 +56,13 @@ split_notes o at (p ∷ ps) =
 abbrev pub frame_notes : ℕ → Offer → List Place → List SentNote
 frame_notes split o places =
     if nat_le (len_of o) split then record { app = o.app; note = short_note o; bytes = payload_of o } ∷ [] else split_notes o 0 places
+
+-- The card may offer this: it has not ended, the application is one of the board's, and the payload has 1 to 65,515 bytes.
+pub record MayOffer (v : NicView) (o : Offer) : Type 0 where
+  pub open_is : IsOpen v
+  pub app : o.app < apps_of v.setting
+  pub some : 0 < len_of o
+  pub most : len_of o ≤ longest_payload
 
 -- ---- the buffers of a frame
 

@@ -1,7 +1,7 @@
 -- Parts of a payload that were placed.
 use Rattle.std.specs.Prelude.{◌≡◌, ◌≢◌, ℕ, zero, suc, ◌+◌, ◌-◌, ◌%◌, ◌<◌, ◌≤◌, min, true, false, List, [], ◌∷◌}
 use Rattle.std.specs.Prelude.{◌++◌, length, map, reverse, sum_by, take, All, ◌⊎◌, Option, Some, None}
-use Rattle.zr_kinds.specs.declared.place.Place.{Place}
+use Rattle.zr_kinds.specs.{Limits.{longest_payload}, declared.place.Place.{Place}}
 use Rattle.board_face.specs.{Looks.{NicLooksStay}, Texts.{IsSplitNote}, Tokens.{next_place, filled_by}, NicCalls.{apps_of, HasNothingIn}}
 use Rattle.board_face.specs.{declared.views.{parts.Filling.{Filling}, nic.NicView.{NicView}}, NicEvents.{placed}}
 use Rattle.page_pool.specs.{declared.{pool.{Pending.{Pending}, Short.{Short}}, offer.Offer.{Offer}}, Pool.{PoolState, PoolStands, piece_notes}}
@@ -20,6 +20,12 @@ pub record PiecesStand (pieces : List Pending) (v : NicView) : Type 0 where
 -- the note of a part, with its piece
 abbrev pub part_of : Offer → ℕ → Place → Pending
 part_of o at place = record { app = o.app; note = split_note o at place; piece = place }
+
+-- So many bytes from `at` on are a part of the payload, which is no longer than 65,515 bytes.
+pub record IsPart (o : Offer) (at len : ℕ) : Type 0 where
+  pub some : 0 < len
+  pub within : at + len ≤ len_of o
+  pub most : len_of o ≤ longest_payload
 
 -- where the parts of so many bytes lie in these fresh buffers
 abbrev pub fresh_places : Shape → List ℕ → ℕ → List Place

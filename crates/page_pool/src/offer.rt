@@ -1,7 +1,7 @@
 ghost use Rattle.std.specs.Prelude.{◌≡◌, ℕ, ◌<◌, ◌≤◌, [], length, None, Some, MatchBool, MatchResult, option_to_list};
 ghost use Rattle.zr_kinds.specs.Limits.{longest_payload};
 ghost use Rattle.board_face.specs.{Looks.{NicRose}, NicCalls.{apps_of, IsOpen, NicOnlySaw}, NicEvents.{nic_gist, sent_linear}, declared.views.nic.NicLook.TheVariants.{NoteInUse}};
-ghost use Rattle.page_pool.specs.{declared.pool.Short.{Short as TheShort}, Pool.{PoolStands, HasNonePending, IsNextApp}, Offer.{Offers, KeepsRest, ClosesCurrent, short_note}, Placing.{FillsCurrent, LeavesCurrent, PlacesSplit, LacksRoom, KeepsShort}};
+ghost use Rattle.page_pool.specs.{declared.pool.Short.{Short as TheShort}, Pool.{PoolStands, HasNonePending, IsNextApp}, Offer.{MayOffer, Offers, KeepsRest, ClosesCurrent, short_note}, Placing.{FillsCurrent, LeavesCurrent, PlacesSplit, LacksRoom, KeepsShort}};
 
 use crate::pieces::PendingPieces;
 use crate::placing::{place_fresh, place_part};
@@ -142,12 +142,9 @@ pub(crate) fn place_split<F: NicFace>(
     pool: &mut Pool,
     offer: &Offer<'_>,
 ) -> Result<(), Shortage>
-    requires open { IsOpen (F.seen face.old) }
+    requires offer { MayOffer (F.seen face.old) offer.now }
     requires stands { PoolStands pool.old (F.seen face.old) }
     requires none { HasNonePending pool.old }
-    requires app { offer.now.app < apps_of (F.seen face.old).setting }
-    requires some { 0 < length offer.now.payload.now }
-    requires most { length offer.now.payload.now ≤ longest_payload }
     ensures answer { MatchResult result
         (λ _. PlacesSplit pool.old pool.new (F.seen face.old) (F.seen face.new) offer.now)
         (λ short. LacksRoom pool.old pool.new (F.seen face.old) (F.seen face.new) offer.now
@@ -177,11 +174,8 @@ pub(crate) fn place_split<F: NicFace>(
 /// travels in its note; a longer one is placed in the area, by packing. Where fresh buffers are needed their search is counted, as
 /// one with what was searched ahead for the frame.
 pub fn nic_offer<F: NicFace>(face: &mut F, pool: &mut Pool, offer: &Offer<'_>) -> Verdict
-    requires open { IsOpen (F.seen face.old) }
+    requires offer { MayOffer (F.seen face.old) offer.now }
     requires stands { PoolStands pool.old (F.seen face.old) }
-    requires app { offer.now.app < apps_of (F.seen face.old).setting }
-    requires some { 0 < length offer.now.payload.now }
-    requires most { length offer.now.payload.now ≤ longest_payload }
     ensures stands { PoolStands pool.new (F.seen face.new) }
     ensures offers { Offers pool.old pool.new (F.seen face.old) (F.seen face.new) offer.now result }
     ensures rest { KeepsRest (F.seen face.old) (F.seen face.new) }

@@ -1,8 +1,7 @@
 ghost use Rattle.std.specs.Prelude.{◌≡◌, ◌+◌, ◌<◌, ◌≤◌, [], ◌∷◌, ◌++◌, length, take, drop, option_to_list};
-ghost use Rattle.zr_kinds.specs.Limits.{longest_payload};
 ghost use Rattle.area_layout.specs.Layout.{IsLayout, least_size};
-ghost use Rattle.board_face.specs.{NicCalls.{apps_of, IsOpen}, NicEvents.{placed}, Tokens.{next_place, filled_by}};
-ghost use Rattle.page_pool.specs.{Packing.{buffers_for}, Placing.{part_of, FillsFresh}};
+ghost use Rattle.board_face.specs.{NicCalls.{IsOpen}, NicEvents.{placed}, Tokens.{next_place, filled_by}};
+ghost use Rattle.page_pool.specs.{Offer.{MayOffer}, Packing.{buffers_for}, Placing.{IsPart, part_of, FillsFresh}};
 
 use crate::pieces::PendingPieces;
 use crate::{Offer, Pending};
@@ -20,9 +19,7 @@ pub(crate) fn place_part<F: NicFace>(
 )
     requires open { IsOpen (F.seen face.old) }
     requires out { (F.seen face.old).owns ≡ own.old ∷ [] }
-    requires some { 0 < len }
-    requires within { at + len ≤ length offer.now.payload.now }
-    requires most { length offer.now.payload.now ≤ longest_payload }
+    requires part { IsPart offer.now at len }
     requires fits { own.old.start + len ≤ own.old.size }
     requires room { length pieces.old < 64 }
     ensures view { F.seen face.new
@@ -57,12 +54,9 @@ pub(crate) fn place_fresh<F: NicFace>(
     pieces: &mut PendingPieces,
     offer: &Offer<'_>,
 ) -> Option<Own>
-    requires open { IsOpen (F.seen face.old) }
+    requires offer { MayOffer (F.seen face.old) offer.now }
     requires out { ((F.seen face.old).owns ≡ []) × ((F.seen face.old).pieces ≡ [])
         × (pieces.old ≡ []) }
-    requires app { offer.now.app < apps_of (F.seen face.old).setting }
-    requires some { 0 < length offer.now.payload.now }
-    requires most { length offer.now.payload.now ≤ longest_payload }
     requires sound { IsLayout (F.seen face.old).setting.layout }
     requires few { buffers_for (least_size (F.seen face.old).setting.layout)
         (length offer.now.payload.now) ≤ 64 }

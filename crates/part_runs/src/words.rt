@@ -1,11 +1,7 @@
-ghost use Rattle.std.specs.Prelude.{◌≡◌, ◌≤◌, ◌<◌, ◌+◌, true, false, [], length};
-ghost use Rattle.word_rings.specs.Texts.{text_count};
+ghost use Rattle.std.specs.Prelude.{◌≡◌, ◌≤◌, ◌+◌, true, false, [], length};
 
 use std::process::Abort;
-use word_rings::{
-    NOTE_FIELDS, bytes_of_word, note_read, note_words, payload_read, refill_read, refill_words,
-    text_word,
-};
+use word_rings::{NOTE_FIELDS, note_read, note_words, payload_read, refill_read, refill_words};
 use zr_kinds::{Note, Place, Rqe};
 
 /// How many notes and entries are drawn.
@@ -116,13 +112,6 @@ fn expect_entry_back(rt: &impl Abort, state: &mut u32) {
     assert!(rt; refill_read(&refill_words(&entry)) == entry);
 }
 
-/// Word `k` of a text is this one.
-fn expect_text_word(rt: &impl Abort, text: &[u8], k: usize, word: u64)
-    requires { k < text_count (length text.now) }
-{
-    assert!(rt; text_word(text, k) == word, "word {k}");
-}
-
 #[test]
 fn the_words_of_a_note(rt: HostRuntime) {
     let note = Note {
@@ -183,12 +172,4 @@ fn drawn_entries_come_back(rt: HostRuntime) {
     for _ in 0..DRAWN {
         expect_entry_back(&rt, &mut state);
     }
-}
-
-#[test]
-fn the_words_of_a_text(rt: HostRuntime) {
-    let text = b"abcdefghi";
-    expect_text_word(&rt, text, 0, u64::from_le_bytes(*b"abcdefgh"));
-    expect_text_word(&rt, text, 1, u64::from(b'i'));
-    assert!(rt; bytes_of_word(text_word(text, 0)) == *b"abcdefgh");
 }

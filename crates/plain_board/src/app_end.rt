@@ -1,6 +1,6 @@
 ghost use Rattle.std.specs.Prelude.{◌≡◌, ◌<◌};
 ghost use Rattle.board_face.specs.{AppCalls.{IsHere, CanScrub, CanLeave}, AppEvents.{scrubbed, left_board}};
-ghost use Rattle.plain_board.specs.{Events.{TookOwed}, Stand.{side_of, others_of}};
+ghost use Rattle.plain_board.specs.{Events.{TookOwed}, Stand.{side_of, others_of, OnlyView}};
 
 use crate::contents::Contents;
 use board_parts::{note_at, put, take_back};
@@ -34,9 +34,7 @@ impl Contents {
         requires here { IsHere (side_of self.old app).view }
         requires can { CanLeave (side_of self.old app).view }
         ensures view { (side_of self.new app).view ≡ left_board (side_of self.old app).view }
-        ensures inside { (side_of self.new app).inside ≡ (side_of self.old app).inside }
-        ensures others { others_of self.new app ≡ others_of self.old app }
-        ensures layout { self.new.arrays.layout ≡ self.old.arrays.layout }
+        ensures only { OnlyView self.old self.new app }
     {
         put(&mut self.left, app as usize, true);
         note_at::<Brand, ()>(&mut self.apps, app as usize, ());

@@ -1,6 +1,6 @@
 ghost use Rattle.std.specs.Prelude.{◌≡◌, ◌<◌, true, false, IfErr, IsTrue, MatchBool, MatchResult};
 ghost use Rattle.board_face.specs.{declared.views.app.AppLook.TheVariants.{RefillInUse, RawOnItsWay, NotQuiet}, AppCalls.{IsHere, NamesNoLoan, AppOnlySaw}, AppEvents.{pushed_raw, came_to_rest, fell_quiet}, NotNow.{HasWritten, HasWrittenRingful, HasPushedRaw}};
-ghost use Rattle.plain_board.specs.{Stand.{side_of, others_of}, Seen.{AppSawSo}};
+ghost use Rattle.plain_board.specs.{Stand.{side_of, OnlyView}, Seen.{AppSawSo}};
 
 use crate::contents::Contents;
 use board_parts::{note_at, put, put_back, ring_len};
@@ -20,9 +20,7 @@ impl Contents {
             (side_of self.new app).view) }
         ensures full { IfErr result (λ _. HasWrittenRingful (side_of self.old app).view) }
         ensures told { AppSawSo self.old self.new app }
-        ensures inside { (side_of self.new app).inside ≡ (side_of self.old app).inside }
-        ensures others { others_of self.new app ≡ others_of self.old app }
-        ensures layout { self.new.arrays.layout ≡ self.old.arrays.layout }
+        ensures only { OnlyView self.old self.new app }
     {
         if !put_back(&mut self.refills, app as usize, entry) {
             note_at::<Brand, ()>(&mut self.apps, app as usize, ());
@@ -44,9 +42,7 @@ impl Contents {
         ensures raw { result ≡ false → HasPushedRaw (side_of self.old app).view }
         ensures told { AppSawSo self.old self.new app }
         ensures still { (side_of self.old app).view.settled ≡ true → IsTrue result }
-        ensures inside { (side_of self.new app).inside ≡ (side_of self.old app).inside }
-        ensures others { others_of self.new app ≡ others_of self.old app }
-        ensures layout { self.new.arrays.layout ≡ self.old.arrays.layout }
+        ensures only { OnlyView self.old self.new app }
     {
         let settled = self.raw[app as usize] == 0;
         note_at::<Brand, bool>(&mut self.apps, app as usize, settled);
@@ -62,9 +58,7 @@ impl Contents {
             (AppOnlySaw NotQuiet (side_of self.old app).view (side_of self.new app).view) }
         ensures some { result ≡ false → HasWritten (side_of self.old app).view }
         ensures told { AppSawSo self.old self.new app }
-        ensures inside { (side_of self.new app).inside ≡ (side_of self.old app).inside }
-        ensures others { others_of self.new app ≡ others_of self.old app }
-        ensures layout { self.new.arrays.layout ≡ self.old.arrays.layout }
+        ensures only { OnlyView self.old self.new app }
     {
         let quiet = ring_len(self.refills.as_slice(), app as usize) == 0;
         note_at::<Brand, bool>(&mut self.apps, app as usize, quiet);

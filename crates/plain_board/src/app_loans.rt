@@ -1,6 +1,6 @@
 ghost use Rattle.std.specs.Prelude.{◌≡◌, ◌+◌, ◌<◌, ◌≤◌, ◌↔◌, length, IfErr, IsTrue, MatchResult};
 ghost use Rattle.board_face.specs.{declared.views.app.AppLook.TheVariants.{RefillInUse}, AppCalls.{IsHere, HasLoan, IsLive, AppOnlySaw, ShowsCopy}, AppEvents.{has_read, loan_origin, gave, abandoned}, NotNow.{HasWrittenRingful}};
-ghost use Rattle.plain_board.specs.{Stand.{side_of, others_of}, Seen.{AppSawSo}};
+ghost use Rattle.plain_board.specs.{Stand.{side_of, OnlyView}, Seen.{AppSawSo}};
 
 use crate::contents::Contents;
 use board_face::Loan;
@@ -19,9 +19,7 @@ impl Contents {
             ≡ has_read (side_of self.old app).view loan.now from into.new }
         ensures copied { ShowsCopy (loan_origin (side_of self.old app).view loan.now) from
             into.new }
-        ensures inside { (side_of self.new app).inside ≡ (side_of self.old app).inside }
-        ensures others { others_of self.new app ≡ others_of self.old app }
-        ensures layout { self.new.arrays.layout ≡ self.old.arrays.layout }
+        ensures only { OnlyView self.old self.new app }
     {
         let place = loan.place();
         let at = self.layout.byte_of(&place) as usize + from as usize;
@@ -40,9 +38,7 @@ impl Contents {
             (side_of self.new app).view) }
         ensures full { IfErr result (λ _. HasWrittenRingful (side_of self.old app).view) }
         ensures told { AppSawSo self.old self.new app }
-        ensures inside { (side_of self.new app).inside ≡ (side_of self.old app).inside }
-        ensures others { others_of self.new app ≡ others_of self.old app }
-        ensures layout { self.new.arrays.layout ≡ self.old.arrays.layout }
+        ensures only { OnlyView self.old self.new app }
     {
         let place = loan.place();
         let entry = Rqe {
@@ -66,9 +62,7 @@ impl Contents {
         requires here { IsHere (side_of self.old app).view }
         requires out { HasLoan (side_of self.old app).view loan }
         ensures view { (side_of self.new app).view ≡ abandoned (side_of self.old app).view loan }
-        ensures inside { (side_of self.new app).inside ≡ (side_of self.old app).inside }
-        ensures others { others_of self.new app ≡ others_of self.old app }
-        ensures layout { self.new.arrays.layout ≡ self.old.arrays.layout }
+        ensures only { OnlyView self.old self.new app }
     {
         let place = loan.place();
         let user = user_index(&self.layout, app, place.buffer);

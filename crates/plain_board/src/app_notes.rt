@@ -1,6 +1,6 @@
 ghost use Rattle.std.specs.Prelude.{◌≡◌, ◌<◌, false};
 ghost use Rattle.board_face.specs.{AppCalls.{IsHere, Looked}, declared.answers.Polled.TheVariants.{Empty as got_none}};
-ghost use Rattle.plain_board.specs.{Stand.{side_of, others_of}, Seen.{AppSawSo}};
+ghost use Rattle.plain_board.specs.{Stand.{side_of, OnlyView}, Seen.{AppSawSo}};
 
 use crate::contents::Contents;
 use board_face::{Held, Polled};
@@ -17,9 +17,7 @@ impl Contents {
             result }
         ensures untold { result ≡ got_none → (side_of self.old app).view.ended ≡ false }
         ensures told { AppSawSo self.old self.new app }
-        ensures inside { (side_of self.new app).inside ≡ (side_of self.old app).inside }
-        ensures others { others_of self.new app ≡ others_of self.old app }
-        ensures layout { self.new.arrays.layout ≡ self.old.arrays.layout }
+        ensures only { OnlyView self.old self.new app }
     {
         let Some(slot) = take_front(&mut self.notes, app as usize) else {
             let ended = self.ended;

@@ -1,6 +1,6 @@
 ghost use Rattle.std.specs.Prelude.{◌≡◌, ◌<◌};
 ghost use Rattle.board_face.specs.{AppCalls.{IsHere, HasHeld, CanLend}, AppEvents.{cut, released, lent}, Texts.{front_place, rest_place}};
-ghost use Rattle.plain_board.specs.Stand.{side_of, others_of};
+ghost use Rattle.plain_board.specs.Stand.{side_of, OnlyView};
 
 use crate::contents::Contents;
 use board_face::{Held, Loan};
@@ -18,9 +18,7 @@ impl Contents {
         requires rest { at < held.len }
         ensures places { (result.0 ≡ front_place held at) × (result.1 ≡ rest_place held at) }
         ensures view { (side_of self.new app).view ≡ cut (side_of self.old app).view held at }
-        ensures inside { (side_of self.new app).inside ≡ (side_of self.old app).inside }
-        ensures others { others_of self.new app ≡ others_of self.old app }
-        ensures layout { self.new.arrays.layout ≡ self.old.arrays.layout }
+        ensures only { OnlyView self.old self.new app }
     {
         let place = held.place();
         raise(&mut self.pool, place.buffer as usize);
@@ -42,9 +40,7 @@ impl Contents {
         requires can { CanLend (side_of self.old app).view }
         ensures place { result ≡ held }
         ensures view { (side_of self.new app).view ≡ lent (side_of self.old app).view held }
-        ensures inside { (side_of self.new app).inside ≡ (side_of self.old app).inside }
-        ensures others { others_of self.new app ≡ others_of self.old app }
-        ensures layout { self.new.arrays.layout ≡ self.old.arrays.layout }
+        ensures only { OnlyView self.old self.new app }
     {
         let place = held.place();
         let user = user_index(&self.layout, app, place.buffer);
@@ -60,9 +56,7 @@ impl Contents {
         requires here { IsHere (side_of self.old app).view }
         requires out { HasHeld (side_of self.old app).view held }
         ensures view { (side_of self.new app).view ≡ released (side_of self.old app).view held }
-        ensures inside { (side_of self.new app).inside ≡ (side_of self.old app).inside }
-        ensures others { others_of self.new app ≡ others_of self.old app }
-        ensures layout { self.new.arrays.layout ≡ self.old.arrays.layout }
+        ensures only { OnlyView self.old self.new app }
     {
         let place = held.place();
         let left = lower(&mut self.pool, place.buffer as usize);

@@ -1,6 +1,6 @@
 ghost use Rattle.std.specs.Prelude.{◌≡◌, ◌<◌, ◌≤◌, length, IfNone, IfSome, MatchOption};
 ghost use Rattle.board_face.specs.{declared.views.app.AppLook.TheVariants.{NoSpare}, Tokens.{filled_by}, AppCalls.{IsHere, HasSpare, CanLend, MaySpare, IsFilled, AppOnlySaw, GotSpare}, NotNow.{HasUsedReserve}, AppEvents.{app_gist, filled, own_bytes, begin_place, lent_own}, Counts.{pool_count}};
-ghost use Rattle.plain_board.specs.{Stand.{side_of, others_of}, Seen.{AppSawSo, IsFoundLowest}};
+ghost use Rattle.plain_board.specs.{Stand.{side_of, others_of, OnlyView}, Seen.{AppSawSo, IsFoundLowest}};
 
 use crate::contents::Contents;
 use board_face::{Filling, Loan, Own};
@@ -24,9 +24,7 @@ impl Contents {
             (λ own. IsFoundLowest own.buffer (app_gist (side_of self.old app).view)
             (others_of self.old app)) }
         ensures told { AppSawSo self.old self.new app }
-        ensures inside { (side_of self.new app).inside ≡ (side_of self.old app).inside }
-        ensures others { others_of self.new app ≡ others_of self.old app }
-        ensures layout { self.new.arrays.layout ≡ self.old.arrays.layout }
+        ensures only { OnlyView self.old self.new app }
     {
         let reserve = self.layout.buffers() + app;
         let Some(buffer) = pick_spare(&mut self.listed, self.pool.as_slice(), reserve) else {
@@ -51,9 +49,7 @@ impl Contents {
         ensures own { own.new ≡ filled_by own.old (length bytes.now) }
         ensures view { (side_of self.new app).view
             ≡ filled (side_of self.old app).view own.old bytes.now }
-        ensures inside { (side_of self.new app).inside ≡ (side_of self.old app).inside }
-        ensures others { others_of self.new app ≡ others_of self.old app }
-        ensures layout { self.new.arrays.layout ≡ self.old.arrays.layout }
+        ensures only { OnlyView self.old self.new app }
     {
         let filling = filling_of(own);
         let place = Place {
@@ -78,9 +74,7 @@ impl Contents {
         ensures place { result ≡ begin_place own.buffer
             (length (own_bytes (side_of self.old app).view own)) }
         ensures view { (side_of self.new app).view ≡ lent_own (side_of self.old app).view own }
-        ensures inside { (side_of self.new app).inside ≡ (side_of self.old app).inside }
-        ensures others { others_of self.new app ≡ others_of self.old app }
-        ensures layout { self.new.arrays.layout ≡ self.old.arrays.layout }
+        ensures only { OnlyView self.old self.new app }
     {
         let filling = filling_of(&own);
         let len = self.filled[filling.buffer as usize];

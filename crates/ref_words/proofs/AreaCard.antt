@@ -1,23 +1,23 @@
 -- The card gives the lines of the piece in the making back, with its text: counts, the free list and the slots have nothing to do with it.
-use Rattle.std.{proofs.Common.{◌≡◌, ℕ, ◌∙◌, List, length, refl, arith}, specs.Prelude.{All, Some, None}}
+use Rattle.std.{proofs.Common.{◌≡◌, ℕ, ◌∙◌, List, length, refl, arith}, specs.Prelude.{Some, None}}
 use Rattle.board_face.specs.FineSteps.{side_text_done}
 use Rattle.board_face.specs.{NicEvents.{text_done}, Tokens.{next_place}, declared.views.{parts.{Setting.{Setting}, Filling.{Filling}, Making.{Making}}}}
 use Rattle.board_face.specs.declared.views.{nic.NicSide.{NicSide}, app.AppSide.{AppSide}}
 use Rattle.board_face.proofs.{ArePlacedLemmas.{ArePlaced-text_done}, FillingsFitLemmas.{FillingsFit-making}, IsFilledByOneLemmas.{IsFilledByOne-text_done}}
 use Rattle.board_face.proofs.{MadeLastLemmas.{IsMadeLast-idle}, NicLemmas.{pool_count-text_done}, Parts.{user_count-parts, user_part}}
 use Rattle.board_face.proofs.Tallies as tallies
-use Rattle.ref_words.specs.{Words.{Words, HasSizes, listed_in}, Area.{with_lines}, Rule.{RefRule}}
+use Rattle.ref_words.specs.{Words.{Words, HasSizes, listed_in, with_lines}, Lines.{AreWide}, Rule.{RefRule}}
 use Rattle.ref_words.proofs.{CardSteps.{SidesRule-card}, Frees.{AreKept-card}, LaidLines.{length-laid, wide-laid}, LineLemmas.{AreByLine-text_done}}
 use Rattle.ref_words.proofs.{RingSteps.{rings-card, rings-words}, SlotSteps.{DifferInSlots, RefRule-slot}}
 
 -- the words with other lines of the area
 pub differ-area : (setting : Setting) (words : Words) (x : ℕ) (lines : List (List ℕ)) → HasSizes setting words
-    → All (λ line. length line ≡ 64) lines → DifferInSlots setting words (with_lines words x lines)
+    → AreWide lines → DifferInSlots setting words (with_lines words x lines)
 differ-area setting words x lines s wide =
     assumption (length-laid words.area x lines ∙ s.area, wide-laid words.area x lines s.lines wide, s)
 
 module _ (setting : Setting) (words : Words) (nic : NicSide) (apps : List AppSide) (rule : RefRule setting words nic apps) where
-  pub places-piece : (x : ℕ) (lines : List (List ℕ)) → All (λ line. length line ≡ 64) lines → (making : Making) → nic.inside.making ≡ Some making
+  pub places-piece : (x : ℕ) (lines : List (List ℕ)) → AreWide lines → (making : Making) → nic.inside.making ≡ Some making
       → (own : Filling) (bytes : List ℕ) → making.place ≡ next_place own (length bytes)
       → RefRule setting (with_lines words x lines) (side_text_done nic own bytes) apps
   places-piece x lines wide making busy own bytes place =

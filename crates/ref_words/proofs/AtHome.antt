@@ -1,7 +1,7 @@
 -- Lines that a role takes are at home: nobody else has one of them out.
 use Rattle.std.specs.Prelude.{◌≢◌, ◌==◌, Option, Some, None, IfSome}
 use Rattle.std.proofs.Common.{◌≡◌, ⊎_elim, ℕ, ◌+◌, ◌-◌, ◌*◌, ◌<◌, ◌≤◌, Bool, true, false, List, get_or, set, refl, ap, sym, ◌∙◌, subst, arith}
-use Rattle.std.proofs.lemmas.{Bool.{and_from, and_parts, cases_Bool, cases_lt, eq-eqb, leb-true, lt-ltb, ltb-true}, List.Elements.{All-contains}}
+use Rattle.std.proofs.lemmas.{Bool.{and_from, and_parts, cases_Bool, cases_lt, eq-eqb, leb-true, lt-ltb, ltb-true}, List.Elements.{All-contains}, Option.{none-some}}
 use Rattle.zr_kinds.specs.declared.place.Place.{Place}
 use Rattle.area_layout.specs.Layout.{Shape, IsLayout, LiesIn, total as all_buffers, pool_buffers}
 use Rattle.board_face.specs.{AppCalls.{HasLoan, HasSpare}, AppEvents.{begin_place}, Holders.{making_places}, NicCalls.{HasOwn}}
@@ -66,9 +66,6 @@ none-out layout l k p lies has None apart = refl
 none-out layout l k p lies has (Some making) apart =
     ⊎_elim (λ yes. absurd (apart.1 (meet layout l k p making.place lies apart.0 has yes))) (λ no. no) (cases_Bool (has_line layout k making.place))
 
-none-some : {A : Type 0} (o : Option A) (x : A) → o ≡ None → o ≡ Some x → ⊥
-none-some o x none some = let wrong : Some x ≡ None = sym some ∙ none in let no : ⊥ = cc in no
-
 then-some : {A : Type 0} (P Q : A → Type 0) (o : Option A) → IfSome o P → ((x : A) → o ≡ Some x → P x → Q x) → IfSome o Q
 then-some P Q None is so = tt
 then-some P Q (Some x) is so = so x refl is
@@ -118,7 +115,7 @@ module _ (setting : Setting) (words : Words) (nic : NicSide) (apps : List AppSid
       → other.inside.making ≡ Some making → c ≢ a
   another a c app other making here there idle busy e =
       let same : other.inside.making ≡ app.inside.making = ap (λ (y : AppSide). y.inside.making) (same-app apps c a other app e there here) in
-      none-some app.inside.making making idle (sym same ∙ busy)
+      none-some making (sym idle ∙ (sym same ∙ busy))
 
   in-test : (b : ℕ) (test : Place → Bool) (p : Place) → p.buffer ≡ b → test p ≡ true → weight (in_buffer b test p) ≡ 1
   in-test b test p e is = ap weight (and_from (p.buffer == b) (test p) (eq-eqb p.buffer b e) is)
@@ -182,7 +179,7 @@ module _ (setting : Setting) (words : Words) (nic : NicSide) (apps : List AppSid
       let in_pool = All-contains (λ (o : Filling). o.buffer < pool_buffers nic.view.setting.layout) nic.view.owns own rule.sides.fit.of_pool out in
       let lies : LiesIn nic.view.setting.layout p = record { buffer = omega (arith, in_pool); bytes = omega (arith, within, fits.1) } in
       home-from p (subst (λ (s : Setting). LiesIn s.layout p) card lies)
-      (λ making busy m. none-some nic.inside.making making idle busy)
+      (λ making busy m. none-some making (sym idle ∙ busy))
       (λ a app here making busy. (
         λ its its_out e. absurd (omega (
           arith,

@@ -1,18 +1,14 @@
 -- Lines that are laid into the area change these lines alone. The bytes of a place stand in its lines.
 use Rattle.std.proofs.Common.{◌≡◌, ⊎_elim, ℕ, zero, suc, ◌+◌, ◌-◌, ◌*◌, ◌/◌, ◌%◌, ◌<◌, ◌≤◌, min, Bool, true, false, cond, List, [], ◌∷◌, length}
-use Rattle.std.{proofs.Common.{take, drop, get_or, set, refl, ap, sym, ◌∙◌, inl, inr, arith}, specs.Prelude.{◌⊎◌, All, nat_lt}}
+use Rattle.std.{proofs.Common.{take, drop, get_or, set, refl, ap, sym, ◌∙◌, inl, inr, arith}, specs.Prelude.{◌⊎◌, nat_lt}}
 use Rattle.std.proofs.lemmas.{Bool.{cases_lt, lt-ltb, le-ltb}, List.{get_or-set_other, get_or-set_same, length-set}}
-use Rattle.std.proofs.lemmas.List.{length-take, length-drop, length-append, get_or-take, get_or-drop, get_or_append_left, get_or-append_right, ext_get_or}
+use Rattle.std.proofs.lemmas.List.{length-take, length-drop, get_or-take, get_or-drop, get_or_append_left, get_or-append_right, ext_get_or}
 use Rattle.std.proofs.lemmas.List.Elements.{All-head, All-tail, All-take, All-drop, All-set}
 use Rattle.zr_kinds.specs.declared.place.Place.{Place}
 use Rattle.area_layout.{specs.Layout.{Shape, IsLayout, LiesIn, size_of}, proofs.Words.{begins-apart}}
 use Rattle.board_face.{specs.Shown.{IsShown}, proofs.StoresAtLemmas.{StoresAt}}
-use Rattle.ref_words.specs.Lines.{joined, area_lines, line_at, byte_in, begin_line, line_count, lines_of, text_in, laid, HaveText}
-use Rattle.ref_words.proofs.AreaLines.{begin-lines, line-within}
-
--- all lines have 64 bytes
-abbrev AreWide : List (List ℕ) → Type 0
-AreWide lines = All (λ line. length line ≡ 64) lines
+use Rattle.ref_words.specs.Lines.{joined, area_lines, line_at, byte_in, begin_line, line_count, lines_of, text_in, laid, AreWide, HaveText}
+use Rattle.ref_words.proofs.{AreaLines.{begin-lines, line-within}, Laying.{joined-length}}
 
 -- ---- lines that are laid
 
@@ -67,16 +63,12 @@ lines_of-laid layout area x lines q away =
     ∙ (laid-other area x lines (b + i) (away (b + i) (omega arith) (omega (arith, small)))
     ∙ sym (get_or-take n (drop b area) i [] small ∙ get_or-drop b area i []))))
 
--- ---- lines that are joined
+-- and have 64 bytes where all do
+pub lines-wide : (layout : Shape) (p : Place) (area : List (List ℕ)) → AreWide area → AreWide (lines_of layout area p)
+lines-wide layout p area wide = All-take (λ (l : List ℕ). length l ≡ 64) (line_count p) (drop (begin_line layout p) area)
+    (All-drop (λ (l : List ℕ). length l ≡ 64) (begin_line layout p) area wide)
 
-pub length-joined : (lines : List (List ℕ)) → AreWide lines → length (joined lines) ≡ 64 * length lines
-length-joined [] wide = refl
-length-joined (line ∷ lines) wide = omega (
-  arith,
-  length-append line (joined lines),
-  All-head (λ (l : List ℕ). length l ≡ 64) line lines wide,
-  length-joined lines (All-tail (λ (l : List ℕ). length l ≡ 64) line lines wide),
-)
+-- ---- lines that are joined
 
 pub joined-byte : (lines : List (List ℕ)) (i : ℕ) → AreWide lines → get_or (joined lines) i 0 ≡ get_or (get_or lines (i / 64) []) (i % 64) 0
 joined-byte [] i wide = refl
@@ -99,7 +91,7 @@ joined-byte (line ∷ lines) i wide =
 -- lines that are the same when joined are the same
 pub joined-same : (xs ys : List (List ℕ)) → AreWide xs → AreWide ys → joined xs ≡ joined ys → xs ≡ ys
 joined-same xs ys wide wide' same =
-    let many : length xs ≡ length ys = omega (arith, length-joined xs wide, length-joined ys wide', ap length same) in
+    let many : length xs ≡ length ys = omega (arith, joined-length 64 xs wide, joined-length 64 ys wide', ap length same) in
     ext_get_or [] xs ys many (λ k less.
     let x = get_or xs k [] in
     let y = get_or ys k [] in
@@ -128,10 +120,6 @@ module _ (layout : Shape) (area : List (List ℕ)) (good : IsLayout layout) (man
         let fits = lies.bytes in
         omega (arith, line-within layout good p.buffer (p.offset + p.len - 1) lies.buffer (omega (arith, fits, some)), many, some)
 
-    are-wide : AreWide (lines_of layout area p)
-    are-wide = All-take (λ (l : List ℕ). length l ≡ 64) (line_count p) (drop (begin_line layout p) area)
-        (All-drop (λ (l : List ℕ). length l ≡ 64) (begin_line layout p) area wide)
-
     -- and have all its bytes
     pub length-text : length (text_in p (lines_of layout area p)) ≡ p.len
     length-text =
@@ -140,7 +128,7 @@ module _ (layout : Shape) (area : List (List ℕ)) (good : IsLayout layout) (man
           arith,
           length-take p.len (drop (p.offset % 64) (joined lines)),
           length-drop (p.offset % 64) (joined lines),
-          length-joined lines are-wide,
+          joined-length 64 lines (lines-wide layout p area wide),
           length-take (line_count p) (drop (begin_line layout p) area),
           length-drop (begin_line layout p) area,
           lines-inside,
@@ -155,7 +143,7 @@ module _ (layout : Shape) (area : List (List ℕ)) (good : IsLayout layout) (man
         let byte : at % 64 ≡ (p.offset + i) % 64 = omega arith in
         get_or-take p.len (drop (p.offset % 64) (joined lines)) i 0 less
         ∙ (get_or-drop (p.offset % 64) (joined lines) i 0
-        ∙ (joined-byte lines at are-wide
+        ∙ (joined-byte lines at (lines-wide layout p area wide)
         ∙ (ap (λ l. get_or l (at % 64) 0)
         (get_or-take (line_count p) (drop (begin_line layout p) area) (at / 64) [] (omega (arith, less))
         ∙ (get_or-drop (begin_line layout p) area (at / 64) [] ∙ ap (λ k. get_or area k []) line))

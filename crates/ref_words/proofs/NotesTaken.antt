@@ -10,7 +10,7 @@ use Rattle.board_face.proofs.{AppLemmas.{pool_count-app, user_count-app, app_cou
 use Rattle.board_face.proofs.{FillingsFitLemmas.{FillingsFit-same}, IsFilledByOneLemmas.{IsFilledByOne-app}, MadeLastLemmas.{IsMadeLast-app}, Parts.{app_count}}
 use Rattle.board_face.{proofs.{PlaceTallies.{app_places}, PlacesByEvent.{app_places-took_note, app_places-took_linear}}, specs.Laws.{IsNextNote}}
 use Rattle.zr_kinds.specs.declared.place.{Note.{Note}, Place.{Place}}
-use Rattle.word_rings.specs.{Slots.{note_width, note_fields, note_of, linear_of, words_of, bytes_of, pair, flags_of}, Texts.{text_count}}
+use Rattle.word_rings.specs.Slots.{note_width, note_fields, note_of, linear_of, words_of, bytes_of, pair, flags_of, words_for}
 use Rattle.word_rings.proofs.{NoteSlots.{note_back, note-front, bytes-front}, Words.{padded_words, text_back}}
 use Rattle.ref_words.specs.{Words.{Words, listed_in, with_note}, Rings.{AreRings, NoteFits, area_of_note, words_of_note, linear_bytes, takes_note_at}}
 use Rattle.ref_words.{specs.{Rings.{loaded_note, loaded_bytes, note_loads}, Rule.{RefRule}}, proofs.RingSteps.{AllRings, rings-others}}
@@ -46,14 +46,14 @@ bytes-read xs few small =
 fields-loaded : (note : Note) (n : ℕ) → note_loads note ≤ 1 + n → 6 ≤ n
 fields-loaded note n enough = by note.split enough
   where
-    by : (split : Bool) → (if split then note_fields else min note_width (note_fields + text_count note.total)) ≤ 1 + n → 6 ≤ n
+    by : (split : Bool) → (if split then note_fields else min note_width (note_fields + words_for note.total)) ≤ 1 + n → 6 ≤ n
     by true h = omega arith
     by false h = omega arith
 
 bytes-loaded : (note : Note) (n : ℕ) → note.split ≡ false → note.total ≤ 256 → note_loads note ≤ 1 + n → note.total + 48 ≤ 8 * n
 bytes-loaded note n split most enough =
-    let h : min note_width (note_fields + text_count note.total) ≤ 1 + n =
-    subst (λ c. (if c then note_fields else min note_width (note_fields + text_count note.total)) ≤ 1 + n) split enough in
+    let h : min note_width (note_fields + words_for note.total) ≤ 1 + n =
+    subst (λ c. (if c then note_fields else min note_width (note_fields + words_for note.total)) ≤ 1 + n) split enough in
     omega arith
 
 -- a note more has no fewer bytes

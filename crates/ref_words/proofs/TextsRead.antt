@@ -1,6 +1,6 @@
 -- An application reads of a loan: the bytes are those of the loan's text, and the lines are given back as they stand.
 use Rattle.std.proofs.Common.{◌≡◌, ℕ, ◌+◌, ◌<◌, ◌≤◌, List, [], ◌∷◌, length, take, drop, get_or, set, refl, ap, sym, ◌∙◌, subst, inl, inr, arith}
-use Rattle.std.{specs.Prelude.{◌⊎◌, All, None, IfSome}, proofs.lemmas.List.Elements.{All-push, All-take, All-drop}}
+use Rattle.std.{specs.Prelude.{◌⊎◌, All, None, IfSome}, proofs.lemmas.List.Elements.{All-push}}
 use Rattle.std.proofs.lemmas.List.{length-take, length-take-le, length-drop, get_or-take, get_or-drop, ext_get_or, drop-drop}
 use Rattle.zr_kinds.specs.declared.place.Place.{Place}
 use Rattle.area_layout.specs.Layout.{LiesIn}
@@ -9,9 +9,9 @@ use Rattle.board_face.specs.{Shown.{IsShown, origin_bytes, bytes_sent, AppIsShow
 use Rattle.board_face.specs.declared.views.{parts.{Setting.{Setting}, Making.{Making}}, nic.{NicSide.{NicSide}, SentNote.{SentNote}}}
 use Rattle.board_face.specs.declared.views.app.{Origin.{Origin, TheVariants.{Note as of_note, Copied as of_copy}}, Reading.{Reading}, AppSide.{AppSide}}
 use Rattle.board_face.proofs.{LiesLemmas.{loan-lies}, TextsByEvent.{AppIsShown-same, IsShown-loan}}
-use Rattle.ref_words.specs.{Words.{Words}, Lines.{joined, byte_in, begin_line, line_count, lines_of, text_in}, Rule.{RefRule}, Sides.{SidesRule}}
+use Rattle.ref_words.specs.{Words.{Words}, Lines.{joined, byte_in, lines_of, text_in, AreWide}, Rule.{RefRule}, Sides.{SidesRule}}
 use Rattle.ref_words.specs.{AreaSteps.{at_hand, part_of, side_at_hand, side_read}, TextRule.{IsAtHand, IsOfSpare, IsOfLoan, HasTexts, AreTexts}}
-use Rattle.ref_words.proofs.{LaidLines.{length-joined, joined-same, length-text, text-byte}, TextsByApp.{AreTexts-app, AppIsShown-inside}}
+use Rattle.ref_words.proofs.{LaidLines.{lines-wide, joined-same, length-text, text-byte}, Laying.{joined-length}, TextsByApp.{AreTexts-app, AppIsShown-inside}}
 
 -- ---- bytes of a text
 
@@ -121,11 +121,10 @@ module _ (setting : Setting) (words : Words) (nic : NicSide) (apps : List AppSid
       (λ has. record { making = tt; unfilled = has.unfilled; reads = has.reads }) texts
 
   pub stands : (place : Place) (lines : List (List ℕ)) → app.inside.making ≡ at_hand place (joined lines) → 0 < length lines
-      → All (λ line. length line ≡ 64) lines → lines_of setting.layout words.area place ≡ lines
+      → AreWide lines → lines_of setting.layout words.area place ≡ lines
   stands place lines at some wide =
       joined-same (lines_of setting.layout words.area place) lines
-      (All-take (λ (l : List ℕ). length l ≡ 64) (line_count place) (drop (begin_line setting.layout place) words.area)
-      (All-drop (λ (l : List ℕ). length l ≡ 64) (begin_line setting.layout place) words.area refs.sizes.lines))
+      (lines-wide setting.layout place words.area refs.sizes.lines)
       wide (of (record { place = place; bytes = joined lines }) is.1 refl)
     where
       made : Making
@@ -137,5 +136,5 @@ module _ (setting : Setting) (words : Words) (nic : NicSide) (apps : List AppSid
 
       of : (making : Making) → IsOfSpare app making ⊎ IsOfLoan setting.layout words.area app making → making.bytes ≡ joined lines
           → joined (lines_of setting.layout words.area making.place) ≡ joined lines
-      of making (inl spare) words = absurd (omega (arith, some, length-joined lines wide, ap length (sym words ∙ spare.unknown)))
+      of making (inl spare) words = absurd (omega (arith, some, joined-length 64 lines wide, ap length (sym words ∙ spare.unknown)))
       of making (inr loan) words = loan.stand ∙ words

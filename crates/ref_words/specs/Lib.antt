@@ -3,7 +3,6 @@ pub mod Words
 pub mod Seated
 pub mod Sides
 pub mod Rings
-pub mod Area
 pub mod AreaSteps
 pub mod TextRule
 pub mod PhaseRule

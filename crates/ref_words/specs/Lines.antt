@@ -9,6 +9,10 @@ use Rattle.board_face.specs.declared.views.parts.Making.{Making}
 abbrev pub joined : List (List ℕ) → List ℕ
 joined rows = flat_map (λ row. row) rows
 
+-- each of these lines has 64 bytes
+abbrev pub AreWide : List (List ℕ) → Type 0
+AreWide lines = All (λ line. length line ≡ 64) lines
+
 -- ---- where a line lies
 
 -- how many lines the area has, and the number of a buffer's first one
@@ -66,5 +70,5 @@ has_out layout k (Some making) = has_line layout k making.place
 -- Whole lines with a text, from the first byte on.
 pub record HaveText (lines : List (List ℕ)) (bytes : List ℕ) : Type 0 where
   pub many : length lines ≡ (length bytes + 63) / 64
-  pub wide : All (λ line. length line ≡ 64) lines
+  pub wide : AreWide lines
   pub text : take (length bytes) (joined lines) ≡ bytes

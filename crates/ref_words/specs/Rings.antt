@@ -6,7 +6,7 @@ use Rattle.zr_kinds.specs.declared.place.Note.{Note}
 use Rattle.area_layout.specs.Layout.{area_of_buffer}
 use Rattle.board_face.specs.{SlotSteps.{next_slot}, Holders.{sent_to}, Relay.{dealt_entries}, Returns.{IsOfLoan}, declared.views.parts.{Setting.{Setting}, Slot.{Slot}}}
 use Rattle.board_face.specs.declared.views.{nic.{NicSide.{NicSide}, SentNote.{SentNote}}, app.{WrittenEntry.{WrittenEntry}, AppSide.{AppSide}}}
-use Rattle.word_rings.specs.{Slots.{note_width, note_fields, note_body, note_of, linear_of, refill_width, entry_body}, Texts.{text_count}}
+use Rattle.word_rings.specs.Slots.{note_width, note_fields, note_body, note_of, linear_of, refill_width, entry_body, words_for}
 use Rattle.ref_words.specs.Words.{Words}
 
 -- the slot of what was written as the k-th, counted from 0
@@ -176,4 +176,4 @@ loaded_bytes app = take (loaded_note app).total (linear_of (1 ∷ app.inside.not
 -- how many words it loads of a note's slot at least, the flag among them: those of the fields, and of an unsplit note those of its
 -- bytes
 abbrev pub note_loads : Note → ℕ
-note_loads note = if note.split then note_fields else min note_width (note_fields + text_count note.total)
+note_loads note = if note.split then note_fields else min note_width (note_fields + words_for note.total)

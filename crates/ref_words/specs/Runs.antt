@@ -19,11 +19,11 @@ use Rattle.board_face.specs.declared.views.{parts.Filling.{Filling}, nic.Fate.Th
 use Rattle.board_face.specs.declared.views.nic.{Judged.TheVariants.{Not, Stray as judged_stray, Owed, UserLowered, BothLowered}, NicSide.{NicSide}}
 use Rattle.word_rings.specs.Slots.{note_width, refill_width, entry_of, entry_body, note_body}
 use Rattle.ref_words.specs.{declared.view.View.{View}, Words.{Words, opened_words, with_role, with_pool, pool_of, with_user, user_of, listed_in}}
-use Rattle.ref_words.specs.Words.{free_of, with_free, with_listed, with_unlisted, slot_word, with_refill, with_note}
+use Rattle.ref_words.specs.Words.{free_of, with_free, with_listed, with_unlisted, slot_word, with_refill, with_note, with_lines}
 use Rattle.ref_words.specs.Seated.{Seated, times_in, due_view, card_view, app_view, dealt_out, both_sides, no_role, side_at}
 use Rattle.ref_words.specs.Rings.{EntryFits, NoteFits, note_so_far, writes_entry_at, takes_entry_at, writes_note_at, takes_note_at}
-use Rattle.ref_words.specs.{Rings.{refill_words_at, note_words_at, loaded_note, loaded_bytes, note_loads}, Area.{with_lines}}
-use Rattle.ref_words.specs.Lines.{joined, byte_in, begin_line, line_count, lines_of, HaveText}
+use Rattle.ref_words.specs.{Rings.{refill_words_at, note_words_at, loaded_note, loaded_bytes, note_loads}}
+use Rattle.ref_words.specs.Lines.{joined, byte_in, begin_line, line_count, lines_of, AreWide, HaveText}
 use Rattle.ref_words.specs.AreaSteps.{at_hand, part_of, side_at_hand, side_spare_filled, side_read}
 use Rattle.ref_words.specs.FreeSteps.{side_swept, side_nic_listed, side_app_listed, side_word_looked, side_bit_cleared}
 use Rattle.ref_words.specs.{RestSteps.{side_raw_looked, side_any_looked, side_last_looked}, PhaseRule.{with_phase}}
@@ -244,7 +244,7 @@ AppMay setting words app (fills_spare own bytes lines) =
 AppMay setting words app (reads_text place from n) =
     HasLoan app.view place × (0 < n) × (from + n ≤ place.len) × (app.inside.making ≡ None)
 AppMay setting words app (gives_lines place lines) =
-    (app.inside.making ≡ at_hand place (joined lines)) × (0 < length lines) × (length lines ≡ line_count place) × All (λ line. length line ≡ 64) lines
+    (app.inside.making ≡ at_hand place (joined lines)) × (0 < length lines) × (length lines ≡ line_count place) × AreWide lines
 
 -- the words after it
 abbrev pub app_words : Setting → Words → AppSide → AppStep → Words

@@ -5,7 +5,7 @@ use Rattle.std.specs.{Prelude.{slice_index_or, slice_set, ◌==◌, All, bit_and
 use Rattle.area_layout.specs.Layout.{IsLayout, pool_buffers, total}
 use Rattle.word_rings.specs.Slots.{note_width, refill_width}
 use Rattle.board_face.specs.{NicCalls.{apps_of, free_words_of}, NicEvents.{word_bits}, declared.views.parts.Setting.{Setting}}
-use Rattle.ref_words.specs.Lines.{joined, area_lines}
+use Rattle.ref_words.specs.Lines.{joined, area_lines, AreWide, laid}
 
 pub record Words : Type 0 where
   -- 1 where a role was taken: the card's, then the applications'
@@ -114,7 +114,7 @@ pub record HasSizes (setting : Setting) (w : Words) : Type 0 where
   pub rows : All (λ row. length row ≡ total setting.layout) w.users
   pub free : length w.free ≡ free_words_of setting
   pub area : length w.area ≡ area_lines setting.layout
-  pub lines : All (λ line. length line ≡ 64) w.area
+  pub lines : AreWide w.area
   pub notes : length w.notes ≡ apps_of setting
   pub note_slots : All (AreSlots setting.places note_width) w.notes
   pub refills : length w.refills ≡ apps_of setting
@@ -177,6 +177,12 @@ with_refill w a s i n = record w { refills = with_slot_word w.refills a s i n }
 
 abbrev pub with_note : Words → ℕ → ℕ → ℕ → ℕ → Words
 with_note w a s i n = record w { notes = with_slot_word w.notes a s i n }
+
+-- ---- the area
+
+-- the words with other lines of the area, from one on
+abbrev pub with_lines : Words → ℕ → List (List ℕ) → Words
+with_lines w x lines = record w { area = laid w.area x lines }
 
 -- ---- the beginning
 

@@ -12,7 +12,7 @@ use word_rings::{NOTE_WORDS, REFILL_WORDS};
 const WORD_BITS: usize = 64;
 
 /// How many bytes a line of the area has.
-const LINE_BYTES: u32 = 64;
+pub const LINE_BYTES: usize = 64;
 
 /// How many words of 8 bytes it would have.
 const LINE_WORDS: u64 = 8;
@@ -178,7 +178,7 @@ impl WordMap {
         ensures within { result < area_lines self.now.layout }
         ensures few { result < 2 ^ 32 }
     {
-        (self.layout.first_word(buffer) / LINE_WORDS) as usize + (offset / LINE_BYTES) as usize
+        (self.layout.first_word(buffer) / LINE_WORDS) as usize + offset as usize / LINE_BYTES
     }
 
     /// How many roles there are.

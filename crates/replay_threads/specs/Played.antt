@@ -1,11 +1,24 @@
--- All turns of a run: every role is back at the desk.
-use Rattle.std.specs.Prelude.{ℕ, List, ◌++◌, Option}
+-- What a run begins with, and all its turns: every role is back at the desk.
+use Rattle.std.specs.Prelude.{◌≡◌, ℕ, List, ◌++◌, length, Option}
 use Rattle.zr_io.specs.Moved.{ShelfCounts}
-use Rattle.board_face.specs.Ended.{HaveEnded}
+use Rattle.board_face.specs.{Ended.{HaveEnded}, NicCalls.{HasNoToken, IsOpen, apps_of}, declared.views.nic.NicView.{NicView}}
 use Rattle.flow_queues.specs.Ends.{AppEnd}
-use Rattle.card_feed.specs.{Feed.{FeedState, end_of}, declared.plan.Plan.{Plan}}
+use Rattle.card_feed.specs.{Feed.{FeedState, IsReady, end_of, new_feed}, Plan.{layout_of}, declared.plan.Plan.{Plan}}
 use Rattle.run_account.specs.{Ran.{HasReadOn}, Running.{HasRun}}
-use Rattle.word_board.specs.{Board.{TheDesk, card_of}, Desk.{AllAreBack}}
+use Rattle.word_board.specs.{Board.{TheBoard, TheDesk, card_of, new_desk}, Desk.{AllAreBack}}
+use Rattle.app_lanes.specs.{Seated.{AreStarts}, declared.seated.Start.{Start}}
+
+-- The board is the plan's, and its desk gave nothing.
+pub record IsOpenedFor (plan : Plan) (board : TheBoard) (desk : TheDesk) : Type 0 where
+  pub desk_is : desk ≡ new_desk board
+  pub setting : board.setting ≡ record { layout = layout_of plan; places = plan.ring }
+
+-- The card begins with a feed that has read nothing, with which it is ready at each board on which nothing has happened, and each
+-- application with what the plan says of it.
+pub record BeginWith (plan : Plan) (feed : FeedState) (starts : List Start) : Type 0 where
+  pub new : feed ≡ new_feed plan.ports.items plan.split
+  pub ready : (v : NicView) → IsOpen v → HasNoToken v → length plan.ports.items ≡ apps_of v.setting → IsReady feed v
+  pub starts_are : AreStarts plan starts
 
 -- All is over and back at the desk, and the plan was run to there: this is what the card keeps and the applications left with, whatever
 -- shelves stand behind those of the applications.

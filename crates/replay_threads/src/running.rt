@@ -1,12 +1,11 @@
 //! A whole run.
-ghost use Rattle.std.specs.Prelude.{◌≡◌, ◌+◌, ◌-◌, ◌<◌, ◌≤◌, [], length, map, vec_len, vec_capacity, IfOk, OnErr};
-ghost use Rattle.board_face.specs.{NicCalls.{apps_of, IsOpen, HasNoToken}, declared.views.nic.NicView.{NicView}};
-ghost use Rattle.card_feed.specs.{Feed.{IsReady, new_feed}, Plan.{IsPlan, layout_of}};
+ghost use Rattle.std.specs.Prelude.{◌≡◌, ◌≤◌, [], length, map, vec_len, vec_capacity, IfOk, OnErr};
+ghost use Rattle.card_feed.specs.Plan.{IsPlan, layout_of};
 ghost use Rattle.run_account.specs.Ran.{HasReadOn, LacksMemoryBeside, Ran, told_of};
-ghost use Rattle.word_board.specs.{Board.{card_of, new_desk}, Desk.{AllAreBack}};
-ghost use Rattle.replay_threads.specs.Played.{HasPlayed};
+ghost use Rattle.word_board.specs.{Board.{card_of}, Desk.{AllAreBack}};
+ghost use Rattle.replay_threads.specs.Played.{BeginWith, HasPlayed, IsOpenedFor};
 ghost use Rattle.capture_beside.specs.Reader.{IsOpened};
-ghost use Rattle.app_lanes.specs.Seated.{AreStarts, left_end};
+ghost use Rattle.app_lanes.specs.Seated.{left_end};
 
 use crate::moving::move_last;
 use crate::playing::play;
@@ -71,13 +70,8 @@ fn play_seated<'b, S: Source + Send, T: Shelf + Send, G: Gate + Sync, R: Threads
     begun: Begun,
 ) -> (Feed, Vec<Left>)
     requires plan { IsPlan plan.now }
-    requires desk { desk.old ≡ new_desk board.now }
-    requires setting { board.now.setting
-        ≡ record { layout = layout_of plan.now; places = plan.now.ring } }
-    requires feed { begun.feed ≡ new_feed plan.now.ports.items plan.now.split }
-    requires ready { (v : NicView) → IsOpen v → HasNoToken v
-        → length plan.now.ports.items ≡ apps_of v.setting → IsReady begun.feed v }
-    requires starts { AreStarts plan.now begun.starts.items }
+    requires board { IsOpenedFor plan.now board.now desk.old }
+    requires begun { BeginWith plan.now begun.feed begun.starts.items }
     requires lefts { (begun.lefts.items ≡ [])
         × (length plan.now.ports.items ≤ vec_capacity begun.lefts) }
     requires shelves { vec_len shelves.old ≡ length plan.now.ports.items }
@@ -87,8 +81,8 @@ fn play_seated<'b, S: Source + Send, T: Shelf + Send, G: Gate + Sync, R: Threads
         shelves.old.items shelves.new.items plan.now desk.new
         result.0 (map left_end result.1.items) }
     ensures board { desk.new.board ≡ desk.old.board }
-    ensures many { vec_len shelves.new ≡ vec_len shelves.old }
-    ensures room { vec_capacity shelves.new ≡ vec_capacity shelves.old }
+    ensures shelves { (vec_len shelves.new ≡ vec_len shelves.old)
+        × (vec_capacity shelves.new ≡ vec_capacity shelves.old) }
 {
     let Begun {
         feed,

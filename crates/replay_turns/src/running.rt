@@ -1,10 +1,9 @@
 //! A whole run.
 
 ghost use Rattle.std.specs.Prelude.{◌≡◌, ◌≤◌, length, vec_len, IfOk, OnErr};
-ghost use Rattle.plain_board.specs.{Board.{stand_of, sides_of}, Recorded.{IsRecorded}, Sound.{IsSound}};
 ghost use Rattle.card_feed.specs.{Counts.{sweeping_in, sweeps_in}, Plan.{IsPlan, TakesTurns}};
 ghost use Rattle.run_account.specs.Ran.{Ran, LacksMemory, told_of};
-ghost use Rattle.replay_turns.specs.{Events.{room_of}, Following.{RunsBy}, Schedule.{AreTurns}};
+ghost use Rattle.replay_turns.specs.{Events.{LeavesBoard}, Following.{RunsBy}, Schedule.{AreTurns}};
 
 use crate::opening::open;
 use crate::playing::{play_rounds, play_text};
@@ -47,11 +46,8 @@ pub fn run_turns<S: Source, T: Shelf>(
         turns.now (told_of it.0) it.1) }
     // Each sweep of the free list was made by a search that is counted as one that swept it.
     ensures swept { IfOk result (λ it. sweeping_in it.0.pool ≡ sweeps_in it.1.nic.view) }
-    // The board is sound too.
-    ensures sound { IfOk result (λ it. IsSound (stand_of it.1)) }
-    // And its log tells of it. There is room for 1,000,000 events where the plan asks for a log, and for none else.
-    ensures recorded { IfOk result (λ it. IsRecorded (sides_of it.1) it.1.log) }
-    ensures room { IfOk result (λ it. it.1.log.room ≡ room_of plan.now) }
+    // The board is sound, and its log tells of it, which has room for 1,000,000 events where the plan asks for a log.
+    ensures leaves { IfOk result (λ it. LeavesBoard plan.now it.1) }
     // Want of memory comes before the first turn or behind the last.
     ensures lacks { OnErr result
         (LacksMemory S.left S.faults T.kept T.counts source.old source.new shelves.old.items
@@ -89,10 +85,8 @@ pub fn run_rounds<S: Source, T: Shelf, G: Gate>(
         (λ it. Ran S.left S.faults T.kept T.counts source.old source.new shelves.old.items
         shelves.new.items plan.now
         (told_of it.0) it.1.nic it.1.apps) }
-    // The board is sound too, its log tells of it, and has the room that the plan asks for.
-    ensures sound { IfOk result (λ it. IsSound (stand_of it.1)) }
-    ensures recorded { IfOk result (λ it. IsRecorded (sides_of it.1) it.1.log) }
-    ensures room { IfOk result (λ it. it.1.log.room ≡ room_of plan.now) }
+    // The board is sound, and its log tells of it, which has the room that the plan asks for.
+    ensures leaves { IfOk result (λ it. LeavesBoard plan.now it.1) }
     // Want of memory comes before the first turn or behind the last.
     ensures lacks { OnErr result
         (LacksMemory S.left S.faults T.kept T.counts source.old source.new shelves.old.items

@@ -4,10 +4,10 @@ use Rattle.std.{proofs.{Common.{get_or, refl, ap, sym, ◌∙◌, subst, arith, 
 use Rattle.std.proofs.lemmas.Bool.Decides.{eqb_tells}
 use Rattle.std.proofs.lemmas.List.{get_or-set_same, get_or-set_other, get_or-replicate, get_or_append_left, length-set, length-replicate, length_push, get_or_push}
 use Rattle.atomic_table.proofs.Lists.{one_turn}
-use Rattle.board_face.specs.{NicCalls.{apps_of}, Opened.{unseen}, SlotSteps.{next_slot}, declared.views.{nic.SentNote.{SentNote}, parts.Setting.{Setting}}}
+use Rattle.board_face.specs.{NicCalls.{apps_of}, Opened.{unseen}, SlotSteps.{next_slot}, declared.views.{nic.{NicSide.{NicSide}, SentNote.{SentNote}}, parts.Setting.{Setting}}}
 use Rattle.board_face.{specs.declared.views.parts.Slot.{Slot}, proofs.{NicLemmas.{sent_to-same, sent_to-other}, OpenedLemmas.{all-alike}}}
 use Rattle.word_rings.{specs.Slots.{note_width, IsBlankFrom}, proofs.NoteSlots.{note-blank, zeros-blank}}
-use Rattle.ref_words.{specs.Rings.{left_for, area_of_note, words_of_note, linear_bytes}, proofs.LeftWords.{left-more, left-turn}}
+use Rattle.ref_words.{specs.Rings.{left_for, left_in_note, writes_note_at, area_of_note, words_of_note, linear_bytes}, proofs.LeftWords.{left-more, left-turn}}
 use Rattle.word_board.specs.Hands.{KnowsLeft}
 
 -- the card begins with slots of zeros
@@ -30,6 +30,15 @@ KnowsLeft-new setting = record {
     alike zero a = refl
     alike (suc n) zero = refl
     alike (suc n) (suc a) = alike n a
+
+-- of its next note slot to an application
+pub next-left : (setting : Setting) (nic : NicSide) (filled : List ℕ) → KnowsLeft setting nic.view.sent nic.inside.note_slots filled → (a : ℕ)
+    → a < apps_of setting → 0 < setting.places → (get_or filled (256 * a + writes_note_at setting nic a) 0 ≤ 32)
+    × IsBlankFrom (get_or filled (256 * a + writes_note_at setting nic a) 0) (left_in_note setting nic a)
+next-left setting nic filled knows a here some = (
+  knows.most (256 * a + writes_note_at setting nic a),
+  knows.blank a (length (filter (λ (s : SentNote). s.app == a) nic.view.sent)) here (omega arith) (omega (arith, some)),
+)
 
 -- a slot to which nothing more is stored
 unstored-then : (slots : List Slot) (a k : ℕ) → (next_slot slots k).words ≡ [] → (next_slot (set slots a unseen) k).words ≡ []

@@ -27,3 +27,4 @@ mod HeldPlaces
 mod RolesBack
 mod AtDesk
 mod WordsClosed
+mod AtHandKept

@@ -1,14 +1,14 @@
 -- A seat's lines, written or read one after another: the next one is at the head, and behind those to come stand those that are done.
 use Rattle.std.proofs.Common.{◌≡◌, ℕ, ◌+◌, ◌-◌, ◌*◌, ◌/◌, ◌<◌, ◌≤◌, List, [], ◌∷◌, ◌++◌, length, map, take, drop, min, get_or, refl, ap, sym, ◌∙◌, subst, arith, length-append}
-use Rattle.std.{specs.{Prelude.{All}}, proofs.{Math.Seq.{take-add, take-append-add, drop-append-add}, lemmas.Grind.{flat_map-append}}}
+use Rattle.std.proofs.{Math.Seq.{take-add, take-append-add, drop-append-add}, lemmas.Grind.{flat_map-append}}
 use Rattle.std.proofs.lemmas.{List.{append_assoc, append-nil, take_all, take_at, take-append-le, drop-append-le, drop-drop, length-drop, length-take-le}, Slice.{take-put_mid}}
 use Rattle.std.proofs.lemmas.List.Elements.{All-head, All-tail, All-nil, All-append, All-cons}
 use borrow.Rule.Slice.PartMut.{put_mid}
-use Rattle.ref_words.specs.{Lines.{joined, HaveText}, declared.view.View.{View}}
+use Rattle.ref_words.{specs.{Lines.{joined, AreWide, HaveText}, declared.view.View.{View}}, proofs.Laying.{joined-length}}
 use Rattle.atomic_table.specs.Table.{Me, rest}
-use Rattle.word_board.specs.Lines.{numbered, held, HasLines}
+use Rattle.word_board.{specs.Lines.{numbered, held, HasLines}, proofs.Acts.{held-numbered}}
 
-abbrev pub IsWide : List ℕ → Type 0
+abbrev IsWide : List ℕ → Type 0
 IsWide line = length line ≡ 64
 
 -- ---- lines with numbers
@@ -21,10 +21,6 @@ numbered-push first [] line = ap (λ n. (n, line) ∷ []) (let e : first ≡ fir
 numbered-push first (x ∷ lines) line =
     ap (λ slots. (first, x) ∷ slots) (numbered-push (first + 1) lines line
     ∙ ap (λ n. numbered (first + 1) lines ++ (n, line) ∷ []) (let e : first + 1 + length lines ≡ first + length (x ∷ lines) = omega arith in e))
-
-pub held-numbered : (first : ℕ) (lines : List (List ℕ)) → map (λ (slot : ℕ × List ℕ). slot.1) (numbered first lines) ≡ lines
-held-numbered first [] = refl
-held-numbered first (x ∷ lines) = ap (λ xs. x ∷ xs) (held-numbered (first + 1) lines)
 
 -- the head, by any number that is its own
 head-of : (first n : ℕ) (ahead : List (List ℕ)) (behind slots : List (ℕ × List ℕ)) → slots ≡ numbered first ahead ++ behind → 0 < length ahead → n ≡ first
@@ -47,12 +43,7 @@ turned-on first n x line ahead behind slots slots' was is e =
 joined-push : (lines : List (List ℕ)) (line : List ℕ) → joined (lines ++ line ∷ []) ≡ joined lines ++ line
 joined-push lines line = flat_map-append (λ (l : List ℕ). l) lines (line ∷ []) ∙ ap (λ l. joined lines ++ l) (append-nil line)
 
-length-joined : (lines : List (List ℕ)) → All IsWide lines → length (joined lines) ≡ 64 * length lines
-length-joined [] wide = refl
-length-joined (line ∷ lines) wide =
-    omega (arith, length-append line (joined lines), All-head IsWide line lines wide, length-joined lines (All-tail IsWide line lines wide))
-
-parted : (xs ys : List (List ℕ)) → All IsWide (xs ++ ys) → All IsWide xs × All IsWide ys
+parted : (xs ys : List (List ℕ)) → AreWide (xs ++ ys) → AreWide xs × AreWide ys
 parted [] ys all = (All-nil IsWide, all)
 parted (x ∷ xs) ys all =
     let tail = parted xs ys (All-tail IsWide x (xs ++ ys) all) in (All-cons IsWide x xs (All-head IsWide x (xs ++ ys) all) tail.0, tail.1)
@@ -66,8 +57,8 @@ pub record HasWritten (first count : ℕ) (bytes : List ℕ) (view : View) (done
   pub view_is : me.0 ≡ view
   pub slots : me.1 ≡ numbered (first + length behind) ahead ++ numbered first behind
   pub many : length behind + length ahead ≡ count
-  pub wide : All IsWide behind
-  pub others : All IsWide ahead
+  pub wide : AreWide behind
+  pub others : AreWide ahead
   pub upto : done ≡ min (64 * length behind) (length bytes)
   pub text : take done (joined behind) ≡ take done bytes
 
@@ -104,7 +95,7 @@ module _ (first count : ℕ) (bytes : List ℕ) (all : count ≡ (length bytes +
       size = ap length is_part ∙ length-take-le more (drop done bytes) (omega (arith, length-drop done bytes, most, less))
 
       at : done ≡ length (joined behind)
-      at = omega (arith, length-joined behind was.wide, was.upto, less)
+      at = omega (arith, joined-length 64 behind was.wide, was.upto, less)
 
       text : take (done + more) (joined (behind ++ line ∷ [])) ≡ take (done + more) bytes
       text =
@@ -117,7 +108,7 @@ module _ (first count : ℕ) (bytes : List ℕ) (all : count ≡ (length bytes +
           ∙ (ap (λ l. l ++ take more (drop done bytes)) (sym (take_all done (joined behind) (omega (arith, at))) ∙ was.text)
           ∙ sym (take-add done more bytes)))))))
 
-      go : (ahead : List (List ℕ)) → me.1 ≡ numbered (first + length behind) ahead ++ numbered first behind → length behind + length ahead ≡ count → All IsWide ahead
+      go : (ahead : List (List ℕ)) → me.1 ≡ numbered (first + length behind) ahead ++ numbered first behind → length behind + length ahead ≡ count → AreWide ahead
           → HasWritten first count bytes view (done + more) me'
       go [] slots many others = absurd (omega (arith, was.upto, many, all, less))
       go (x ∷ ahead) slots many others =
@@ -160,11 +151,11 @@ module _ (first count : ℕ) (bytes : List ℕ) (all : count ≡ (length bytes +
             record {
               slots = slots ∙ ap (numbered first) are;
               many = omega (arith, ap length are, many);
-              wide = subst (All IsWide) are was.wide;
+              wide = subst AreWide are was.wide;
             },
             record {
               many = omega (arith, ap length are, many, all);
-              wide = subst (All IsWide) are was.wide;
+              wide = subst AreWide are was.wide;
               text = ap (λ lines. take (length bytes) (joined lines)) (sym are)
                   ∙ (ap (λ n. take n (joined was.behind)) (sym done_is) ∙ (was.text ∙ (ap (λ n. take n bytes) done_is ∙ take_all (length bytes) bytes (omega arith))));
             },
@@ -187,7 +178,7 @@ pub record HasReadSo (first skip : ℕ) (lines : List (List ℕ)) (room : ℕ) (
   pub later : 0 < length behind → from ≡ 0
   pub bytes : take done into ≡ take done (drop skip (joined lines))
 
-module _ (first count skip room : ℕ) (lines : List (List ℕ)) (many : length lines ≡ count) (wide : All IsWide lines)
+module _ (first count skip room : ℕ) (lines : List (List ℕ)) (many : length lines ≡ count) (wide : AreWide lines)
     (enough : count ≡ (skip + room + 63) / 64) where
   pub unread : (me : Me (List ℕ) View) (into : List ℕ) → me.1 ≡ numbered first lines → skip < 64 → HasReadSo first skip lines room me.0 first skip 0 into me
   unread me into slots within = record {
@@ -233,9 +224,9 @@ module _ (first count skip room : ℕ) (lines : List (List ℕ)) (many : length 
         go (x ∷ ahead) slots all =
             let same : x ≡ here = ap (λ (l : List (ℕ × List ℕ)). (get_or l 0 (0, [])).1) (sym slots ∙ there) in
             let longer : length (behind ++ x ∷ []) ≡ length behind + 1 = length-append behind (x ∷ []) in
-            let widths = parted behind (x ∷ ahead) (subst (All IsWide) (sym all) wide) in
+            let widths = parted behind (x ∷ ahead) (subst AreWide (sym all) wide) in
             let x_wide : length x ≡ 64 = All-head IsWide x ahead widths.1 in
-            let at : skip + done ≡ length (joined behind) + from = omega (arith, length-joined behind widths.0, was.next less) in
+            let at : skip + done ≡ length (joined behind) + from = omega (arith, joined-length 64 behind widths.0, was.next less) in
             let J = joined lines in
             let all_bytes : joined behind ++ (x ++ joined ahead) ≡ J = sym (flat_map-append (λ (l : List ℕ). l) behind (x ∷ ahead)) ∙ ap joined all in
             let left : length (drop from x) ≡ 64 - from = length-drop from x ∙ ap (λ n. n - from) x_wide in

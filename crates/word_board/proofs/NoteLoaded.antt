@@ -4,7 +4,7 @@ use Rattle.std.{specs.Prelude.{if◌then◌else◌}, proofs.{Math.Seq.{drop-appe
 use Rattle.std.proofs.lemmas.List.{take_all, take_more_set, length-set, length-append, length-drop, length-take-le, take-append-drop}
 use Rattle.zr_kinds.specs.declared.place.Note.{Note}
 use Rattle.board_face.specs.{SlotSteps.{seen_with, at_slot, side_took_note, side_took_linear}, declared.views.app.AppSide.{AppSide}}
-use Rattle.word_rings.{specs.{Slots.{note_of, linear_of, bytes_of}, Texts.{text_count}}, proofs.NoteSlots.{note-front, bytes-front}}
+use Rattle.word_rings.{specs.{Slots.{note_of, linear_of, bytes_of, words_for}}, proofs.NoteSlots.{note-front, bytes-front}}
 use Rattle.ref_words.specs.Rings.{loaded_note, loaded_bytes}
 use Rattle.word_board.specs.Board.{side_full_taken}
 
@@ -26,7 +26,7 @@ module _ (body : List ℕ) (k n : ℕ) (full : body ≡ 1 ∷ drop 1 body) where
 
 -- The note that was taken is the one of the fields, with the first bytes of the payload, where as many words were loaded as these take.
 module _ (fields payload : List ℕ) where
-  front : (m t : ℕ) → length fields ≡ 6 → length payload ≡ 32 → m ≡ min (text_count t) 32
+  front : (m t : ℕ) → length fields ≡ 6 → length payload ≡ 32 → m ≡ min (words_for t) 32
       → take t (linear_of (1 ∷ (fields ++ take m payload))) ≡ take t (linear_of (1 ∷ (fields ++ payload)))
   front m t long whole is =
       ⊎_elim
@@ -43,7 +43,7 @@ module _ (fields payload : List ℕ) where
   behind-fields long = ap (λ n. bytes_of (drop n (fields ++ payload))) (sym long) ∙ ap bytes_of (drop-append_seam fields payload)
 
 pub linear-taken : (app : AppSide) (slot payload linear : List ℕ) (note : Note) (m : ℕ) → slot ≡ 1 ∷ drop 1 slot → length slot ≡ 7
-    → length payload ≡ 32 → note ≡ note_of slot → m ≡ min (text_count note.total) 32 → linear ≡ bytes_of payload → note.split ≡ false
+    → length payload ≡ 32 → note ≡ note_of slot → m ≡ min (words_for note.total) 32 → linear ≡ bytes_of payload → note.split ≡ false
     → side_took_linear app (loaded_note (at_slot app (seen_with (drop 1 slot ++ take m payload))))
     (loaded_bytes (at_slot app (seen_with (drop 1 slot ++ take m payload)))) ≡ side_full_taken app note linear
 linear-taken app slot payload linear note m full long whole read enough bytes split =

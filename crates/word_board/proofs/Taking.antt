@@ -2,16 +2,15 @@
 use Rattle.std.proofs.Common.{◌≡◌, ⊎_elim, ℕ, ◌+◌, ◌-◌, ◌<◌, ◌≤◌, ◌^◌, Bool, true, false, List, [], length, map, set, get_or, refl, ap, sym, ◌∙◌, subst, inl, inr, arith}
 use Rattle.std.{proofs.lemmas.Bool.{cases_lt, lt-ltb, le-ltb, le-leb, lt-leb}, specs.Prelude.{◌⊎◌, ◌&&◌, nat_le, nat_lt, drop, All, None}}
 use Rattle.std.proofs.lemmas.List.{set-get_or, get_or_default, get_or-set_same, get_or-set_other, get_or-take, get_or-drop, length-set, length-take, length-drop, ext_get_or}
-use Rattle.std.proofs.lemmas.List.Elements.{All-take, All-drop}
 use mathlib.Core.{Option.{Option, some}, Logic.{dite}}
 use native.Mathlib.Decide.{ℕ_discrete}
 use lib.ListN.{get_elem?}
 use Rattle.zr_kinds.specs.declared.place.Place.{Place}
 use Rattle.area_layout.{specs.Layout.{Shape, LiesIn}}
 use Rattle.board_face.specs.{Sides.{IsApp}, declared.views.{parts.Setting.{Setting}, nic.NicSide.{NicSide}, app.AppSide.{AppSide}}}
-use Rattle.ref_words.specs.{declared.view.View.{View}, Words.{Words, table_of, phase_at}, Lines.{begin_line, line_count, has_line, has_out, lines_of, laid}}
-use Rattle.ref_words.specs.{Homes.{IsHome, AreHome, StandInSlots}, Area.{with_lines}, AreaSteps.{at_hand}, Seated.{Seated, card_view, app_view}, Rule.{BoardRule}}
-use Rattle.ref_words.proofs.{Roles.{card-is, card-moves, app-is, app-moves}, LaidLines.{length-laid, laid-other, laid-at, lines-inside}}
+use Rattle.ref_words.specs.{declared.view.View.{View}, Words.{Words, table_of, phase_at, with_lines}, Lines.{begin_line, line_count, has_line, has_out, lines_of, laid, AreWide}}
+use Rattle.ref_words.specs.{Homes.{IsHome, AreHome, StandInSlots}, AreaSteps.{at_hand}, Seated.{Seated, card_view, app_view}, Rule.{BoardRule}}
+use Rattle.ref_words.proofs.{Roles.{card-is, card-moves, app-is, app-moves}, LaidLines.{length-laid, laid-other, laid-at, lines-wide, lines-inside}}
 use Rattle.atomic_table.specs.{Table.{Me, Allows, Valid, carried_after, homes_after}, Seated.{TableId}}
 use Rattle.word_board.specs.{Board.{IsBoard, TheSeat, TheNic, TheApp}, Lines.{numbered, TookLines}, Steps.{MakesWords, MayTake, MayGive, word_in}}
 use Rattle.word_board.proofs.Acts.{taking, taken, taking-long, taking-other, taking-valid, giving, given, giving-valid, giving-long, giving-other, giving-at, put_all, held-numbered}
@@ -70,10 +69,6 @@ module _ (layout : Shape) (p : Place) where
         (λ (behind : first + line_count p ≤ k). laid-other area first lines k (inr (omega (arith, behind, many-lines))))
         (cases_lt k (first + line_count p)))
         (cases_lt k first))
-
-wide-lines : (layout : Shape) (p : Place) (area : List (List ℕ)) → All (λ line. length line ≡ 64) area → All (λ line. length line ≡ 64) (lines_of layout area p)
-wide-lines layout p area wide = All-take (λ (l : List ℕ). length l ≡ 64) (line_count p) (drop (begin_line layout p) area)
-    (All-drop (λ (l : List ℕ). length l ≡ 64) (begin_line layout p) area wide)
 
 -- ---- slots
 
@@ -138,7 +133,7 @@ module _ (setting : Setting) (area : List (List ℕ)) (homes : List (Option (Lis
 
 -- it has these lines, in their order
 took : (first many : ℕ) (view : List (List ℕ) → View) (told : List (List ℕ) → Type 0) (lines : List (List ℕ)) → length lines ≡ many
-    → All (λ line. length line ≡ 64) lines → told lines → TookLines first many view told (view lines, carried_after [] (taking first lines))
+    → AreWide lines → told lines → TookLines first many view told (view lines, carried_after [] (taking first lines))
 took first many view told lines long wide tells =
     let slots = taken first lines in
     let same : map (λ (slot : ℕ × List ℕ). slot.1) (carried_after [] (taking first lines)) ≡ lines =
@@ -147,7 +142,7 @@ took first many view told lines long wide tells =
       has = record {
         slots = slots ∙ ap (numbered first) (sym same);
         many = ap length same ∙ long;
-        wide = subst (All (λ (line : List ℕ). length line ≡ 64)) (sym same) wide;
+        wide = subst AreWide (sym same) wide;
       };
       view = ap view (sym same);
       told = subst told (sym same) tells;
@@ -213,7 +208,7 @@ card-take card i f first' many place next out told at_first lies full idle takes
               rule = made.rule;
             },
             took first many (λ ls. card_view (next ls)) told lines (many-lines setting.layout place area inside ∙ law_now.1)
-                (wide-lines setting.layout place area sizes.lines) law_now.3,
+                (lines-wide setting.layout place area sizes.lines) law_now.3,
           ));
     })
 
@@ -313,7 +308,7 @@ app-take app i f first' many place next out told at_first count lies full idle t
               rule = made.rule;
             },
             took first many (λ ls. app_view (next ls)) told lines (many-lines setting.layout place area inside ∙ count)
-                (wide-lines setting.layout place area sizes.lines) law_now.2,
+                (lines-wide setting.layout place area sizes.lines) law_now.2,
           ));
     })
 

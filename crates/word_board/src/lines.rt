@@ -1,12 +1,10 @@
 //! Texts in the lines that a seat has, which it writes and reads as plain memory.
 ghost use Rattle.std.specs.Prelude.{◌≡◌, ◌+◌, ◌/◌, ◌^◌, ◌<◌, ◌≤◌, ◌++◌, length, take, drop};
 ghost use Rattle.ref_words.specs.Lines.{joined, HaveText};
-ghost use Rattle.word_board.specs.Lines.{HasLines, held};
+ghost use Rattle.word_board.specs.Lines.{HasLines, IsSameSeat, held};
 
 use crate::rule::{WordSeat, WordTable};
-
-/// How many bytes a line has.
-pub(crate) const LINE_BYTES: usize = 64;
+use ref_words::LINE_BYTES;
 
 /// A line of the area: a slot of the table.
 pub type Line = [u8; LINE_BYTES];
@@ -60,9 +58,7 @@ pub(crate) fn read_lines(
     requires few { first < 2 ^ 32 }
     requires skip { skip < 64 }
     requires has { HasLines first ((skip + length into.old + 63) / 64) seat.old.me }
-    ensures table { seat.new.table_id ≡ seat.old.table_id }
-    ensures number { seat.new.id ≡ seat.old.id }
-    ensures me { seat.new.me ≡ seat.old.me }
+    ensures same { IsSameSeat seat.old seat.new }
     ensures bytes { into.new ≡ take (length into.old) (drop skip (joined (held seat.old.me))) }
 {
     let mut line = first;

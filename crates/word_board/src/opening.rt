@@ -4,9 +4,9 @@ ghost use Rattle.area_layout.specs.Layout.{IsLayout};
 ghost use Rattle.ref_words.specs.Words.{full_bits, table_of, opened_words};
 
 use crate::kinds::WORD_BITS;
-use crate::lines::{LINE_BYTES, Line};
+use crate::lines::Line;
 use area_layout::Layout;
-use ref_words::WordMap;
+use ref_words::{LINE_BYTES, WordMap};
 use std::alloc::{AllocError, Global};
 
 /// A word with its lowest `n` bits set, or all 64.

@@ -1,7 +1,7 @@
 //! A role's seat with the words on which it steps, and its single steps.
-ghost use Rattle.std.specs.Prelude.{◌≡◌, ℕ, ◌+◌, ◌/◌, ◌^◌, ◌<◌, List, [], length, All};
+ghost use Rattle.std.specs.Prelude.{◌≡◌, ℕ, ◌+◌, ◌/◌, ◌^◌, ◌<◌, List, [], length};
 ghost use Rattle.board_face.specs.{NicCalls.{apps_of}, declared.views.parts.Setting.{Setting}};
-ghost use Rattle.ref_words.specs.{declared.view.View.{View}, Words.{table_words, phase_at}, Lines.{HaveText}};
+ghost use Rattle.ref_words.specs.{declared.view.View.{View}, Words.{table_words, phase_at}, Lines.{AreWide, HaveText}};
 ghost use Rattle.word_board.specs.{Board.{TheSeat}, Steps.{MayStep, MayTake, MayGive, HasStored, HasRead, made_by}};
 
 use crate::lines::{read_lines, write_lines};
@@ -212,7 +212,7 @@ impl<'a, R: Role + Drop> Stepper<'a, R> {
         requires takes { MayTake R.view_of self.old (phase_at self.old.board.setting 0) (λ n. n)
             first N.many (λ lines. R.side_of (N.begun lines)) N.told }
         requires gives { (lines : List (List ℕ)) → N.told lines → length lines ≡ N.many
-            → All (λ line. length line ≡ 64) lines
+            → AreWide lines
             → MayGive R.view_of (record self.old { side = R.side_of (N.begun lines) }) first lines
             (R.side_of (N.done lines)) }
         requires stays { (lines : List (List ℕ))

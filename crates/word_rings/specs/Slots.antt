@@ -22,6 +22,10 @@ abbrev pub words_of : ℕ → List ℕ → List ℕ
 words_of zero bytes = []
 words_of (suc more) bytes = little_number 8 bytes ∷ words_of more (drop 8 bytes)
 
+-- how many words so many bytes take
+abbrev pub words_for : ℕ → ℕ
+words_for n = (n + 7) / 8
+
 -- the bytes of these words
 abbrev pub bytes_of : List ℕ → List ℕ
 bytes_of words = flat_map (little_bytes 8) words

@@ -1,11 +1,15 @@
 -- The carrier was asked for a notice, where no loan was due.
-use Rattle.std.specs.Prelude.{◌≡◌, ◌≢◌, ℕ, List, Option, None, Bool, MatchOption}
-use Rattle.zc_forward.specs.{Tags.{FlowsKeep, Tags, TakesTag}, Sending.{OutboxState, is_urgent}}
+use Rattle.std.specs.Prelude.{◌≡◌, ◌≢◌, ℕ, Option, None, Bool, IfNone, MatchOption}
+use Rattle.zr_io.specs.Moved.{Rose}
+use Rattle.zc_forward.specs.{Tags.{TakesTag}, Sending.{OutboxState, is_urgent}, Carrying.{Carrying, OnlyLooks}}
 
-pub record Asked (w : OutboxState) (got later : ℕ → Option (List ℕ)) (tags after : Tags) (told : Option ℕ) : Type 0 where
-  pub took : TakesTag tags after told
-  pub keeps : FlowsKeep got later
+-- It told of a tag, which is out no longer, or of none.
+pub record Asked (w : OutboxState) (was now : Carrying) (told : Option ℕ) : Type 0 where
+  pub took : TakesTag was.tags now.tags told
   pub due : told ≢ None → w.tally.due ≡ None
+  -- where it was asked and had none it counted a look
+  pub looked : IfNone told (w.tally.due ≡ None → Rose was.pace.looks now.pace.looks)
+  pub only : OnlyLooks was now
 
 -- It was asked once, with urge exactly where the stream waits for a buffer or has ended, or no more loans may go out; and not while a
 -- loan is due.

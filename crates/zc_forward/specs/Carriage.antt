@@ -1,8 +1,8 @@
 -- What a contract sees of a carrier over a shelf.
 use Rattle.std.specs.{Prelude.{◌≡◌, ℕ, ◌<◌, length, nat_eq, nat_le, Bool, true, false, is_none, Option, Some, None, ◌∷◌, if◌then◌else◌}, List.{IsDistinct}, Map.{keys_of}}
-use Rattle.futures.specs.declared.task.Poll.{Poll, TheVariants.{Ready, Pending}}
-use Rattle.zr_io.specs.Memory.{raised}
-use Rattle.zc_forward.specs.Tags.{Pace, Tags}
+use Rattle.futures.specs.{Poll.{IfReady, OnPending}, declared.task.Poll.{Poll, TheVariants.{Ready, Pending}}}
+use Rattle.zr_io.specs.{Memory.{raised}, Moved.{Rose}}
+use Rattle.zc_forward.specs.Tags.{Pace, Tags, TakesTag}
 
 -- the shelf, how many tags it keeps out, these in the order in which they went out, and how often it had no notice
 pub record Carriage (T : Type 0) : Type 0 where
@@ -30,6 +30,15 @@ pace_of carriage = record { delay = carriage.delay; looks = carriage.looks }
 -- none is told exactly where so few are out, and else the oldest
 abbrev pub AnswersLate : {T : Type 0} → Bool → Carriage T → Carriage T → Option ℕ → Type 0
 AnswersLate urge old new told = (is_none told ≡ is_waiting old urge) × TellsOldest old new told
+
+-- A poll is pending exactly where so few are out, which is a look. Else it gives the oldest, which is out no longer.
+pub record PollsOldest {T : Type 0} (urge : Bool) (old new : Carriage T) (gave : Poll ℕ) : Type 0 where
+  pub waits : is_pending gave ≡ is_waiting old urge
+  pub oldest : IfReady gave (λ tag. TellsOldest old new (Some tag))
+  pub told : IfReady gave (λ tag. TakesTag old.out new.out (Some tag))
+  pub pending : OnPending gave (TellsOldest old new None)
+  pub none : OnPending gave (new.out ≡ old.out)
+  pub looked : OnPending gave (Rose old.looks new.looks)
 
 -- no tag is out twice
 pub record AreOut (delay : ℕ) (out : Tags) : Type 0 where

@@ -40,3 +40,7 @@ pub record ForwardStands (first : ℕ → Option (List ℕ)) (losses : ShelfCoun
   pub still : w.tally.stopped ≢ stop.Write → losses_now.faults ≡ losses.faults
   -- what was written is what was carried by calls that went well
   pub appended : losses_now.appended ≡ raised_by losses.appended w.tally.written
+
+-- It stands so between two turns, whatever its carrier got.
+abbrev pub StandsSo : OutboxState → Desk → AppView → Type 0
+StandsSo w st v = (first got : ℕ → Option (List ℕ)) × (losses now : ShelfCounts) × (tags : Tags) × ForwardStands first losses w st tags got now v

@@ -1,5 +1,6 @@
 pub mod Carriage
 pub mod Tags
+pub mod Seats
 pub mod Sending
 pub mod Carrying
 pub mod OutboxOf
@@ -8,3 +9,5 @@ pub mod Asking
 pub mod Turns
 pub mod GivenUp
 pub mod Polls
+pub mod Handing
+pub mod Sights

@@ -12,7 +12,7 @@ use Rattle.zc_poll.specs.declared.{step.Lent.{Lent}, to_shelf.Rests.{Rests, TheV
 use Rattle.zc_poll.specs.declared.{step.Step.{Step, TheVariants.{Waiting, Memory, Ended as stream_ended}}, to_shelf.{Poured.{Poured}, PollTurn.{PollTurn}}}
 use Rattle.zc_poll.specs.{declared.to_shelf.PollTurn.TheVariants.{Did, Idle, Ended}, Counting.{TallyState}, Fresh.{has_left}, Standing.{Desk, stopped_with}, Steps.{OnlySteps, Scrubs, Steps, IsItem}}
 use Rattle.zc_poll.specs.PourTurns.{GoesBack, IsTold, pour_end}
-use Rattle.zc_forward.specs.{declared.sent.Sent.{Sent}, GivenUp.{GaveAllUp}, Tags.{Pace, Tags, TakesTag}, Sending.{OutboxState, is_held, is_urgent, most_out, without_uncarried, many_kept}}
+use Rattle.zc_forward.specs.{declared.sent.Sent.{Sent}, GivenUp.{GaveAllUp}, Tags.{Pace, PaceGoes, Tags, TakesTag}, Sending.{OutboxState, is_held, is_urgent, most_out, without_uncarried, many_kept}}
 use Rattle.zc_forward.specs.{Forwarding.{ForwardStands}, Asking.{AskedBy}}
 
 -- what a turn looks at: what is kept, the stream's desk, the tags that are out, the carrier's pace, and the view
@@ -138,6 +138,7 @@ pub record Asks {C : Type 0} (answers : Bool → C → C → Option ℕ → Type
   pub took : TakesTag (tags_at old) (tags_at asked) told
   -- once
   pub pace : pace_at new ≡ pace_at asked
+  pub goes : PaceGoes (pace_at old) (pace_at new)
   pub rest : MatchOption told ((new ≡ asked) ⊎ CarriedItem was now) (λ tag. (new ≡ asked) × Told was now)
 
 -- A carrier that keeps so many tags out was asked once, where no loan was due. So few were out that it had no notice, and the tags are

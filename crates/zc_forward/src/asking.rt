@@ -1,8 +1,6 @@
 //! A carrier is asked for a notice. While a loan is due it isn't, so that one at most is due.
-ghost use Rattle.std.specs.Prelude.{◌≡◌, IfNone, None};
 ghost use Rattle.futures.specs.Task.{Keeps};
-ghost use Rattle.zr_io.specs.Moved.{Rose};
-ghost use Rattle.zc_forward.specs.{OutboxOf.{outbox_of}, Tags.{PaceGoes}, Asking.{Asked, AskedBy}};
+ghost use Rattle.zc_forward.specs.{OutboxOf.{outbox_of}, Carrying.{carrying}, Asking.{Asked, AskedBy}};
 
 use crate::carrier::Carrier;
 use crate::outbox::{Outbox, is_urgent};
@@ -11,12 +9,8 @@ use futures::task::{Context, Poll};
 /// Asks for a notice.
 pub fn ask<C: Carrier>(carrier: &mut C, work: &Outbox) -> Option<u32>
     ensures by { AskedBy C.answers (outbox_of work.now) carrier.old carrier.new result }
-    ensures asked { Asked (outbox_of work.now) (C.got carrier.old) (C.got carrier.new)
-        (C.tags carrier.old) (C.tags carrier.new) result }
-    ensures looked { IfNone result
-        (work.now.tally.due ≡ None → Rose (C.pace carrier.old).looks (C.pace carrier.new).looks) }
-    ensures counts { C.counts carrier.new ≡ C.counts carrier.old }
-    ensures pace { PaceGoes (C.pace carrier.old) (C.pace carrier.new) }
+    ensures asked { let seen = carrying C.got C.tags C.counts C.pace in
+        Asked (outbox_of work.now) (seen carrier.old) (seen carrier.new) result }
 {
     if work.tally.due.is_some() {
         return None;
@@ -27,12 +21,8 @@ pub fn ask<C: Carrier>(carrier: &mut C, work: &Outbox) -> Option<u32>
 /// Asks for a notice by a poll.
 pub fn poll_ask<C: Carrier>(carrier: &mut C, work: &Outbox, cx: &mut Context<'_>) -> Option<u32>
     ensures by { AskedBy C.answers (outbox_of work.now) carrier.old carrier.new result }
-    ensures asked { Asked (outbox_of work.now) (C.got carrier.old) (C.got carrier.new)
-        (C.tags carrier.old) (C.tags carrier.new) result }
-    ensures looked { IfNone result
-        (work.now.tally.due ≡ None → Rose (C.pace carrier.old).looks (C.pace carrier.new).looks) }
-    ensures counts { C.counts carrier.new ≡ C.counts carrier.old }
-    ensures pace { PaceGoes (C.pace carrier.old) (C.pace carrier.new) }
+    ensures asked { let seen = carrying C.got C.tags C.counts C.pace in
+        Asked (outbox_of work.now) (seen carrier.old) (seen carrier.new) result }
     ensures kept { Keeps cx.old cx.new }
 {
     if work.tally.due.is_some() {

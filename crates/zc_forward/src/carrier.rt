@@ -1,7 +1,7 @@
 ghost use Rattle.std.specs.{Prelude.{◌≡◌, ◌≢◌, ◌<◌, ℕ, List, [], ◌∷◌, ◌++◌, Option, length, nat_eq, is_ok, if◌then◌else◌, IfNone, IfSome, IsSome, None, Some, ⊤, Bool}, Map.{lookup}, Io.KnownBytes.{Keeps as KeepsBytes}};
 ghost use Rattle.futures.specs.{Poll.{IfReady, OnPending}, Task.{Covers, Keeps}};
 ghost use Rattle.zr_io.specs.Moved.{AddsPiece, CountsPiece, HasCause, Rose, ShelfCounts};
-ghost use Rattle.zc_forward.specs.Tags.{FlowsKeep, Pace, PaceGoes, Tags, TakesTag, polled};
+ghost use Rattle.zc_forward.specs.{Tags.{FlowsKeep, Pace, Tags, TakesTag, polled}, Carrying.{Cancels, OnlyLooks, carrying}};
 
 use futures::task::{Context, Poll};
 use zr_io::Failed;
@@ -59,9 +59,8 @@ pub trait Carrier {
         ensures told { TakesTag (tags self.old) (tags self.new) result }
         ensures answers { answers urge self.old self.new result }
         ensures looked { IfNone result (Rose (pace self.old).looks (pace self.new).looks) }
-        ensures got { FlowsKeep (got self.old) (got self.new) }
-        ensures counts { counts self.new ≡ counts self.old }
-        ensures pace { PaceGoes (pace self.old) (pace self.new) };
+        ensures only { let seen = carrying got tags counts pace in
+            OnlyLooks (seen self.old) (seen self.new) };
 
     /// As `notice`, for a task: a poll that is pending has registered for another.
     fn poll_notice(&mut self, cx: &mut Context<'_>, urge: bool) -> Poll<u32>
@@ -71,14 +70,11 @@ pub trait Carrier {
         ensures looked { OnPending result (Rose (pace self.old).looks (pace self.new).looks) }
         ensures registered { OnPending result (Covers cx.new (needs self.new)) }
         ensures kept { Keeps cx.old cx.new }
-        ensures got { FlowsKeep (got self.old) (got self.new) }
-        ensures counts { counts self.new ≡ counts self.old }
-        ensures pace { PaceGoes (pace self.old) (pace self.new) };
+        ensures only { let seen = carrying got tags counts pace in
+            OnlyLooks (seen self.old) (seen self.new) };
 
     /// All tags are out no longer, without a notice: the carrier needs their buffers no more.
     fn cancel(&mut self)
-        ensures tags { tags self.new ≡ [] }
-        ensures got { FlowsKeep (got self.old) (got self.new) }
-        ensures counts { counts self.new ≡ counts self.old }
-        ensures pace { pace self.new ≡ pace self.old };
+        ensures { let seen = carrying got tags counts pace in
+            Cancels (seen self.old) (seen self.new) };
 }

@@ -1,11 +1,11 @@
 //! The loans of a stream go to a carrier, one turn after another.
-ghost use Rattle.std.specs.Prelude.{◌≡◌, ◌≢◌, ℕ, List, [], Option, None, true, ⊤};
-ghost use Rattle.futures.specs.{Poll.{IfReady, OnPending}, Task.{Covers, Keeps}};
-ghost use Rattle.board_face.specs.{AppEvents.{app_gist}, declared.views.app.AppView.{AppView}};
-ghost use Rattle.zr_kinds.specs.declared.behaviour.Stopped.TheVariants.{No};
-ghost use Rattle.zc_poll.specs.{PourTurns.{IsTold, ScrubsIfQuiet}, Fresh.{HasDoneNothing, new_desk}, Standing.{StreamStands}};
-ghost use Rattle.zc_poll.specs.{PourTurns.{pour_end}, Stops.{HasStopped, IsStill, quit_by}, declared.to_shelf.Poured.{Poured as Told}};
-ghost use Rattle.zc_forward.specs.{Forwarding.{ForwardStands}, GivenUp.{GaveAllUp}, Polls.{Tells}, Sending.{new_outbox}, Tags.{FlowsKeep, PaceGoes}, Turns.{ForwardGives, PollDoes, PollForwards, TurnDoes, stage_of, Asks}};
+ghost use Rattle.std.specs.Prelude.{◌≡◌, ℕ, List, [], Option, true, ⊤};
+ghost use Rattle.futures.specs.{Poll.{IfReady, OnPending}, Task.{Keeps}};
+ghost use Rattle.board_face.specs.AppEvents.{app_gist};
+ghost use Rattle.zc_poll.specs.{Fresh.{HasDoneNothing, new_desk}, Standing.{StreamStands}};
+ghost use Rattle.zc_poll.specs.{Polls.{AsksAgain}, PourTurns.{pour_end}, Stops.{HasStopped, quit_by}, declared.to_shelf.Poured.{Poured as Told}};
+ghost use Rattle.zc_forward.specs.{GivenUp.{Halts}, Seats.{SameSeat, streaming}, Carrying.{Cancels, carrying}, Sending.{new_outbox}, Turns.{Asks}};
+ghost use Rattle.zc_forward.specs.Sights.{MayTurn, ForwardMakes, PollMakes, StandsSince, TellsOf, sight_of, stage_at};
 ghost use Rattle.zr_io.specs.Moved.{ShelfCounts};
 
 use crate::asking::{ask, poll_ask};
@@ -47,9 +47,8 @@ impl<F: AppFace, C: Carrier> Forward<F, C> {
         ensures parts { (result.face ≡ stream.face) × (result.carrier ≡ carrier)
             × (result.desk ≡ stream.desk)
             × (result.work ≡ new_outbox result.work.tally.room) }
-        ensures stands { ForwardStands (C.got carrier) (C.counts carrier) result.work result.desk
-            (C.tags result.carrier) (C.got result.carrier)
-            (C.counts result.carrier) (F.seen result.face) }
+        ensures stands { let at = sight_of F.seen (carrying C.got C.tags C.counts C.pace) in
+            StandsSince (C.got carrier) (C.counts carrier) (at result) }
     {
         let alloc = stream.alloc();
         Forward {
@@ -76,41 +75,17 @@ impl<F: AppFace, C: Carrier> Forward<F, C> {
     /// carrier, or lets the face leave. A loan stays due where the refill slot was seen in use. One that was stopped scrubs as soon
     /// as no tag is out and each refill slot is free, also while notes still come.
     pub fn turn(&mut self) -> PollTurn
-        requires stands { (first : ℕ → Option (List ℕ)) × (losses : ShelfCounts)
-            × ForwardStands first losses self.old.work self.old.desk (C.tags self.old.carrier)
-            (C.got self.old.carrier)
-            (C.counts self.old.carrier) (F.seen self.old.face) }
-        ensures gives { (first : ℕ → Option (List ℕ)) (losses : ShelfCounts)
-            → ForwardStands first losses self.old.work self.old.desk (C.tags self.old.carrier)
-            (C.got self.old.carrier)
-            (C.counts self.old.carrier) (F.seen self.old.face)
-            → ForwardGives first losses self.new.work self.new.desk (C.tags self.new.carrier)
-            (C.got self.new.carrier)
-            (C.counts self.new.carrier) (F.seen self.new.face) result }
-        // Why it did something, waited, or ended, and which loan went back.
-        ensures does { TurnDoes
-            (stage_of self.old.work self.old.desk (C.tags self.old.carrier)
-            (C.pace self.old.carrier) (F.seen self.old.face))
-            (stage_of self.new.work self.new.desk (C.tags self.new.carrier)
-            (C.pace self.new.carrier) (F.seen self.new.face)) result }
-        ensures pace { PaceGoes (C.pace self.old.carrier) (C.pace self.new.carrier) }
-        // With which urge it asked the carrier for a notice.
-        ensures asks { Asks C.answers C.tags C.pace
-            (stage_of self.old.work self.old.desk (C.tags self.old.carrier)
-            (C.pace self.old.carrier) (F.seen self.old.face))
-            (stage_of self.new.work self.new.desk (C.tags self.new.carrier)
-            (C.pace self.new.carrier) (F.seen self.new.face))
+        requires stands { let at = sight_of F.seen (carrying C.got C.tags C.counts C.pace) in
+            MayTurn (at self.old) }
+        ensures makes { let at = sight_of F.seen (carrying C.got C.tags C.counts C.pace) in
+            ForwardMakes (λ look.
+            F.tells look (app_gist (F.seen self.new.face)) (F.beside self.new.face))
+            (at self.old) (at self.new) result }
+        // With which urge it asked the carrier for a notice, and that it asked once.
+        ensures asks { let at = sight_of F.seen (carrying C.got C.tags C.counts C.pace) in
+            Asks C.answers C.tags C.pace (stage_at (at self.old)) (stage_at (at self.new))
             self.old.carrier self.new.carrier }
-        // One that was stopped and hadn't scrubbed has, where no tag is out and no loan is due, or it saw a refill slot in use.
-        ensures scrubs { self.old.work.tally.stopped ≢ No → self.old.work.tally.due ≡ None
-            → self.old.work.out ≡ []
-            → ScrubsIfQuiet (F.seen self.old.face) (F.seen self.new.face) }
-        // The board says of the look on which it rests that it is so.
-        ensures told { IsTold (λ look.
-            F.tells look (app_gist (F.seen self.new.face)) (F.beside self.new.face)) result }
-        // The same application at the same board.
-        ensures same { (F.seen self.new.face).app ≡ (F.seen self.old.face).app }
-        ensures beside { F.beside self.new.face ≡ F.beside self.old.face }
+        ensures seat { SameSeat F.seen F.beside self.old.face self.new.face }
     {
         let told = ask(&mut self.carrier, &self.work);
         go_on(&mut self.stream, &mut self.carrier, &mut self.work, told)
@@ -118,38 +93,17 @@ impl<F: AppFace, C: Carrier> Forward<F, C> {
 
     /// A turn that asks for a notice by a poll.
     pub(crate) fn poll_turn(&mut self, cx: &mut Context<'_>) -> PollTurn
-        requires stands { (first : ℕ → Option (List ℕ)) × (losses : ShelfCounts)
-            × ForwardStands first losses self.old.work self.old.desk (C.tags self.old.carrier)
-            (C.got self.old.carrier)
-            (C.counts self.old.carrier) (F.seen self.old.face) }
-        ensures gives { (first : ℕ → Option (List ℕ)) (losses : ShelfCounts)
-            → ForwardStands first losses self.old.work self.old.desk (C.tags self.old.carrier)
-            (C.got self.old.carrier)
-            (C.counts self.old.carrier) (F.seen self.old.face)
-            → ForwardGives first losses self.new.work self.new.desk (C.tags self.new.carrier)
-            (C.got self.new.carrier)
-            (C.counts self.new.carrier) (F.seen self.new.face) result }
-        ensures does { TurnDoes
-            (stage_of self.old.work self.old.desk (C.tags self.old.carrier)
-            (C.pace self.old.carrier) (F.seen self.old.face))
-            (stage_of self.new.work self.new.desk (C.tags self.new.carrier)
-            (C.pace self.new.carrier) (F.seen self.new.face)) result }
-        ensures pace { PaceGoes (C.pace self.old.carrier) (C.pace self.new.carrier) }
-        // With which urge it asked the carrier for a notice.
-        ensures asks { Asks C.answers C.tags C.pace
-            (stage_of self.old.work self.old.desk (C.tags self.old.carrier)
-            (C.pace self.old.carrier) (F.seen self.old.face))
-            (stage_of self.new.work self.new.desk (C.tags self.new.carrier)
-            (C.pace self.new.carrier) (F.seen self.new.face))
+        requires stands { let at = sight_of F.seen (carrying C.got C.tags C.counts C.pace) in
+            MayTurn (at self.old) }
+        ensures makes { let at = sight_of F.seen (carrying C.got C.tags C.counts C.pace) in
+            ForwardMakes (λ look.
+            F.tells look (app_gist (F.seen self.new.face)) (F.beside self.new.face))
+            (at self.old) (at self.new) result }
+        ensures asks { let at = sight_of F.seen (carrying C.got C.tags C.counts C.pace) in
+            Asks C.answers C.tags C.pace (stage_at (at self.old)) (stage_at (at self.new))
             self.old.carrier self.new.carrier }
-        ensures scrubs { self.old.work.tally.stopped ≢ No → self.old.work.tally.due ≡ None
-            → self.old.work.out ≡ []
-            → ScrubsIfQuiet (F.seen self.old.face) (F.seen self.new.face) }
-        ensures told { IsTold (λ look.
-            F.tells look (app_gist (F.seen self.new.face)) (F.beside self.new.face)) result }
-        ensures same { (F.seen self.new.face).app ≡ (F.seen self.old.face).app }
+        ensures seat { SameSeat F.seen F.beside self.old.face self.new.face }
         ensures kept { Keeps cx.old cx.new }
-        ensures beside { F.beside self.new.face ≡ F.beside self.old.face }
     {
         let told = poll_ask(&mut self.carrier, &self.work, cx);
         go_on(&mut self.stream, &mut self.carrier, &mut self.work, told)
@@ -158,22 +112,17 @@ impl<F: AppFace, C: Carrier> Forward<F, C> {
     /// Takes each tag back from the carrier, gives all loans and pieces up, and forwards nothing more: what was forwarded, the stream,
     /// which is stopped, and the carrier. `leaving` gives the face of that stream back.
     pub fn stop(self) -> (Poured, LoanStream<F>, C)
-        requires stands { (first : ℕ → Option (List ℕ)) × (losses : ShelfCounts)
-            × ForwardStands first losses self.work self.desk (C.tags self.carrier)
-            (C.got self.carrier) (C.counts self.carrier)
-            (F.seen self.face) }
+        requires stands { let at = sight_of F.seen (carrying C.got C.tags C.counts C.pace) in
+            MayTurn (at self) }
         // No loan and no tag is out.
-        ensures still { IsStill result.1.desk (F.seen result.1.face) }
-        ensures gave_up { GaveAllUp (F.seen self.face) (F.seen result.1.face) }
-        ensures stops { (first : ℕ → Option (List ℕ)) (losses : ShelfCounts)
-            → ForwardStands first losses self.work self.desk (C.tags self.carrier)
-            (C.got self.carrier) (C.counts self.carrier)
-            (F.seen self.face)
+        ensures halts { Halts F.seen F.beside (streaming self.face self.desk) result.1 }
+        ensures stops { let at = sight_of F.seen (carrying C.got C.tags C.counts C.pace) in
+            (first : ℕ → Option (List ℕ)) (losses : ShelfCounts)
+            → StandsSince first losses (at self)
             → HasStopped first (C.got result.2) (F.seen result.1.face) (pour_end result.0) }
         ensures cause { result.0.stopped ≡ quit_by self.work.tally.stopped }
-        ensures carrier { (C.tags result.2 ≡ []) × FlowsKeep (C.got self.carrier) (C.got result.2)
-            × (C.counts result.2 ≡ C.counts self.carrier) }
-        ensures beside { F.beside result.1.face ≡ F.beside self.face }
+        ensures carrier { let seen = carrying C.got C.tags C.counts C.pace in
+            Cancels (seen self.carrier) (seen result.2) }
     {
         let Forward {
             mut stream,
@@ -202,63 +151,33 @@ impl<F: AppFace, C: Carrier> Forward<F, C> {
 impl<F: AppFace + Drop, C: Carrier + Drop> Future for Forward<F, C> {
     type Output = Poured;
 
-    ghost can_poll = { λ s. (first : ℕ → Option (List ℕ)) × (losses : ShelfCounts)
-        × ForwardStands first losses s.work s.desk (C.tags s.carrier) (C.got s.carrier) (C.counts s.carrier) (F.seen s.face) };
+    ghost can_poll = { λ s. MayTurn (sight_of F.seen (carrying C.got C.tags C.counts C.pace) s) };
 
     ghost needs = { λ _ _. ⊤ };
 
     /// What a last turn gives and does.
-    ghost gives = { λ s. Tells s.work s.desk (C.tags s.carrier) (C.got s.carrier) (C.counts s.carrier) (F.seen s.face) };
+    ghost gives = { λ s. TellsOf (sight_of F.seen (carrying C.got C.tags C.counts C.pace) s) };
 
     /// One turn, which asks for a notice by `poll_notice`.
     fn poll(&mut self, cx: &mut Context<'_>) -> Poll<Poured>
-        requires { (first : ℕ → Option (List ℕ)) × (losses : ShelfCounts)
-            × ForwardStands first losses self.old.work self.old.desk (C.tags self.old.carrier)
-            (C.got self.old.carrier)
-            (C.counts self.old.carrier) (F.seen self.old.face) }
-        ensures value { IfReady result
-            (Tells self.old.work self.old.desk (C.tags self.old.carrier) (C.got self.old.carrier)
-            (C.counts self.old.carrier) (F.seen self.old.face)) }
-        ensures same { OnPending result ((x : Told)
-            → Tells self.new.work self.new.desk (C.tags self.new.carrier) (C.got self.new.carrier)
-            (C.counts self.new.carrier)
-            (F.seen self.new.face) x
-            → Tells self.old.work self.old.desk (C.tags self.old.carrier) (C.got self.old.carrier)
-            (C.counts self.old.carrier)
-            (F.seen self.old.face) x) }
-        ensures again { OnPending result ((first : ℕ → Option (List ℕ)) × (losses : ShelfCounts)
-            × ForwardStands first losses self.new.work self.new.desk (C.tags self.new.carrier)
-            (C.got self.new.carrier)
-            (C.counts self.new.carrier) (F.seen self.new.face)) }
-        // A poll that is pending asks for another, whatever its sources do.
-        ensures woken { OnPending result (cx.new.is_woken ≡ true) }
-        ensures registered { OnPending result (Covers cx.new (λ source. ⊤)) }
-        ensures kept { Keeps cx.old cx.new }
-        ensures gives { (first : ℕ → Option (List ℕ)) (losses : ShelfCounts)
-            → ForwardStands first losses self.old.work self.old.desk (C.tags self.old.carrier)
-            (C.got self.old.carrier)
-            (C.counts self.old.carrier) (F.seen self.old.face)
-            → PollForwards first losses self.new.work self.new.desk (C.tags self.new.carrier)
-            (C.got self.new.carrier)
-            (C.counts self.new.carrier) (F.seen self.new.face) result }
-        ensures does { PollDoes (λ look.
+        requires { let at = sight_of F.seen (carrying C.got C.tags C.counts C.pace) in
+            MayTurn (at self.old) }
+        ensures value { let at = sight_of F.seen (carrying C.got C.tags C.counts C.pace) in
+            IfReady result (TellsOf (at self.old)) }
+        ensures same { let at = sight_of F.seen (carrying C.got C.tags C.counts C.pace) in
+            OnPending result ((x : Told) → TellsOf (at self.new) x → TellsOf (at self.old) x) }
+        ensures again { let at = sight_of F.seen (carrying C.got C.tags C.counts C.pace) in
+            OnPending result (MayTurn (at self.new)) }
+        ensures wakes { AsksAgain cx.old cx.new result }
+        ensures makes { let at = sight_of F.seen (carrying C.got C.tags C.counts C.pace) in
+            PollMakes (λ look.
             F.tells look (app_gist (F.seen self.new.face)) (F.beside self.new.face))
-            (stage_of self.old.work self.old.desk (C.tags self.old.carrier)
-            (C.pace self.old.carrier) (F.seen self.old.face))
-            (stage_of self.new.work self.new.desk (C.tags self.new.carrier)
-            (C.pace self.new.carrier) (F.seen self.new.face)) result }
-        ensures pace { PaceGoes (C.pace self.old.carrier) (C.pace self.new.carrier) }
-        // With which urge it asked the carrier for a notice.
-        ensures asks { Asks C.answers C.tags C.pace
-            (stage_of self.old.work self.old.desk (C.tags self.old.carrier)
-            (C.pace self.old.carrier) (F.seen self.old.face))
-            (stage_of self.new.work self.new.desk (C.tags self.new.carrier)
-            (C.pace self.new.carrier) (F.seen self.new.face))
+            (at self.old) (at self.new) result }
+        // With which urge it asked the carrier for a notice, and that it asked once.
+        ensures asks { let at = sight_of F.seen (carrying C.got C.tags C.counts C.pace) in
+            Asks C.answers C.tags C.pace (stage_at (at self.old)) (stage_at (at self.new))
             self.old.carrier self.new.carrier }
-        ensures scrubs { self.old.work.tally.stopped ≢ No → self.old.work.tally.due ≡ None
-            → self.old.work.out ≡ []
-            → ScrubsIfQuiet (F.seen self.old.face) (F.seen self.new.face) }
-        ensures beside { F.beside self.new.face ≡ F.beside self.old.face }
+        ensures seat { SameSeat F.seen F.beside self.old.face self.new.face }
     {
         match self.poll_turn(cx) {
             PollTurn::Did => cx.yield_now(),

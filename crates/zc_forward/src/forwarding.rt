@@ -1,11 +1,10 @@
 //! The parts of a turn of forwarding.
-ghost use Rattle.std.specs.Prelude.{◌≡◌, ◌≢◌, ◌+◌, ◌<◌, ◌≤◌, ℕ, List, [], length, Option, Some, None, true, false, vec_capacity, IfSome, ◌⊎◌, MatchOption};
+ghost use Rattle.std.specs.Prelude.{◌≡◌, ◌≢◌, ℕ, List, [], Option, Some, None, true, IfSome, ◌⊎◌, MatchOption};
 ghost use Rattle.zr_io.specs.Moved.{Rose, ShelfCounts};
-ghost use Rattle.board_face.specs.{AppCalls.{HasLoan}, AppEvents.{app_gist}, declared.views.app.{LentPiece.{LentPiece}, AppView.{AppView}}};
-ghost use Rattle.zr_kinds.specs.declared.{place.Place.{Place}, behaviour.Stopped.TheVariants.{No}};
-ghost use Rattle.flow_queues.specs.Core.{total};
-ghost use Rattle.zc_poll.specs.{Standing.{Desk, StreamStands}, Steps.{IsItem, OnlySteps}, PourTurns.{IsTold, ScrubsIfQuiet}};
-ghost use Rattle.zc_forward.specs.{Tags.{Pace, Tags, TakesTag}, OutboxOf.{outbox_of}, Sending.{most_out, of_sent, tags_of, without_uncarried}, Forwarding.{ForwardStands}, Turns.{ForwardGives, GivesBack, CarriedItem, ScrubsFirst, StepDoes, Told, TurnDoes, stage_of, with_due}};
+ghost use Rattle.board_face.specs.{AppCalls.{HasLoan}, AppEvents.{app_gist}, declared.views.app.AppView.{AppView}};
+ghost use Rattle.zr_kinds.specs.declared.behaviour.Stopped.TheVariants.{No};
+ghost use Rattle.zc_poll.specs.{Standing.{Desk, HoldsLoan, StreamStands}, Steps.{IsItem, OnlySteps}, PourTurns.{IsTold, ScrubsIfQuiet}};
+ghost use Rattle.zc_forward.specs.{Tags.{Pace, Tags, TakesTag}, Seats.{DeskStays, SameSeat}, OutboxOf.{outbox_of}, Sending.{without_uncarried}, Handing.{CanHand, CanStep}, Forwarding.{ForwardStands, StandsSo}, Turns.{ForwardGives, GivesBack, CarriedItem, ScrubsFirst, StepDoes, Told, TurnDoes, stage_of, with_due}};
 
 use crate::carrier::Carrier;
 use crate::carrying::{fail, send};
@@ -17,8 +16,7 @@ use zr_kinds::Stopped;
 
 /// Gives a loan back. Where the refill slot is in use it stays due.
 fn give_back<F: AppFace>(stream: &mut LoanStream<F>, work: &mut Outbox, loan: Loan) -> PollTurn
-    requires stands { StreamStands stream.old.desk (F.seen stream.old.face) }
-    requires out { HasLoan (F.seen stream.old.face) loan }
+    requires holds { HoldsLoan stream.old.desk (F.seen stream.old.face) loan }
     requires due { work.old.tally.due ≡ None }
     ensures gives { (first got : ℕ → Option (List ℕ)) (losses now : ShelfCounts) (tags : Tags)
         → ForwardStands first losses (with_due (outbox_of work.old) (Some loan)) stream.old.desk
@@ -30,8 +28,7 @@ fn give_back<F: AppFace>(stream: &mut LoanStream<F>, work: &mut Outbox, loan: Lo
     ensures desk { stream.new.desk ≡ stream.old.desk }
     ensures told { IsTold (λ look.
         F.tells look (app_gist (F.seen stream.new.face)) (F.beside stream.new.face)) result }
-    ensures same { (F.seen stream.new.face).app ≡ (F.seen stream.old.face).app }
-    ensures beside { F.beside stream.new.face ≡ F.beside stream.old.face }
+    ensures seat { SameSeat F.seen F.beside stream.old.face stream.new.face }
 {
     match stream.give(loan) {
         Ok(()) => PollTurn::Did,
@@ -59,8 +56,7 @@ fn take_notice<F: AppFace>(stream: &mut LoanStream<F>, work: &mut Outbox, tag: u
     ensures told { (was tags : Tags) (pace later : Pace) → TakesTag was tags (Some tag)
         → Told (stage_of (outbox_of work.old) stream.old.desk was pace (F.seen stream.old.face))
         (stage_of (outbox_of work.new) stream.new.desk tags later (F.seen stream.new.face)) }
-    ensures same { (F.seen stream.new.face).app ≡ (F.seen stream.old.face).app }
-    ensures beside { F.beside stream.new.face ≡ F.beside stream.old.face }
+    ensures seat { SameSeat F.seen F.beside stream.old.face stream.new.face }
 {
     let loan = take_sent(&mut work.out, tag);
     give_back(stream, work, loan);
@@ -70,12 +66,10 @@ fn take_notice<F: AppFace>(stream: &mut LoanStream<F>, work: &mut Outbox, tag: u
 pub fn give_up_uncarried<F: AppFace>(stream: &mut LoanStream<F>, work: &mut Outbox)
     requires stands { StreamStands stream.old.desk (F.seen stream.old.face) }
     requires out { IfSome work.old.uncarried (λ loan. HasLoan (F.seen stream.old.face) loan) }
-    ensures stands { StreamStands stream.new.desk (F.seen stream.new.face) }
-    ensures desk { stream.new.desk ≡ stream.old.desk }
+    ensures stays { DeskStays F.seen F.beside stream.old stream.new }
     ensures view { F.seen stream.new.face
         ≡ without_uncarried work.old.uncarried (F.seen stream.old.face) }
     ensures work { work.new ≡ record work.old { uncarried = None } }
-    ensures beside { F.beside stream.new.face ≡ F.beside stream.old.face }
 {
     if let Some(loan) = work.uncarried.take() {
         stream.abandon(loan);
@@ -84,9 +78,7 @@ pub fn give_up_uncarried<F: AppFace>(stream: &mut LoanStream<F>, work: &mut Outb
 
 /// Lets the face leave, once all is given back. A loan that wasn't carried is given up before.
 fn leave<F: AppFace>(stream: &mut LoanStream<F>, work: &mut Outbox) -> PollTurn
-    requires stands { (first got : ℕ → Option (List ℕ)) × (losses now : ShelfCounts) × (tags : Tags)
-        × ForwardStands first losses (outbox_of work.old) stream.old.desk tags got now
-        (F.seen stream.old.face) }
+    requires stands { StandsSo (outbox_of work.old) stream.old.desk (F.seen stream.old.face) }
     requires ended { stream.old.desk.ended ≡ true }
     requires none { work.old.out.items ≡ [] }
     requires due { work.old.tally.due ≡ None }
@@ -105,8 +97,7 @@ fn leave<F: AppFace>(stream: &mut LoanStream<F>, work: &mut Outbox) -> PollTurn
     ensures scrubs { ScrubsIfQuiet (F.seen stream.old.face) (F.seen stream.new.face) }
     ensures told { IsTold (λ look.
         F.tells look (app_gist (F.seen stream.new.face)) (F.beside stream.new.face)) result }
-    ensures same { (F.seen stream.new.face).app ≡ (F.seen stream.old.face).app }
-    ensures beside { F.beside stream.new.face ≡ F.beside stream.old.face }
+    ensures seat { SameSeat F.seen F.beside stream.old.face stream.new.face }
 {
     give_up_uncarried(stream, work);
     if !stream.leave() {
@@ -123,16 +114,8 @@ fn forward_item<F: AppFace, C: Carrier>(
     work: &mut Outbox,
     lent: Lent,
 )
-    requires stands { StreamStands stream.old.desk (F.seen stream.old.face) }
-    requires out { HasLoan (F.seen stream.old.face) lent.loan }
-    requires none { work.old.tally.due ≡ None }
-    requires few { length work.old.out.items < most_out }
-    requires tags { C.tags carrier.old ≡ tags_of work.old.out.items }
-    requires room { length work.old.tally.counts.entries ≤ vec_capacity work.old.tally.flows }
-    requires empty { work.old.tally.flows.items ≡ [] }
-    requires loans { work.old.uncarried ≡ None
-        × ((f : Place → ℕ) → total (λ (l : LentPiece). f l.place) (F.seen stream.old.face).loans
-        ≡ f lent.loan + of_sent f work.old.out.items) }
+    requires can { CanHand (outbox_of work.old) stream.old.desk (C.tags carrier.old)
+        (F.seen stream.old.face) lent.loan }
     ensures gives { (first : ℕ → Option (List ℕ)) (losses : ShelfCounts) (st : Desk) (v : AppView)
         → ForwardStands first losses (outbox_of work.old) st (C.tags carrier.old)
         (C.got carrier.old) (C.counts carrier.old) v
@@ -148,8 +131,7 @@ fn forward_item<F: AppFace, C: Carrier>(
         (stage_of (outbox_of work.new) stream.new.desk (C.tags carrier.new) later
         (F.seen stream.new.face)) }
     ensures pace { C.pace carrier.new ≡ C.pace carrier.old }
-    ensures same { (F.seen stream.new.face).app ≡ (F.seen stream.old.face).app }
-    ensures beside { F.beside stream.new.face ≡ F.beside stream.old.face }
+    ensures seat { SameSeat F.seen F.beside stream.old.face stream.new.face }
 {
     let Lent {
         flow,
@@ -189,9 +171,7 @@ fn step_once<F: AppFace, C: Carrier>(
         × ForwardStands first losses (outbox_of work.old) stream.old.desk (C.tags carrier.old)
         (C.got carrier.old) (C.counts carrier.old)
         (F.seen stream.old.face) }
-    requires more { stream.old.desk.ended ≡ false }
-    requires none { work.old.tally.due ≡ None }
-    requires few { length work.old.out.items < most_out }
+    requires can { CanStep (outbox_of work.old) stream.old.desk }
     ensures gives { (first : ℕ → Option (List ℕ)) (losses : ShelfCounts)
         → ForwardStands first losses (outbox_of work.old) stream.old.desk (C.tags carrier.old)
         (C.got carrier.old) (C.counts carrier.old)
@@ -214,8 +194,7 @@ fn step_once<F: AppFace, C: Carrier>(
         (F.seen stream.new.face)) }
     ensures told { IsTold (λ look.
         F.tells look (app_gist (F.seen stream.new.face)) (F.beside stream.new.face)) result }
-    ensures same { (F.seen stream.new.face).app ≡ (F.seen stream.old.face).app }
-    ensures beside { F.beside stream.new.face ≡ F.beside stream.old.face }
+    ensures seat { SameSeat F.seen F.beside stream.old.face stream.new.face }
 {
     match stream.step() {
         Step::Item(lent) => {
@@ -241,9 +220,7 @@ fn step_once<F: AppFace, C: Carrier>(
 /// Scrubs where the stream was stopped and no tag is out, unless a refill slot is in use. The loan that wasn't carried is given up
 /// before.
 fn scrub_stopped<F: AppFace>(stream: &mut LoanStream<F>, work: &mut Outbox)
-    requires stands { (first got : ℕ → Option (List ℕ)) × (losses now : ShelfCounts) × (tags : Tags)
-        × ForwardStands first losses (outbox_of work.old) stream.old.desk tags got now
-        (F.seen stream.old.face) }
+    requires stands { StandsSo (outbox_of work.old) stream.old.desk (F.seen stream.old.face) }
     requires due { work.old.tally.due ≡ None }
     ensures gives { (first got : ℕ → Option (List ℕ)) (losses now : ShelfCounts) (tags : Tags)
         → ForwardStands first losses (outbox_of work.old) stream.old.desk tags got now
@@ -259,8 +236,7 @@ fn scrub_stopped<F: AppFace>(stream: &mut LoanStream<F>, work: &mut Outbox)
     ensures work { work.new ≡ record work.old { uncarried = work.new.uncarried } }
     ensures desk { (stream.new.desk.stopped ≡ stream.old.desk.stopped)
         × (stream.new.desk.ended ≡ stream.old.desk.ended) }
-    ensures same { (F.seen stream.new.face).app ≡ (F.seen stream.old.face).app }
-    ensures beside { F.beside stream.new.face ≡ F.beside stream.old.face }
+    ensures seat { SameSeat F.seen F.beside stream.old.face stream.new.face }
 {
     if work.tally.stopped == Stopped::No {
         return;
@@ -282,9 +258,7 @@ fn take_step<F: AppFace, C: Carrier>(
         × ForwardStands first losses (outbox_of work.old) stream.old.desk (C.tags carrier.old)
         (C.got carrier.old) (C.counts carrier.old)
         (F.seen stream.old.face) }
-    requires more { stream.old.desk.ended ≡ false }
-    requires none { work.old.tally.due ≡ None }
-    requires few { length work.old.out.items < most_out }
+    requires can { CanStep (outbox_of work.old) stream.old.desk }
     ensures gives { (first : ℕ → Option (List ℕ)) (losses : ShelfCounts)
         → ForwardStands first losses (outbox_of work.old) stream.old.desk (C.tags carrier.old)
         (C.got carrier.old) (C.counts carrier.old)
@@ -307,8 +281,7 @@ fn take_step<F: AppFace, C: Carrier>(
         → ScrubsIfQuiet (F.seen stream.old.face) (F.seen stream.new.face) }
     ensures told { IsTold (λ look.
         F.tells look (app_gist (F.seen stream.new.face)) (F.beside stream.new.face)) result }
-    ensures same { (F.seen stream.new.face).app ≡ (F.seen stream.old.face).app }
-    ensures beside { F.beside stream.new.face ≡ F.beside stream.old.face }
+    ensures seat { SameSeat F.seen F.beside stream.old.face stream.new.face }
 {
     scrub_stopped(stream, work);
     step_once(stream, carrier, work)
@@ -357,8 +330,7 @@ pub fn go_on<F: AppFace, C: Carrier>(
         → ScrubsIfQuiet (F.seen stream.old.face) (F.seen stream.new.face) }
     ensures told { IsTold (λ look.
         F.tells look (app_gist (F.seen stream.new.face)) (F.beside stream.new.face)) result }
-    ensures same { (F.seen stream.new.face).app ≡ (F.seen stream.old.face).app }
-    ensures beside { F.beside stream.new.face ≡ F.beside stream.old.face }
+    ensures seat { SameSeat F.seen F.beside stream.old.face stream.new.face }
 {
     if let Some(tag) = told {
         take_notice(stream, work, tag);

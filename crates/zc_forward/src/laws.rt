@@ -2,7 +2,7 @@
 ghost use Rattle.std.specs.Prelude.{◌≡◌, ℕ, List, Option, ◌≤◌, length};
 ghost use Rattle.board_face.specs.AppCalls.{HasLoan};
 ghost use Rattle.flow_queues.specs.{Core.{Each}, Marks.{FramesStandTogether}, Streams.{HasFronts}};
-ghost use Rattle.zc_forward.specs.{Sending.{tags_of, most_out}, Forwarding.{ForwardStands}};
+ghost use Rattle.zc_forward.specs.{Carrying.{carrying}, Sending.{tags_of, most_out}, Sights.{StandsSince, sight_of}};
 ghost use Rattle.zr_io.specs.Moved.{ShelfCounts};
 
 use crate::carrier::Carrier;
@@ -12,22 +12,19 @@ use board_face::AppFace;
 /// What the carrier got for each flow since the begin is a front of the bytes at the flow's marks. While a tag is out its loan is out
 /// too, so its text stands.
 pub fn forward_law<F: AppFace, C: Carrier>(forward: &Forward<F, C>)
-    ensures fronts { (first : ℕ → Option (List ℕ)) (losses : ShelfCounts)
-        → ForwardStands first losses forward.now.work forward.now.desk (C.tags forward.now.carrier)
-        (C.got forward.now.carrier)
-        (C.counts forward.now.carrier) (F.seen forward.now.face)
+    ensures fronts { let at = sight_of F.seen (carrying C.got C.tags C.counts C.pace) in
+        (first : ℕ → Option (List ℕ)) (losses : ShelfCounts)
+        → StandsSince first losses (at forward.now)
         → FramesStandTogether (F.seen forward.now.face).taken
         → HasFronts first (C.got forward.now.carrier) (F.seen forward.now.face) }
-    ensures live { (first : ℕ → Option (List ℕ)) (losses : ShelfCounts)
-        → ForwardStands first losses forward.now.work forward.now.desk (C.tags forward.now.carrier)
-        (C.got forward.now.carrier)
-        (C.counts forward.now.carrier) (F.seen forward.now.face)
+    ensures live { let at = sight_of F.seen (carrying C.got C.tags C.counts C.pace) in
+        (first : ℕ → Option (List ℕ)) (losses : ShelfCounts)
+        → StandsSince first losses (at forward.now)
         → (C.tags forward.now.carrier ≡ tags_of forward.now.work.out)
         × Each (λ s. HasLoan (F.seen forward.now.face) s.loan) forward.now.work.out }
     // At most 64 loans are out.
-    ensures few { (first : ℕ → Option (List ℕ)) (losses : ShelfCounts)
-        → ForwardStands first losses forward.now.work forward.now.desk (C.tags forward.now.carrier)
-        (C.got forward.now.carrier)
-        (C.counts forward.now.carrier) (F.seen forward.now.face)
+    ensures few { let at = sight_of F.seen (carrying C.got C.tags C.counts C.pace) in
+        (first : ℕ → Option (List ℕ)) (losses : ShelfCounts)
+        → StandsSince first losses (at forward.now)
         → length (F.seen forward.now.face).loans ≤ most_out }
 {}

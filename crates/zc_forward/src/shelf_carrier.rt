@@ -1,7 +1,7 @@
-ghost use Rattle.std.specs.{Prelude.{◌≡◌, ◌≢◌, ◌<◌, ℕ, [], ◌∷◌, ◌++◌, length, nat_eq, is_none, Ok, IfNone, IfSome, IsSome, None, Some, ⊤, true}, Map.{lookup}, Io.KnownBytes.{Keeps as KeepsBytes}};
-ghost use Rattle.futures.specs.{Poll.{IfReady, OnPending}, Task.{Covers, Keeps}};
+ghost use Rattle.std.specs.{Prelude.{◌≡◌, ◌≢◌, ◌<◌, ℕ, [], ◌∷◌, ◌++◌, length, nat_eq, is_none, Ok, IfNone, IfSome, IsSome, None, Some, ⊤}, Map.{lookup}, Io.KnownBytes.{Keeps as KeepsBytes}};
 ghost use Rattle.zr_io.specs.Moved.{AddsPiece, CountsPiece, HasCause, Rose};
-ghost use Rattle.zc_forward.specs.{Tags.{PaceGoes, TakesTag, polled}, Carriage.{AnswersLate, TellsOldest, is_pending, is_waiting, pace_of}};
+ghost use Rattle.zc_poll.specs.Polls.{AsksAgain};
+ghost use Rattle.zc_forward.specs.{Tags.{PaceGoes, TakesTag, polled}, Carriage.{AnswersLate, PollsOldest, TellsOldest, is_waiting, pace_of}};
 
 use crate::carrier::Carrier;
 use arrayvec::ArrayVec;
@@ -136,17 +136,9 @@ impl<T: Shelf> Carrier for ShelfCarrier<T> {
 
     /// As `notice`: it is pending where that has none.
     fn poll_notice(&mut self, cx: &mut Context<'_>, urge: bool) -> Poll<u32>
-        ensures waits { is_pending result ≡ is_waiting self.old urge }
-        ensures oldest { IfReady result (λ tag. TellsOldest self.old self.new (Some tag)) }
-        ensures told { IfReady result (λ tag. TakesTag self.old.out self.new.out (Some tag)) }
-        ensures pending { OnPending result (TellsOldest self.old self.new None) }
-        ensures none { OnPending result (self.new.out ≡ self.old.out) }
-        ensures looked { OnPending result (Rose self.old.looks self.new.looks) }
-        // A poll that is pending asks for another, whatever its sources do.
-        ensures woken { OnPending result (cx.new.is_woken ≡ true) }
-        ensures registered { OnPending result (Covers cx.new (λ source. ⊤)) }
+        ensures polls { PollsOldest urge self.old self.new result }
+        ensures wakes { AsksAgain cx.old cx.new result }
         ensures answers { AnswersLate urge self.old self.new (polled result) }
-        ensures kept { Keeps cx.old cx.new }
         ensures shelf { self.new.shelf ≡ self.old.shelf }
         ensures pace { PaceGoes (pace_of self.old) (pace_of self.new) }
     {

@@ -2,7 +2,7 @@
 ghost use Rattle.std.specs.Prelude.{◌≡◌, ℕ, true, List, Option, Some, IfSome, IsSomeAnd, MatchOption, ⊤};
 ghost use Rattle.futures.specs.Task.{Keeps};
 ghost use Rattle.zr_io.specs.Moved.{ShelfCounts};
-ghost use Rattle.zc_forward.specs.{Forwarding.{ForwardStands}, Polls.{IsLastTurn}};
+ghost use Rattle.zc_forward.specs.{Seats.{SameSeat}, Carrying.{carrying}, Sights.{MayTurn, StandsSince, sight_of}, Polls.{IsLastTurn}};
 
 use crate::carrier::Carrier;
 use crate::forward::Forward;
@@ -31,24 +31,17 @@ fn take_turn<F: AppFace, C: Carrier>(
     work: &mut Forward<F, C>,
     cx: &mut Context<'_>,
 ) -> Option<Poured>
-    requires stands { (first : ℕ → Option (List ℕ)) × (losses : ShelfCounts)
-        × ForwardStands first losses work.old.work work.old.desk (C.tags work.old.carrier)
-        (C.got work.old.carrier) (C.counts work.old.carrier)
-        (F.seen work.old.face) }
-    ensures gives { (first : ℕ → Option (List ℕ)) (losses : ShelfCounts)
-        → ForwardStands first losses work.old.work work.old.desk (C.tags work.old.carrier)
-        (C.got work.old.carrier) (C.counts work.old.carrier)
-        (F.seen work.old.face)
-        → MatchOption result
-        (ForwardStands first losses work.new.work work.new.desk (C.tags work.new.carrier)
-        (C.got work.new.carrier) (C.counts work.new.carrier)
-        (F.seen work.new.face))
+    requires stands { let at = sight_of F.seen (carrying C.got C.tags C.counts C.pace) in
+        MayTurn (at work.old) }
+    ensures gives { let at = sight_of F.seen (carrying C.got C.tags C.counts C.pace) in
+        (first : ℕ → Option (List ℕ)) (losses : ShelfCounts)
+        → StandsSince first losses (at work.old)
+        → MatchOption result (StandsSince first losses (at work.new))
         (λ poured. IsLastTurn first losses (C.got work.new.carrier) (C.counts work.new.carrier)
         (F.seen work.old.face).app (F.seen work.new.face) poured) }
     ensures left { IfSome result (λ _. (F.seen work.new.face).left ≡ true) }
-    ensures same { (F.seen work.new.face).app ≡ (F.seen work.old.face).app }
+    ensures seat { SameSeat F.seen F.beside work.old.face work.new.face }
     ensures kept { Keeps cx.old cx.new }
-    ensures beside { F.beside work.new.face ≡ F.beside work.old.face }
 {
     match work.poll_turn(cx) {
         PollTurn::Did => None,
@@ -60,16 +53,17 @@ fn take_turn<F: AppFace, C: Carrier>(
 impl<F: AppFace + Drop, C: Carrier + Drop> Future for WithParts<F, C> {
     type Output = (Poured, F, C);
 
-    ghost can_poll = { λ s. IsSomeAnd s.work (λ work. (first : ℕ → Option (List ℕ)) × (losses : ShelfCounts)
-        × ForwardStands first losses work.work work.desk (C.tags work.carrier) (C.got work.carrier) (C.counts work.carrier) (F.seen work.face)) };
+    ghost can_poll = { λ s. IsSomeAnd s.work (λ work.
+        MayTurn (sight_of F.seen (carrying C.got C.tags C.counts C.pace) work)) };
 
     ghost needs = { λ _ _. ⊤ };
 
     /// What a last turn gives and does, at the same board.
     ghost gives = { λ s came. IfSome s.work (λ work. (F.beside came.1 ≡ F.beside work.face)
         × ((first : ℕ → Option (List ℕ)) (losses : ShelfCounts)
-        → ForwardStands first losses work.work work.desk (C.tags work.carrier) (C.got work.carrier) (C.counts work.carrier) (F.seen work.face)
-        → IsLastTurn first losses (C.got came.2) (C.counts came.2) (F.seen work.face).app (F.seen came.1) came.0)) };
+        → StandsSince first losses (sight_of F.seen (carrying C.got C.tags C.counts C.pace) work)
+        → IsLastTurn first losses (C.got came.2) (C.counts came.2) (F.seen work.face).app
+        (F.seen came.1) came.0)) };
 
     fn poll(&mut self, cx: &mut Context<'_>) -> Poll<(Poured, F, C)> {
         let Some(mut work) = self.work.take() else {

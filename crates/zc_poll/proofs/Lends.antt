@@ -5,10 +5,10 @@ use Rattle.board_face.{proofs.ListLemmas.{not-eqb}, specs.{AppEvents.{app_saw, c
 use Rattle.board_face.specs.declared.views.app.{Origin.TheVariants.{Note as of_note, Copied as of_copy}, HeldPiece.{HeldPiece}, LentPiece.{LentPiece}}
 use Rattle.board_face.specs.declared.views.app.{TakenNote.{TakenNote}, AppView.{AppView}}
 use Rattle.zr_kinds.specs.CopyingReceiver.{Placed, nothing_placed, values_from}
-use Rattle.tcp_reorder.{specs.{Queue.{IsSound, next_of}, Values.{AreSized, Holds}}, proofs.Holding.{IsPopped, Holds-popped}}
+use Rattle.tcp_reorder.{specs.{Queue.{IsSound, next_of}, Values.{Holds}}, proofs.Holding.{IsPopped, Holds-popped}}
 use Rattle.flow_queues.specs.{declared.queues.{Lending.{Lending}, FlowQueue.{FlowQueue}}, Marks.{Mark, FramesStandTogether, marks_of}}
 use Rattle.flow_queues.specs.Core.{total, Each, many, IsIn, lent_piece, is_copy, one_copy, origin_in, over_waiting, held_len, short_len, over_kept, over_read, short_bytes, unsplit_len, own_notes, BeginAt, received_notes, placed_of, marks_of_waiting, marks_of_loan, IsOfNote, FlowStands, Stands}
-use Rattle.flow_queues.specs.{Lent.{LentNext, SawNoSpare, spares_of}, declared.queues.Waiting.{Waiting, TheVariants.{InArea, Copied}}}
+use Rattle.flow_queues.specs.{Lent.{CanLend, IsBacked, LentNext, SawNoSpare, spares_of}, declared.queues.Waiting.{Waiting, TheVariants.{InArea, Copied}}}
 use Rattle.flow_queues.proofs.{Tokens.{total-append, in-contains, that-loan, is_that_loan, is-lent-there, loan-some}, Lends.{over-first, short-first, each-first}}
 use Rattle.flow_queues.proofs.{Entering.{marks-length}, Placing.{values-length, values-split}, NotesStay.{note-there}}
 use Rattle.flow_queues.proofs.Standing.{At, split-at, flow-out, each-right, each-changed, is_number, number-is, total-changed, many-same}
@@ -328,6 +328,13 @@ module _ (was : Desk) (v : AppView) (stands : StreamStands was v) (on : was.stop
   going-now : Going was v
   going-now = stands.going on more
 
+  pub next-can : CanLend v
+  next-can = record {
+    holds = record { here = stands.common.here; apart = stands.common.apart };
+    counted = going-now.stands.counted;
+    owns = stands.common.owns;
+  }
+
   pub none-active : length was.flows ≤ was.active → NoneInOrder was
   none-active past = λ _. rest-none was.active was.flows past going-now.rest
 
@@ -344,19 +351,17 @@ module _ (was : Desk) (v : AppView) (stands : StreamStands was v) (on : was.stop
     pub next-out : (f : HeldPiece → ℕ) → over_kept f own.queue ≤ total f v.helds
     next-out = flow-out was.notes there-now.before there-now.after own [] going-now.out v stands-now
 
-    pub next-notes : Each (λ k. IsOfNote v.taken k.piece) own.queue.kept
-    next-notes = flow-now.notes
-
-    pub next-sized : AreSized marks_of_waiting own.queue.kept
-    next-sized = flow-now.holds.sized
-
-    pub next-spare : v.spares + short_bytes own.queue ≤ total unsplit_len v.taken
-    next-spare = omega (
-      arith,
-      going-now.spares,
-      ap (total (λ f. short_bytes f.queue)) there-now.is,
-      total-append (λ f. short_bytes f.queue) there-now.before (own ∷ there-now.after),
-    )
+    pub next-backed : IsBacked v own.queue
+    next-backed = record {
+      notes = flow-now.notes;
+      sized = flow-now.holds.sized;
+      spare = omega (
+        arith,
+        going-now.spares,
+        ap (total (λ f. short_bytes f.queue)) there-now.is,
+        total-append (λ f. short_bytes f.queue) there-now.before (own ∷ there-now.after),
+      );
+    }
 
     put-back : (put : FlowQueue) → put ≡ own → set was.flows was.active put ≡ was.flows
     put-back put is = ap (set was.flows was.active) is ∙ there-now.set_is own ∙ sym there-now.is

@@ -4,8 +4,8 @@ use Rattle.zr_kinds.specs.declared.place.{Note.{Note}, Place.{Place}}
 use Rattle.board_face.specs.{AppCalls.{HasHeld, TookNote, TookLinear}, AppEvents.{released}, declared.views.app.{HeldPiece.{HeldPiece}, TakenNote.{TakenNote}}}
 use Rattle.board_face.specs.declared.views.app.AppView.{AppView}
 use Rattle.flow_queues.specs.declared.queues.{Lending.{Lending}, FlowQueue.{FlowQueue}}
-use Rattle.flow_queues.specs.Core.{total, Each, many, IsIn, LieApart, held_piece, held_len, short_bytes, unsplit_len, Stands, HasTokens, FlowStands}
-use Rattle.flow_queues.specs.{Flows.{IsAtRest, RestBut, IsIndex, fresh_flow, IsChosen}, Pieces.{whole_piece}}
+use Rattle.flow_queues.specs.Core.{total, Each, many, LieApart, held_piece, held_len, short_bytes, unsplit_len, Stands, HasTokens, FlowStands}
+use Rattle.flow_queues.specs.{Flows.{IsAtRest, RestBut, IsIndex, fresh_flow, IsChosen}, Pieces.{CameWith, whole_piece}}
 use Rattle.flow_queues.{specs.Taking.{Changes, TakesPiece, LosesPiece, TakesPayload, LosesPayload}, proofs.Tokens.{total-append, in-contains, is-released}}
 use Rattle.flow_queues.proofs.{NoteComes.{piece-lost as lost-piece, payload-lost as lost-payload}, Standing.{each-map}, Took.{Took, is-took, taken_note, set-last}}
 use Rattle.flow_queues.proofs.{Indexing.{index-set}, Resting.{rest-all, rest-set, rest-push}, Choosing.{Chosen, is-chosen, total-noted, many-noted}}
@@ -226,8 +226,8 @@ module _ (was : Desk) (old mid : AppView) (note : Note) (held : Place) (took : T
     pub took-now : Took old mid note was.notes held
     took-now = is-took old mid note was.notes held stands.common.apart (stands.going on more).stands.notes took
 
-    pub now-out : IsIn (held_piece (whole_piece was.notes held)) mid.helds
-    now-out = took-now.out
+    pub now-came : CameWith mid note was.notes held
+    now-came = record { fields = took.fields; place = took.place; out = took-now.out }
 
     pub now-apart : LieApart mid
     now-apart = took-now.apart

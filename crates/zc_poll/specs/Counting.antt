@@ -1,5 +1,5 @@
 -- Loans are counted, and bytes by flow.
-use Rattle.std.specs.Prelude.{◌≡◌, ◌≢◌, ℕ, ◌+◌, ◌≤◌, ◌==◌, Bool, if◌then◌else◌, List, [], filter, nat_lt, Option, None}
+use Rattle.std.specs.Prelude.{◌≡◌, ◌≢◌, ℕ, ◌+◌, ◌≤◌, ◌==◌, Bool, if◌then◌else◌, List, [], length, filter, nat_lt, Option, None}
 use Rattle.zr_kinds.specs.declared.{place.Place.{Place}, behaviour.Stopped.{Stopped}}
 use Rattle.zr_kinds.specs.declared.behaviour.Stopped.TheVariants as stop
 use Rattle.flow_queues.specs.{Core.{total}, Totals.{capped}, Ends.{bytes_in, times}}
@@ -21,6 +21,11 @@ pub record TallyState : Type 0 where
 -- nothing was written yet, with room for so many flows
 abbrev pub new_tally : ℕ → TallyState
 new_tally room = record { due = None; written = 0; loans = 0; copied = 0; stopped = stop.No; counts = []; flows = []; room = room }
+
+-- the list of flows is empty, and has room for each flow of which bytes are counted
+pub record HasRoom (w : TallyState) : Type 0 where
+  pub room : length w.counts ≤ w.room
+  pub empty : w.flows ≡ []
 
 -- once an item was counted among the loans
 abbrev pub item_counted : TallyState → Bool → TallyState

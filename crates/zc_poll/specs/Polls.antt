@@ -1,10 +1,16 @@
 -- What comes of polling, whatever polls are pending between: the answers of a stream, and what pouring tells at its end.
-use Rattle.std.specs.{Prelude.{◌≡◌, ℕ, true, List, [], ◌∷◌, Option, Some, Result}, declared.alloc.AllocError.{AllocError}}
+use Rattle.std.specs.{Prelude.{◌≡◌, ℕ, true, List, [], ◌∷◌, Option, Some, Result, ⊤}, declared.alloc.AllocError.{AllocError}}
 use Rattle.zr_io.specs.Moved.{ShelfCounts}
-use Rattle.futures.specs.declared.task.Poll.{TheVariants.{Ready}}
+use Rattle.futures.specs.{Poll.{OnPending}, Task.{Covers, Keeps}, declared.task.{context.Context.{Context}, Poll.{Poll, TheVariants.{Ready}}}}
 use Rattle.board_face.specs.declared.views.app.AppView.{AppView}
 use Rattle.zc_poll.specs.{Counting.{TallyState}, Standing.{Desk}, Steps.{OnlySteps, PollGives}, declared.step.Lent.{Lent}}
 use Rattle.zc_poll.specs.{Pouring.{PourStands}, PourTurns.{PourGives, PourStage, TurnDoes}, declared.to_shelf.{Poured.{Poured}, PollTurn.TheVariants.{Ended}}}
+
+-- a poll that is pending asks for another, whatever its sources do, and the task keeps what it had asked for
+pub record AsksAgain {A : Type 0} (old new : Context) (result : Poll A) : Type 0 where
+  pub woken : OnPending result (new.is_woken ≡ true)
+  pub registered : OnPending result (Covers new (λ source. ⊤))
+  pub kept : Keeps old new
 
 -- an item, or that there was no memory
 abbrev pub Answer : Type 0

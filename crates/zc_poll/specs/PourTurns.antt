@@ -6,13 +6,13 @@ use Rattle.zr_kinds.specs.declared.behaviour.Stopped.TheVariants as stop
 use Rattle.futures.specs.declared.task.Poll.{Poll, TheVariants.{Ready, Pending}}
 use Rattle.board_face.specs.{AppCalls.{AppOnlySaw}, AppEvents.{abandoned, gave}, Looks.{AppRose}, NotNow.{HasWritten, HasWrittenRingful}}
 use Rattle.board_face.specs.declared.views.app.AppLook.{AppLook}
-use Rattle.board_face.specs.declared.views.app.{AppLook.TheVariants.{NoNote as no_note, NoSpare as no_spare, RefillInUse, NotQuiet as not_quiet}, AppView.{AppView}}
+use Rattle.board_face.specs.declared.views.app.{AppLook.TheVariants.{RefillInUse, NotQuiet as not_quiet}, AppView.{AppView}}
 use Rattle.zr_io.specs.Moved.{ShelfCounts}
 use Rattle.flow_queues.specs.{Core.{Each, OnlyReads}, Ends.{AppEnd, HasLeft}, Returned.{HasReturned}}
-use Rattle.zc_poll.specs.{Counting.{TallyState}, declared.step.{Lent.{Lent}, Waits.TheVariants.{NoNote, ReserveHeld, Enough}}}
+use Rattle.zc_poll.specs.{Counting.{TallyState, with_bytes}, declared.step.Lent.{Lent}}
 use Rattle.zc_poll.specs.declared.{step.Step.{Step, TheVariants.{Waiting, Memory, Ended as stream_ended}}, to_shelf.{Poured.{Poured}, PollTurn.{PollTurn}}}
 use Rattle.zc_poll.specs.declared.to_shelf.{PollTurn.TheVariants.{Did, Idle, Ended}, Rests.{Rests, TheVariants.{Stream, RefillFull, NotQuiet, NoNotice}}}
-use Rattle.zc_poll.specs.{Fresh.{has_left}, Standing.{Desk, stopped_with}, Steps.{OnlySteps, Steps, IsItem, Scrubs}, Pouring.{PourStands}}
+use Rattle.zc_poll.specs.{Fresh.{has_left}, Standing.{Desk, stopped_with}, Steps.{OnlySteps, Steps, IsItem, IsSoWaiting, Scrubs}, Pouring.{PourStands}}
 
 -- what a turn looks at: the loan that is due, the stream's desk, and the view
 pub record PourStage : Type 0 where
@@ -88,9 +88,7 @@ ScrubsIfQuiet old new = old.scrubbed ≡ false → (new.scrubbed ≡ true) ⊎ (
 
 -- so it is of the look on which it rests
 abbrev pub IsSoOf : (AppLook → Type 0) → Rests → Type 0
-IsSoOf is_so (Stream NoNote) = is_so no_note
-IsSoOf is_so (Stream ReserveHeld) = is_so no_spare
-IsSoOf is_so (Stream Enough) = Unit {0}
+IsSoOf is_so (Stream why) = IsSoWaiting is_so why
 IsSoOf is_so RefillFull = is_so RefillInUse
 IsSoOf is_so NotQuiet = is_so not_quiet
 IsSoOf is_so NoNotice = Unit {0}
@@ -110,6 +108,14 @@ TurnDoes was now (Ended poured) = (was.due ≡ None) × (was.desk.ended ≡ true
 -- what was written, as what an application leaves
 abbrev pub pour_end : Poured → AppEnd
 pour_end p = record { written = p.written; loans = p.loans; copied = p.copied; stopped = p.stopped; flows = p.flows.items }
+
+-- it is what is counted, of the flows of which bytes were written
+pub record TellsCounts (w : TallyState) (p : Poured) : Type 0 where
+  pub written : p.written ≡ w.written
+  pub loans : p.loans ≡ w.loans
+  pub copied : p.copied ≡ w.copied
+  pub stopped : p.stopped ≡ w.stopped
+  pub flows : p.flows.items ≡ with_bytes w.counts
 
 -- It goes on, or has left with what any application owes that isn't to quit, and keeps no loan and writes no raw entry.
 abbrev pub PourGives : (ℕ → Option (List ℕ)) → ShelfCounts → TallyState → Desk → (ℕ → Option (List ℕ)) → ShelfCounts → AppView → PollTurn

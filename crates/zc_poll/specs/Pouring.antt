@@ -51,6 +51,14 @@ pub record HasPoured (Failed : Type 0) (first : ℕ → Option (List ℕ)) (w : 
   pub empty : w.flows ≡ []
   pub shelved : (n : ℕ) → Gained (first n) (kept n) (IsPoured (Failed × (n ≡ torn)) v (marks_given n items) (bytes_in n w.counts))
 
+-- How a shelf's counts changed while so many bytes of these were appended by calls that went well. Where these are fewer, one failed.
+pub record CountsAppends (len done : ℕ) (old new : ShelfCounts) : Type 0 where
+  pub counted : done ≤ len
+  pub later : old.faults ≤ new.faults
+  pub still : done ≡ len → new.faults ≡ old.faults
+  pub cause : done < len → Rose old.faults new.faults
+  pub appended : new.appended ≡ raised_by old.appended done
+
 -- no loan is out but the one that is to be given back
 abbrev pub OnlyDue : Option Place → List LentPiece → Type 0
 OnlyDue due loans = MatchOption due (loans ≡ []) (λ place. (piece : LentPiece) × (loans ≡ piece ∷ []) × (piece.place ≡ place))
@@ -76,3 +84,7 @@ pub record PourStands (first : ℕ → Option (List ℕ)) (losses : ShelfCounts)
   pub still : w.stopped ≢ stop.Write → losses_now.faults ≡ losses.faults
   -- what was written is what the appends took that went well
   pub appended : losses_now.appended ≡ raised_by losses.appended w.written
+
+-- it stands so since some moment, and may take a turn
+abbrev pub CanTurn : TallyState → Desk → (ℕ → Option (List ℕ)) → ShelfCounts → AppView → Type 0
+CanTurn w st kept losses_now v = (first : ℕ → Option (List ℕ)) × (losses : ShelfCounts) × PourStands first losses w st kept losses_now v

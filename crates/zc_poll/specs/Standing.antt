@@ -1,7 +1,7 @@
 -- What a stream keeps beside its face, as plain data, and how that stands to what the face has seen.
 use Rattle.std.specs.Prelude.{◌≡◌, ℕ, ◌+◌, ◌≤◌, ◌⊎◌, Bool, true, false, List, [], length, map}
-use Rattle.zr_kinds.specs.CopyingReceiver.{next_missing}
-use Rattle.board_face.specs.declared.views.app.{HeldPiece.{HeldPiece}, AppView.{AppView}}
+use Rattle.zr_kinds.specs.{CopyingReceiver.{next_missing}, declared.place.Place.{Place}}
+use Rattle.board_face.specs.{AppCalls.{HasLoan}, declared.views.app.{HeldPiece.{HeldPiece}, AppView.{AppView}}}
 use Rattle.flow_queues.specs.declared.queues.{FlowQueue.{FlowQueue}, Lending.{Lending}}
 use Rattle.flow_queues.specs.Core.{total, Each, many, LieApart, own_notes, placed_of, over_kept, held_len, short_bytes, unsplit_len, Stands}
 use Rattle.flow_queues.specs.{Flows.{IsAtRest, RestBut, IsIndex, facts_of}, Shelves.{FlowEnds}, Totals.{taken_len}}
@@ -64,6 +64,22 @@ pub record StreamStands (st : Desk) (v : AppView) : Type 0 where
   -- it has no piece once it was stopped, or no note comes any more
   pub released : (st.stopped ≡ true) ⊎ (st.ended ≡ true) → v.helds ≡ []
   pub whole : st.ended ≡ true → st.stopped ≡ false → IsWhole st v
+
+-- and this loan is out
+pub record HoldsLoan (st : Desk) (v : AppView) (loan : Place) : Type 0 where
+  pub stands : StreamStands st v
+  pub out : HasLoan v loan
+
+-- it stands still, at this view, with the desk that it had
+pub record StaysAt (was now : Desk) (v : AppView) : Type 0 where
+  pub stands : StreamStands now v
+  pub desk : now ≡ was
+
+-- it stands, no note comes any more, and no loan is out
+pub record MayLeave (st : Desk) (v : AppView) : Type 0 where
+  pub stands : StreamStands st v
+  pub ended : st.ended ≡ true
+  pub none : v.loans ≡ []
 
 -- no piece is in order
 abbrev pub NoneInOrder : Desk → Type 0

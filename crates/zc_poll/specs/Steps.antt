@@ -2,7 +2,7 @@
 use Rattle.std.specs.Prelude.{◌≡◌, ℕ, ◌+◌, ◌-◌, ◌^◌, ◌<◌, min, true, false, not, if◌then◌else◌, List, [], ◌∷◌, ◌++◌, length, Option, Some, None, slice_get, Result, Ok, Err, Bool}
 use Rattle.std.specs.declared.alloc.AllocError.{AllocError}
 use Rattle.futures.specs.declared.task.Poll.{Poll, TheVariants.{Ready, Pending}}
-use Rattle.board_face.specs.{AppCalls.{AppOnlySaw, HasLoan, ToldEnd}, Looks.{AppRose, AppLooksStay}}
+use Rattle.board_face.specs.{AppCalls.{AppOnlySaw, HasLoan, ToldEnd}, Looks.{AppRose, AppTold, AppLooksStay}, NotNow.{HasWritten}}
 use Rattle.board_face.specs.declared.views.app.{AppLook.TheVariants.{NoNote as no_note, NoSpare as no_spare, NotQuiet as not_quiet}, LentPiece.{LentPiece}}
 use Rattle.board_face.specs.declared.views.app.{TakenNote.{TakenNote}, AppView.{AppView}, AppLook.{AppLook}}
 use Rattle.flow_queues.specs.{declared.queues.Lending.{Lending}, Marks.{FramesStandTogether, marks_of}, Core.{total, IsIn, lent_piece, marks_of_loan}}
@@ -81,6 +81,11 @@ IsSoWaiting is_so NoNote = is_so no_note
 IsSoWaiting is_so ReserveHeld = is_so no_spare
 IsSoWaiting is_so Enough = Unit {0}
 
+-- and of that of a step, where it waits
+abbrev pub IsStepTold : (AppLook → Type 0) → Step → Type 0
+IsStepTold is_so (Waiting why) = IsSoWaiting is_so why
+IsStepTold is_so step = Unit {0}
+
 -- what a poll gives is what one step gives
 abbrev pub PollGives : (AppLook → Type 0) → Desk → Desk → AppView → AppView → Poll (Option (Result Lent AllocError)) → Type 0
 PollGives is_so was now old new (Ready (Some (Ok lent))) = Steps was now old new (Item lent)
@@ -132,6 +137,11 @@ LooksFor was now old new took_one = Passed 1 was now old new
 LooksFor was now old new saw_none = (now ≡ was) × AppOnlySaw no_note old new
 LooksFor was now old new told_end = (now ≡ was) × ToldEnd old new
 LooksFor was now old new had_no_memory = Wants was now old new
+
+-- A refill slot in use holds it up: an entry was written, and the board says of each look that was made that it is so.
+pub record IsHeldUp (is_so : AppLook → Type 0) (old new : AppView) : Type 0 where
+  pub some : HasWritten old
+  pub told : AppTold is_so old new
 
 -- The user counts are scrubbed: they were before, or each refill slot was seen free. Or one was in use.
 abbrev pub Scrubs : Desk → Desk → AppView → AppView → Bool → Type 0

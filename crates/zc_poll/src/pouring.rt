@@ -1,9 +1,9 @@
 //! An item's loan is read and appended to a flow of a shelf, and counted.
-ghost use Rattle.std.specs.{Prelude.{◌≡◌, ◌≢◌, ℕ, ◌+◌, ◌<◌, ◌≤◌, List, [], length, Option, None, vec_capacity, true}, Io.KnownBytes.{Keeps}};
-ghost use Rattle.zr_io.specs.Moved.{Gained, Rose, ShelfCounts, raised_by};
-ghost use Rattle.board_face.specs.{AppCalls.{HasLoan}, AppEvents.{abandoned}, declared.views.app.AppView.{AppView}};
+ghost use Rattle.std.specs.{Prelude.{◌≡◌, ◌≢◌, ℕ, ◌<◌, List, [], length, Option, None}, Io.KnownBytes.{Keeps}};
+ghost use Rattle.zr_io.specs.Moved.{Gained, ShelfCounts};
+ghost use Rattle.board_face.specs.{AppEvents.{abandoned}, declared.views.app.AppView.{AppView}};
 ghost use Rattle.flow_queues.specs.{declared.queues.Lending.{Lending}, Core.{IsIn, lent_piece, OnlyReads, IsReadOf}};
-ghost use Rattle.zc_poll.specs.{Standing.{Desk, StreamStands, stopped_with}, Items.{Given, HasGiven}, Steps.{IsItem, OnlySteps}, Pouring.{PourStands}, PourTurns.{IsRead}, TallyOf.{tally_of}};
+ghost use Rattle.zc_poll.specs.{Standing.{Desk, StreamStands, HoldsLoan, StaysAt, stopped_with}, Items.{Given, HasGiven}, Steps.{IsItem, OnlySteps}, Counting.{HasRoom}, Pouring.{CountsAppends, PourStands}, PourTurns.{IsRead}, TallyOf.{tally_of}};
 
 use crate::counting::{PourTally, count, count_item, make_room};
 use crate::step::Lent;
@@ -23,12 +23,10 @@ pub fn append_loan<F: AppFace, T: Shelf>(
     flow: u32,
     shelf: &mut T,
 ) -> u32
-    requires stands { StreamStands stream.old.desk (F.seen stream.old.face) }
-    requires out { HasLoan (F.seen stream.old.face) loan.now }
-    ensures stands { StreamStands stream.new.desk (F.seen stream.new.face) }
-    ensures desk { stream.new.desk ≡ stream.old.desk }
+    requires holds { HoldsLoan stream.old.desk (F.seen stream.old.face) loan.now }
+    ensures stays { StaysAt stream.old.desk stream.new.desk (F.seen stream.new.face) }
     ensures only { OnlyReads (F.seen stream.old.face) (F.seen stream.new.face) }
-    ensures counted { result ≤ loan.now.len }
+    ensures appends { CountsAppends loan.now.len result (T.counts shelf.old) (T.counts shelf.new) }
     ensures gained { (lending : Lending) → lending.loan ≡ loan.now
         → lending.note < length (F.seen stream.old.face).taken
         → IsIn (lent_piece (F.seen stream.old.face).taken lending) (F.seen stream.old.face).loans
@@ -37,13 +35,6 @@ pub fn append_loan<F: AppFace, T: Shelf>(
         lending result loan.now.len read) }
     ensures others { (other : ℕ) → other ≢ flow
         → Keeps (T.kept shelf.old other) (T.kept shelf.new other) }
-    ensures later { (T.counts shelf.old).faults ≤ (T.counts shelf.new).faults }
-    ensures still { result ≡ loan.now.len
-        → (T.counts shelf.new).faults ≡ (T.counts shelf.old).faults }
-    ensures cause { result < loan.now.len
-        → Rose (T.counts shelf.old).faults (T.counts shelf.new).faults }
-    ensures appended { (T.counts shelf.new).appended
-        ≡ raised_by (T.counts shelf.old).appended result }
     ensures beside { F.beside stream.new.face ≡ F.beside stream.old.face }
 {
     let mut chunk = [0; CHUNK];
@@ -63,8 +54,7 @@ pub fn append_loan<F: AppFace, T: Shelf>(
 
 /// Gives a loan up, and stops the stream for this.
 fn give_up<F: AppFace>(stream: &mut LoanStream<F>, work: &mut PourTally, loan: Loan, why: Stopped)
-    requires stands { StreamStands stream.old.desk (F.seen stream.old.face) }
-    requires out { HasLoan (F.seen stream.old.face) loan }
+    requires holds { HoldsLoan stream.old.desk (F.seen stream.old.face) loan }
     ensures stands { StreamStands stream.new.desk (F.seen stream.new.face) }
     ensures stopped { stream.new.desk ≡ stopped_with stream.old.desk stream.new.desk.flows }
     ensures view { F.seen stream.new.face
@@ -88,11 +78,9 @@ pub fn pour<F: AppFace, T: Shelf>(
     work: &mut PourTally,
     lent: Lent,
 ) -> Option<Loan>
-    requires stands { StreamStands stream.old.desk (F.seen stream.old.face) }
-    requires out { HasLoan (F.seen stream.old.face) lent.loan }
+    requires holds { HoldsLoan stream.old.desk (F.seen stream.old.face) lent.loan }
     requires none { work.old.due ≡ None }
-    requires room { length work.old.counts.entries ≤ vec_capacity work.old.flows }
-    requires empty { work.old.flows.items ≡ [] }
+    requires room { HasRoom (tally_of work.old) }
     ensures pours { (first : ℕ → Option (List ℕ)) (losses : ShelfCounts) (st : Desk) (v : AppView)
         → PourStands first losses (tally_of work.old) st (T.kept shelf.old) (T.counts shelf.old) v
         → IsItem st stream.old.desk v (F.seen stream.old.face) lent

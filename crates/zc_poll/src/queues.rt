@@ -1,7 +1,7 @@
 //! What a stream keeps beside its face.
 ghost use Rattle.std.specs.Prelude.{◌≡◌, [], true, false, MatchBool};
-ghost use Rattle.board_face.specs.{AppCalls.{AppOnlySaw, IsHere}, AppEvents.{app_gist}, Looks.{AppTold}, NotNow.{HasWritten}, declared.views.app.AppLook.TheVariants.{NotQuiet}};
-ghost use Rattle.zc_poll.specs.{Standing.{IsReleased, IsStopped, MayRelease}, DeskOf.{desk_of}, Fresh.{has_scrubbed}};
+ghost use Rattle.board_face.specs.{AppCalls.{AppOnlySaw, IsHere}, AppEvents.{app_gist}, declared.views.app.AppLook.TheVariants.{NotQuiet}};
+ghost use Rattle.zc_poll.specs.{Standing.{IsReleased, IsStopped, MayRelease}, Steps.{IsHeldUp}, DeskOf.{desk_of}, Fresh.{has_scrubbed}};
 
 use board_face::AppFace;
 use flow_queues::{FlowQueue, release_all};
@@ -63,9 +63,8 @@ pub fn scrub<F: AppFace>(face: &mut F, scrubbed: bool) -> bool
     requires quiet { scrubbed ≡ true → (F.seen face.old).quiet ≡ true }
     ensures view { MatchBool result (F.seen face.new ≡ has_scrubbed (F.seen face.old))
         (AppOnlySaw NotQuiet (F.seen face.old) (F.seen face.new)) }
-    ensures some { result ≡ false → HasWritten (F.seen face.old) }
-    ensures told { result ≡ false
-        → AppTold (λ look. F.tells look (app_gist (F.seen face.old)) (F.beside face.old))
+    ensures held { result ≡ false
+        → IsHeldUp (λ look. F.tells look (app_gist (F.seen face.old)) (F.beside face.old))
         (F.seen face.old) (F.seen face.new) }
     ensures beside { F.beside face.new ≡ F.beside face.old }
 {

@@ -1,8 +1,8 @@
-ghost use Rattle.std.specs.Prelude.{◌≡◌, ◌+◌, ◌<◌, ◌≤◌, [], List, length, Ok, Err, Some, None, true, false, IfErr, IfSome, MatchBool, MatchResult, ⊤};
-ghost use Rattle.futures.specs.{Poll.{IfReady, OnPending}, Runs.{After, Within}, Task.{Covers, Keeps}, declared.task.Poll.TheVariants.{Ready}};
-ghost use Rattle.board_face.specs.{Looks.{AppTold}, NotNow.{HasWritten, HasWrittenRingful}, AppCalls.{HasLoan, AppOnlySaw, ShowsCopy}, AppEvents.{app_gist, has_read, loan_origin, gave, abandoned}, declared.views.app.AppLook.TheVariants.{NoNote as no_note, NoSpare as no_spare, RefillInUse, NotQuiet}};
+ghost use Rattle.std.specs.Prelude.{◌≡◌, ◌+◌, ◌<◌, ◌≤◌, [], List, length, Some, None, true, false, IfErr, IfSome, MatchBool, MatchResult, ⊤};
+ghost use Rattle.futures.specs.{Poll.{IfReady, OnPending}, Runs.{After, Within}, declared.task.Poll.TheVariants.{Ready}};
+ghost use Rattle.board_face.specs.{Looks.{AppTold}, NotNow.{HasWrittenRingful}, AppCalls.{AppOnlySaw, ShowsCopy}, AppEvents.{app_gist, has_read, loan_origin, gave, abandoned}, declared.views.app.AppLook.TheVariants.{RefillInUse, NotQuiet}};
 ghost use Rattle.flow_queues.specs.{declared.queues.Lending.{Lending}, Marks.{marks_from}, Core.{IsIn, lent_piece, AreReadAt}};
-ghost use Rattle.zc_poll.specs.{Standing.{StreamStands, stopped_with}, Items.{Given, HasGiven}, Steps.{Steps, OnlySteps, PollGives, Scrubs}, Fresh.{HasDoneNothing, new_desk, has_left}, Polls.{Yields}, declared.step.{Step.TheVariants.{Waiting, Ended}, Waits.TheVariants.{NoNote, ReserveHeld}}};
+ghost use Rattle.zc_poll.specs.{Standing.{StreamStands, HoldsLoan, StaysAt, MayLeave, stopped_with}, Items.{Given, HasGiven}, Steps.{Stepped, OnlySteps, PollGives, Scrubs, IsHeldUp, IsStepTold}, Fresh.{HasDoneNothing, new_desk, has_left}, Polls.{AsksAgain, Yields}, Stops.{IsStill}, declared.step.Step.TheVariants.{Ended}};
 
 use crate::lending::offer;
 use crate::queues::{Queues, scrub, stop};
@@ -58,15 +58,12 @@ impl<F: AppFace> LoanStream<F> {
     /// answered `Ended` it answers that again, and asks nothing.
     pub fn step(&mut self) -> Step
         requires stands { StreamStands self.old.desk (F.seen self.old.face) }
-        ensures stands { StreamStands self.new.desk (F.seen self.new.face) }
-        ensures steps { Steps self.old.desk self.new.desk (F.seen self.old.face)
+        ensures stepped { Stepped self.old.desk self.new.desk (F.seen self.old.face)
             (F.seen self.new.face) result }
-        ensures only { OnlySteps (F.seen self.old.face) (F.seen self.new.face) }
         ensures again { self.old.desk.ended ≡ true → (result ≡ Step.Ended) × (self.new ≡ self.old) }
-        ensures no_note { result ≡ Waiting NoNote
-            → F.tells no_note (app_gist (F.seen self.new.face)) (F.beside self.new.face) }
-        ensures no_spare { result ≡ Waiting ReserveHeld
-            → F.tells no_spare (app_gist (F.seen self.new.face)) (F.beside self.new.face) }
+        // The board says of the look on which it waits that it is so.
+        ensures told { IsStepTold (λ look.
+            F.tells look (app_gist (F.seen self.new.face)) (F.beside self.new.face)) result }
         ensures beside { F.beside self.new.face ≡ F.beside self.old.face }
     {
         if self.queues.ended {
@@ -90,11 +87,9 @@ impl<F: AppFace> LoanStream<F> {
 
     /// Reads bytes of a loan, from its byte `from` on.
     pub fn read(&mut self, loan: &Loan, from: u32, into: &mut [u8])
-        requires stands { StreamStands self.old.desk (F.seen self.old.face) }
-        requires out { HasLoan (F.seen self.old.face) loan.now }
+        requires holds { HoldsLoan self.old.desk (F.seen self.old.face) loan.now }
         requires within { from + length into.old ≤ loan.now.len }
-        ensures stands { StreamStands self.new.desk (F.seen self.new.face) }
-        ensures desk { self.new.desk ≡ self.old.desk }
+        ensures stays { StaysAt self.old.desk self.new.desk (F.seen self.new.face) }
         ensures view { F.seen self.new.face
             ≡ has_read (F.seen self.old.face) loan.now from into.new }
         ensures copied { ShowsCopy (loan_origin (F.seen self.old.face) loan.now) from into.new }
@@ -111,10 +106,8 @@ impl<F: AppFace> LoanStream<F> {
 
     /// Gives a loan back by a refill entry. `Err` says that the next refill slot was seen in use.
     pub fn give(&mut self, loan: Loan) -> Result<(), Loan>
-        requires stands { StreamStands self.old.desk (F.seen self.old.face) }
-        requires out { HasLoan (F.seen self.old.face) loan }
-        ensures stands { StreamStands self.new.desk (F.seen self.new.face) }
-        ensures desk { self.new.desk ≡ self.old.desk }
+        requires holds { HoldsLoan self.old.desk (F.seen self.old.face) loan }
+        ensures stays { StaysAt self.old.desk self.new.desk (F.seen self.new.face) }
         ensures view { MatchResult result
             (λ _. F.seen self.new.face ≡ gave (F.seen self.old.face) loan)
             (λ back. (back ≡ loan) × AppOnlySaw RefillInUse (F.seen self.old.face)
@@ -130,10 +123,8 @@ impl<F: AppFace> LoanStream<F> {
 
     /// Gives a loan up without an entry.
     pub fn abandon(&mut self, loan: Loan)
-        requires stands { StreamStands self.old.desk (F.seen self.old.face) }
-        requires out { HasLoan (F.seen self.old.face) loan }
-        ensures stands { StreamStands self.new.desk (F.seen self.new.face) }
-        ensures desk { self.new.desk ≡ self.old.desk }
+        requires holds { HoldsLoan self.old.desk (F.seen self.old.face) loan }
+        ensures stays { StaysAt self.old.desk self.new.desk (F.seen self.new.face) }
         ensures view { F.seen self.new.face ≡ abandoned (F.seen self.old.face) loan }
         ensures beside { F.beside self.new.face ≡ F.beside self.old.face }
     {
@@ -157,15 +148,12 @@ impl<F: AppFace> LoanStream<F> {
     /// Scrubs the user counts of a stream that was stopped, once no loan is out, also while notes still come: whether it is done.
     /// `false` says that a refill slot was seen in use.
     pub fn scrub(&mut self) -> bool
-        requires stands { StreamStands self.old.desk (F.seen self.old.face) }
-        requires stopped { self.old.desk.stopped ≡ true }
-        requires none { (F.seen self.old.face).loans ≡ [] }
+        requires still { IsStill self.old.desk (F.seen self.old.face) }
         ensures stands { StreamStands self.new.desk (F.seen self.new.face) }
         ensures scrubs { Scrubs self.old.desk self.new.desk (F.seen self.old.face)
             (F.seen self.new.face) result }
-        ensures some { result ≡ false → HasWritten (F.seen self.old.face) }
-        ensures told { result ≡ false
-            → AppTold (λ look. F.tells look (app_gist (F.seen self.old.face))
+        ensures held { result ≡ false
+            → IsHeldUp (λ look. F.tells look (app_gist (F.seen self.old.face))
             (F.beside self.old.face))
             (F.seen self.old.face) (F.seen self.new.face) }
         ensures beside { F.beside self.new.face ≡ F.beside self.old.face }
@@ -179,17 +167,13 @@ impl<F: AppFace> LoanStream<F> {
 
     /// Leaves, once no loan is out, and scrubs before where that wasn't done. `Err` says that a refill slot was seen in use.
     pub fn close(self) -> Result<F, LoanStream<F>>
-        requires stands { StreamStands self.desk (F.seen self.face) }
-        requires ended { self.desk.ended ≡ true }
-        requires none { (F.seen self.face).loans ≡ [] }
+        requires may { MayLeave self.desk (F.seen self.face) }
         ensures left { MatchResult result
             (λ face. F.seen face ≡ has_left (F.seen self.face))
             (λ back. (back.desk ≡ self.desk) × StreamStands back.desk (F.seen back.face)
             × AppOnlySaw NotQuiet (F.seen self.face) (F.seen back.face)) }
-        ensures some { IfErr result (λ _. HasWritten (F.seen self.face)) }
-        ensures told { IfErr result
-            (λ back.
-            AppTold (λ look. F.tells look (app_gist (F.seen self.face)) (F.beside self.face))
+        ensures held { IfErr result (λ back.
+            IsHeldUp (λ look. F.tells look (app_gist (F.seen self.face)) (F.beside self.face))
             (F.seen self.face) (F.seen back.face)) }
         ensures beside { MatchResult result (λ face. F.beside face ≡ F.beside self.face)
             (λ back. F.beside back.face ≡ F.beside self.face) }
@@ -203,17 +187,14 @@ impl<F: AppFace> LoanStream<F> {
 
     /// As `close`, and the face stays here. `false` says that a refill slot was seen in use.
     pub fn leave(&mut self) -> bool
-        requires stands { StreamStands self.old.desk (F.seen self.old.face) }
-        requires ended { self.old.desk.ended ≡ true }
-        requires none { (F.seen self.old.face).loans ≡ [] }
+        requires may { MayLeave self.old.desk (F.seen self.old.face) }
         ensures desk { self.new.desk ≡ self.old.desk }
         ensures left { MatchBool result
             (F.seen self.new.face ≡ has_left (F.seen self.old.face))
             (StreamStands self.new.desk (F.seen self.new.face)
             × AppOnlySaw NotQuiet (F.seen self.old.face) (F.seen self.new.face)) }
-        ensures some { result ≡ false → HasWritten (F.seen self.old.face) }
-        ensures told { result ≡ false
-            → AppTold (λ look. F.tells look (app_gist (F.seen self.old.face))
+        ensures held { result ≡ false
+            → IsHeldUp (λ look. F.tells look (app_gist (F.seen self.old.face))
             (F.beside self.old.face))
             (F.seen self.old.face) (F.seen self.new.face) }
         ensures beside { F.beside self.new.face ≡ F.beside self.old.face }
@@ -268,10 +249,7 @@ impl<F: AppFace + Drop> Stream for LoanStream<F> {
             (Within (Yields self.old.desk (F.seen self.old.face))
             (Yields self.new.desk (F.seen self.new.face))) }
         ensures stands { StreamStands self.new.desk (F.seen self.new.face) }
-        // A poll that is pending asks for another, whatever its sources do.
-        ensures woken { OnPending result (cx.new.is_woken ≡ true) }
-        ensures registered { OnPending result (Covers cx.new (λ source. ⊤)) }
-        ensures kept { Keeps cx.old cx.new }
+        ensures asks { AsksAgain cx.old cx.new result }
         // It gives what one step gives, and the board says of the look on which it waits that it is so.
         ensures gives { PollGives
             (λ look. F.tells look (app_gist (F.seen self.new.face)) (F.beside self.new.face))

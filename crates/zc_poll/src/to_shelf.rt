@@ -1,11 +1,11 @@
 //! The items of a stream are written to a shelf, one turn after another.
-ghost use Rattle.std.specs.{Prelude.{◌≡◌, ◌≢◌, ◌<◌, ◌≤◌, ℕ, List, [], length, IfSome, Option, Some, None, true, false, vec_capacity, ⊤}, Ordering.{nat_cmp}, Map.{keys_of}, List.Sorted.{IsStrictlySortedBy}};
+ghost use Rattle.std.specs.{Prelude.{◌≡◌, ◌≢◌, ◌<◌, ℕ, List, [], IfSome, Option, Some, None, true, false, ⊤}, Ordering.{nat_cmp}, Map.{keys_of}, List.Sorted.{IsStrictlySortedBy}};
 ghost use Rattle.board_face.specs.{AppCalls.{HasLoan}, AppEvents.{app_gist}, declared.views.app.AppView.{AppView}};
 ghost use Rattle.flow_queues.specs.Core.{Each};
 ghost use Rattle.zr_kinds.specs.declared.{behaviour.Stopped.TheVariants.{No}, place.Place.{Place}};
-ghost use Rattle.zc_poll.specs.{Counting.{new_tally, with_bytes}, Standing.{Desk, StreamStands}, Fresh.{HasDoneNothing, new_desk}, Pouring.{PourStands}, PourTurns.{HadItem, IsTold, PourGives, PourStage, ScrubsFirst, ScrubsIfQuiet, StepDoes, TurnDoes, PollPours, PollDoes, pour_stage}, Steps.{IsItem, OnlySteps}, TallyOf.{tally_of}};
-ghost use Rattle.zc_poll.specs.{Polls.{Tells}, PourTurns.{pour_end}, Stops.{HasStopped, IsStill, quit_by, without_due}, declared.to_shelf.Poured.{Poured as Told}};
-ghost use Rattle.futures.specs.{Poll.{IfReady, OnPending}, Task.{Covers, Keeps}};
+ghost use Rattle.zc_poll.specs.{Counting.{HasRoom, new_tally}, Standing.{Desk, StreamStands, HoldsLoan, StaysAt, MayLeave}, Fresh.{HasDoneNothing, new_desk}, Pouring.{CanTurn, PourStands}, PourTurns.{HadItem, IsTold, PourGives, PourStage, ScrubsFirst, ScrubsIfQuiet, StepDoes, TurnDoes, PollPours, PollDoes, pour_stage}, Steps.{IsItem, OnlySteps}, TallyOf.{tally_of}};
+ghost use Rattle.zc_poll.specs.{Polls.{AsksAgain, Tells}, PourTurns.{TellsCounts, pour_end}, Stops.{HasStopped, IsStill, quit_by, without_due}, declared.to_shelf.Poured.{Poured as Told}};
+ghost use Rattle.futures.specs.Poll.{IfReady, OnPending};
 ghost use Rattle.zr_io.specs.Moved.{ShelfCounts};
 
 use crate::counting::PourTally;
@@ -58,13 +58,8 @@ pub enum PollTurn {
 
 /// What was written, once nothing comes any more.
 pub fn told(work: &mut PourTally, alloc: Global) -> Poured
-    requires room { length work.old.counts.entries ≤ vec_capacity work.old.flows }
-    requires empty { work.old.flows.items ≡ [] }
-    ensures written { result.written ≡ work.old.written }
-    ensures loans { result.loans ≡ work.old.loans }
-    ensures copied { result.copied ≡ work.old.copied }
-    ensures stopped { result.stopped ≡ work.old.stopped }
-    ensures flows { result.flows.items ≡ with_bytes work.old.counts.entries }
+    requires room { HasRoom (tally_of work.old) }
+    ensures tells { TellsCounts (tally_of work.old) result }
     ensures some { Each (λ f. 0 < f.1) result.flows.items }
     ensures ascending { IsStrictlySortedBy nat_cmp (keys_of result.flows.items) }
     ensures due { work.new.due ≡ work.old.due }
@@ -86,8 +81,7 @@ pub fn told(work: &mut PourTally, alloc: Global) -> Poured
 
 /// Gives the loan back that is due.
 fn give_back<F: AppFace>(stream: &mut LoanStream<F>, work: &mut PourTally, loan: Loan) -> PollTurn
-    requires stands { StreamStands stream.old.desk (F.seen stream.old.face) }
-    requires out { HasLoan (F.seen stream.old.face) loan }
+    requires holds { HoldsLoan stream.old.desk (F.seen stream.old.face) loan }
     requires due { work.old.due ≡ None }
     ensures gives { (first kept : ℕ → Option (List ℕ)) (losses now : ShelfCounts)
         → PourStands first losses (record (tally_of work.old) { due = Some loan }) stream.old.desk
@@ -113,12 +107,9 @@ fn give_back<F: AppFace>(stream: &mut LoanStream<F>, work: &mut PourTally, loan:
 
 /// Lets the face leave, once all is given back.
 fn close<F: AppFace>(stream: &mut LoanStream<F>, work: &mut PourTally) -> PollTurn
-    requires stands { StreamStands stream.old.desk (F.seen stream.old.face) }
-    requires ended { stream.old.desk.ended ≡ true }
-    requires none { (F.seen stream.old.face).loans ≡ [] }
+    requires may { MayLeave stream.old.desk (F.seen stream.old.face) }
     requires due { work.old.due ≡ None }
-    requires room { length work.old.counts.entries ≤ vec_capacity work.old.flows }
-    requires empty { work.old.flows.items ≡ [] }
+    requires room { HasRoom (tally_of work.old) }
     ensures gives { (first kept : ℕ → Option (List ℕ)) (losses now : ShelfCounts)
         → PourStands first losses (tally_of work.old) stream.old.desk kept now
         (F.seen stream.old.face)
@@ -147,8 +138,7 @@ fn close<F: AppFace>(stream: &mut LoanStream<F>, work: &mut PourTally) -> PollTu
 pub fn give_up_due<F: AppFace>(stream: &mut LoanStream<F>, work: &mut PourTally)
     requires stands { StreamStands stream.old.desk (F.seen stream.old.face) }
     requires out { IfSome work.old.due (λ loan. HasLoan (F.seen stream.old.face) loan) }
-    ensures stands { StreamStands stream.new.desk (F.seen stream.new.face) }
-    ensures desk { stream.new.desk ≡ stream.old.desk }
+    ensures stays { StaysAt stream.old.desk stream.new.desk (F.seen stream.new.face) }
     ensures view { F.seen stream.new.face ≡ without_due work.old.due (F.seen stream.old.face) }
     ensures work { work.new ≡ record work.old { due = None } }
     ensures beside { F.beside stream.new.face ≡ F.beside stream.old.face }
@@ -174,11 +164,9 @@ fn pour_item<F: AppFace, T: Shelf>(
     work: &mut PourTally,
     lent: Lent,
 )
-    requires stands { StreamStands stream.old.desk (F.seen stream.old.face) }
-    requires out { HasLoan (F.seen stream.old.face) lent.loan }
+    requires holds { HoldsLoan stream.old.desk (F.seen stream.old.face) lent.loan }
     requires none { work.old.due ≡ None }
-    requires room { length work.old.counts.entries ≤ vec_capacity work.old.flows }
-    requires empty { work.old.flows.items ≡ [] }
+    requires room { HasRoom (tally_of work.old) }
     ensures pours { (first : ℕ → Option (List ℕ)) (losses : ShelfCounts) (st : Desk) (v : AppView)
         → PourStands first losses (tally_of work.old) st (T.kept shelf.old) (T.counts shelf.old) v
         → IsItem st stream.old.desk v (F.seen stream.old.face) lent
@@ -206,8 +194,7 @@ fn take_step<F: AppFace, T: Shelf>(
     requires stands { StreamStands stream.old.desk (F.seen stream.old.face) }
     requires more { stream.old.desk.ended ≡ false }
     requires none { work.old.due ≡ None }
-    requires room { length work.old.counts.entries ≤ vec_capacity work.old.flows }
-    requires empty { work.old.flows.items ≡ [] }
+    requires room { HasRoom (tally_of work.old) }
     ensures gives { (first : ℕ → Option (List ℕ)) (losses : ShelfCounts)
         → PourStands first losses (tally_of work.old) stream.old.desk (T.kept shelf.old)
         (T.counts shelf.old) (F.seen stream.old.face)
@@ -270,8 +257,7 @@ fn go_on<F: AppFace, T: Shelf>(
     shelf: &mut T,
     work: &mut PourTally,
 ) -> PollTurn
-    requires stands { (first : ℕ → Option (List ℕ)) × (losses : ShelfCounts)
-        × PourStands first losses (tally_of work.old) stream.old.desk (T.kept shelf.old)
+    requires stands { CanTurn (tally_of work.old) stream.old.desk (T.kept shelf.old)
         (T.counts shelf.old) (F.seen stream.old.face) }
     requires more { stream.old.desk.ended ≡ false }
     requires none { work.old.due ≡ None }
@@ -300,8 +286,7 @@ fn take_turn<F: AppFace, T: Shelf>(
     shelf: &mut T,
     work: &mut PourTally,
 ) -> PollTurn
-    requires stands { (first : ℕ → Option (List ℕ)) × (losses : ShelfCounts)
-        × PourStands first losses (tally_of work.old) stream.old.desk (T.kept shelf.old)
+    requires stands { CanTurn (tally_of work.old) stream.old.desk (T.kept shelf.old)
         (T.counts shelf.old) (F.seen stream.old.face) }
     ensures gives { (first : ℕ → Option (List ℕ)) (losses : ShelfCounts)
         → PourStands first losses (tally_of work.old) stream.old.desk (T.kept shelf.old)
@@ -376,10 +361,8 @@ impl<F: AppFace, T: Shelf> ToShelf<F, T> {
     /// stays due where the refill slot was seen in use. One that was stopped scrubs as soon as each refill slot is free, also while
     /// notes still come.
     pub fn turn(&mut self) -> PollTurn
-        requires stands { (first : ℕ → Option (List ℕ)) × (losses : ShelfCounts)
-            × PourStands first losses self.old.tally self.old.desk (T.kept self.old.shelf)
-            (T.counts self.old.shelf)
-            (F.seen self.old.face) }
+        requires stands { CanTurn self.old.tally self.old.desk (T.kept self.old.shelf)
+            (T.counts self.old.shelf) (F.seen self.old.face) }
         ensures gives { (first : ℕ → Option (List ℕ)) (losses : ShelfCounts)
             → PourStands first losses self.old.tally self.old.desk (T.kept self.old.shelf)
             (T.counts self.old.shelf) (F.seen self.old.face)
@@ -405,8 +388,7 @@ impl<F: AppFace, T: Shelf> ToShelf<F, T> {
     /// Gives up the loan that is due and all pieces, and writes nothing more: what was written, the stream, which is stopped, and the
     /// shelf. `leaving` gives the face of that stream back.
     pub fn stop(self) -> (Poured, LoanStream<F>, T)
-        requires stands { (first : ℕ → Option (List ℕ)) × (losses : ShelfCounts)
-            × PourStands first losses self.tally self.desk (T.kept self.shelf) (T.counts self.shelf)
+        requires stands { CanTurn self.tally self.desk (T.kept self.shelf) (T.counts self.shelf)
             (F.seen self.face) }
         // No loan is out.
         ensures still { IsStill result.1.desk (F.seen result.1.face) }
@@ -449,8 +431,8 @@ impl<F: AppFace, T: Shelf> ToShelf<F, T> {
 impl<F: AppFace + Drop, T: Shelf + Drop> Future for ToShelf<F, T> {
     type Output = Poured;
 
-    ghost can_poll = { λ s. (first : ℕ → Option (List ℕ)) × (losses : ShelfCounts)
-        × PourStands first losses s.tally s.desk (T.kept s.shelf) (T.counts s.shelf) (F.seen s.face) };
+    ghost can_poll = { λ s.
+        CanTurn s.tally s.desk (T.kept s.shelf) (T.counts s.shelf) (F.seen s.face) };
 
     ghost needs = { λ _ _. ⊤ };
 
@@ -458,10 +440,8 @@ impl<F: AppFace + Drop, T: Shelf + Drop> Future for ToShelf<F, T> {
     ghost gives = { λ s. Tells s.tally s.desk (T.kept s.shelf) (T.counts s.shelf) (F.seen s.face) };
 
     fn poll(&mut self, cx: &mut Context<'_>) -> Poll<Poured>
-        requires { (first : ℕ → Option (List ℕ)) × (losses : ShelfCounts)
-            × PourStands first losses self.old.tally self.old.desk (T.kept self.old.shelf)
-            (T.counts self.old.shelf)
-            (F.seen self.old.face) }
+        requires { CanTurn self.old.tally self.old.desk (T.kept self.old.shelf)
+            (T.counts self.old.shelf) (F.seen self.old.face) }
         ensures value { IfReady result
             (Tells self.old.tally self.old.desk (T.kept self.old.shelf) (T.counts self.old.shelf)
             (F.seen self.old.face)) }
@@ -470,14 +450,9 @@ impl<F: AppFace + Drop, T: Shelf + Drop> Future for ToShelf<F, T> {
             (F.seen self.new.face) x
             → Tells self.old.tally self.old.desk (T.kept self.old.shelf) (T.counts self.old.shelf)
             (F.seen self.old.face) x) }
-        ensures again { OnPending result ((first : ℕ → Option (List ℕ)) × (losses : ShelfCounts)
-            × PourStands first losses self.new.tally self.new.desk (T.kept self.new.shelf)
-            (T.counts self.new.shelf)
-            (F.seen self.new.face)) }
-        // A poll that is pending asks for another, whatever its sources do.
-        ensures woken { OnPending result (cx.new.is_woken ≡ true) }
-        ensures registered { OnPending result (Covers cx.new (λ source. ⊤)) }
-        ensures kept { Keeps cx.old cx.new }
+        ensures again { OnPending result (CanTurn self.new.tally self.new.desk
+            (T.kept self.new.shelf) (T.counts self.new.shelf) (F.seen self.new.face)) }
+        ensures asks { AsksAgain cx.old cx.new result }
         // It gives what one turn gives.
         ensures gives { (first : ℕ → Option (List ℕ)) (losses : ShelfCounts)
             → PourStands first losses self.old.tally self.old.desk (T.kept self.old.shelf)

@@ -1,7 +1,7 @@
 //! What is poured, with the face and the shelf.
 ghost use Rattle.std.specs.Prelude.{◌≡◌, ℕ, true, List, Option, Some, IfSome, IsSomeAnd, MatchOption, ⊤};
 ghost use Rattle.zr_io.specs.Moved.{ShelfCounts};
-ghost use Rattle.zc_poll.specs.{Pouring.{PourStands}, Polls.{IsLastTurn}};
+ghost use Rattle.zc_poll.specs.{Pouring.{CanTurn, PourStands}, Polls.{IsLastTurn}};
 
 use crate::to_shelf::{PollTurn, Poured, ToShelf};
 use board_face::AppFace;
@@ -26,8 +26,7 @@ impl<F: AppFace, T: Shelf> ToShelf<F, T> {
 
 /// Takes a turn: what was poured, where it was the last.
 fn take_turn<F: AppFace, T: Shelf>(work: &mut ToShelf<F, T>) -> Option<Poured>
-    requires stands { (first : ℕ → Option (List ℕ)) × (losses : ShelfCounts)
-        × PourStands first losses work.old.tally work.old.desk (T.kept work.old.shelf)
+    requires stands { CanTurn work.old.tally work.old.desk (T.kept work.old.shelf)
         (T.counts work.old.shelf) (F.seen work.old.face) }
     ensures gives { (first : ℕ → Option (List ℕ)) (losses : ShelfCounts)
         → PourStands first losses work.old.tally work.old.desk (T.kept work.old.shelf)
@@ -51,16 +50,19 @@ fn take_turn<F: AppFace, T: Shelf>(work: &mut ToShelf<F, T>) -> Option<Poured>
 impl<F: AppFace + Drop, T: Shelf + Drop> Future for WithParts<F, T> {
     type Output = (Poured, F, T);
 
-    ghost can_poll = { λ s. IsSomeAnd s.work (λ work. (first : ℕ → Option (List ℕ)) × (losses : ShelfCounts)
-        × PourStands first losses work.tally work.desk (T.kept work.shelf) (T.counts work.shelf) (F.seen work.face)) };
+    ghost can_poll = { λ s. IsSomeAnd s.work (λ work.
+        CanTurn work.tally work.desk (T.kept work.shelf) (T.counts work.shelf)
+        (F.seen work.face)) };
 
     ghost needs = { λ _ _. ⊤ };
 
     /// What a last turn gives and does, at the same board.
     ghost gives = { λ s came. IfSome s.work (λ work. (F.beside came.1 ≡ F.beside work.face)
         × ((first : ℕ → Option (List ℕ)) (losses : ShelfCounts)
-        → PourStands first losses work.tally work.desk (T.kept work.shelf) (T.counts work.shelf) (F.seen work.face)
-        → IsLastTurn first losses (T.kept came.2) (T.counts came.2) (F.seen work.face).app (F.seen came.1) came.0)) };
+        → PourStands first losses work.tally work.desk (T.kept work.shelf) (T.counts work.shelf)
+        (F.seen work.face)
+        → IsLastTurn first losses (T.kept came.2) (T.counts came.2) (F.seen work.face).app
+        (F.seen came.1) came.0)) };
 
     fn poll(&mut self, cx: &mut Context<'_>) -> Poll<(Poured, F, T)> {
         let Some(mut work) = self.work.take() else {

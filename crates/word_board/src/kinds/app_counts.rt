@@ -1,6 +1,7 @@
-ghost use Rattle.std.specs.Prelude.{◌≡◌, ◌+◌, ◌^◌, ◌<◌, true, map, slice_index, Contains};
+ghost use Rattle.std.specs.Prelude.{◌≡◌, ◌+◌, ◌^◌, ◌<◌, true, slice_index, Contains};
 ghost use Rattle.area_layout.specs.Layout.{total};
-ghost use Rattle.board_face.specs.{AppCalls.{IsHere, HasHeld, HasNoneIn}, AppEvents.{cut, reserve_of}, Sides.{app_at}, Texts.{unsplit_bytes}, Steps.{HasSearched, side_released, side_spare_begun, side_owes_lowered}};
+ghost use Rattle.board_face.specs.{AppCalls.{IsHere, HasHeld, HasNoneIn, MaySpare}, AppEvents.{cut}, Sides.{app_at}, Steps.{HasSearched, side_released, side_spare_begun, side_owes_lowered}};
+ghost use Rattle.word_board.specs.AtHand.{IsReserve};
 
 use crate::stepper::AppStepper;
 use crate::steps::Op;
@@ -14,8 +15,7 @@ pub(crate) fn take_picked(app: &mut AppStepper, buffer: u32)
     requires within { buffer < total app.old.board.setting.layout }
     requires here { IsHere app.old.side.view }
     requires in_hand { Contains app.old.side.inside.hands buffer }
-    requires due { app.old.side.view.spares
-        < unsplit_bytes (map (λ t. t.note) app.old.side.view.taken) }
+    requires due { MaySpare app.old.side.view }
     ensures event { app.new ≡ record app.old { side = side_spare_begun app.old.side buffer } }
     ensures apart { HasNoneIn app.old.side.view buffer }
 {
@@ -27,13 +27,11 @@ pub(crate) fn take_picked(app: &mut AppStepper, buffer: u32)
 /// An application that has looked at each free word holds its reserve, which it saw free, as a spare: its pool count is raised
 /// from 0. Nothing of the application's lay there.
 pub(crate) fn take_reserve(app: &mut AppStepper, reserve: u32)
-    requires within { reserve < total app.old.board.setting.layout }
+    requires reserve { IsReserve app.old reserve }
     requires here { IsHere app.old.side.view }
-    requires own { reserve ≡ reserve_of app.old.side.view }
     requires searched { HasSearched app.old.side }
     requires free { app.old.side.inside.reserve_seen_free ≡ true }
-    requires due { app.old.side.view.spares
-        < unsplit_bytes (map (λ t. t.note) app.old.side.view.taken) }
+    requires due { MaySpare app.old.side.view }
     ensures event { app.new ≡ record app.old { side = side_spare_begun app.old.side reserve } }
     ensures apart { HasNoneIn app.old.side.view reserve }
 {

@@ -1,9 +1,9 @@
-ghost use Rattle.std.specs.Prelude.{◌≡◌, ◌+◌, ◌<◌, [], ◌∷◌, ◌++◌, true, false, None, Some, length, IfNone};
+ghost use Rattle.std.specs.Prelude.{◌≡◌, ◌+◌, ◌<◌, [], ◌∷◌, ◌++◌, true, false, None, length, IfNone};
 ghost use Rattle.area_layout.specs.Layout.{judged};
 ghost use Rattle.board_face.specs.{NicCalls.{apps_of}, SlotSteps.{next_slot, side_entry_looked, side_entry_loaded, side_in_hand, side_dealt}, declared.views.nic.{Fate.TheVariants.{Honoured, Stray}, Judged.TheVariants.{Not, Stray as judged_stray, BothLowered}}, NicEvents.{nic_gist}};
 ghost use Rattle.word_rings.specs.Slots.{refill_width, entry_of};
-ghost use Rattle.ref_words.specs.{Rings.{takes_entry_at, refill_words_at}};
-ghost use Rattle.word_board.specs.{Board.{side_entry_taken}, Told.{SawRingEmpty}};
+ghost use Rattle.ref_words.specs.{Rings.{refill_words_at}};
+ghost use Rattle.word_board.specs.{AtHand.{HasEntry, TakesEntryAt}, Board.{side_entry_taken}, Told.{SawRingEmpty}};
 
 use crate::stepper::CardStepper;
 use crate::steps::Op;
@@ -14,9 +14,7 @@ use zr_kinds::Rqe;
 
 /// The card looks at the flag of the next refill slot of an application. `true` says that the slot is full.
 pub(crate) fn look_entry(card: &mut CardStepper, app: u32, slot: u32) -> bool
-    requires app { app < apps_of card.old.board.setting }
-    requires within { slot < card.old.board.setting.places }
-    requires next { slot ≡ takes_entry_at card.old.board.setting card.old.side app }
+    requires slot { TakesEntryAt card.old app slot }
     ensures event { card.new ≡ record card.old {
       side = side_entry_looked card.old.side app result;
     } }
@@ -32,9 +30,7 @@ pub(crate) fn look_entry(card: &mut CardStepper, app: u32, slot: u32) -> bool
 
 /// It loads the next word of the slot, which it saw full.
 pub(crate) fn load_entry(card: &mut CardStepper, app: u32, slot: u32, at: u32) -> u64
-    requires app { app < apps_of card.old.board.setting }
-    requires within { slot < card.old.board.setting.places }
-    requires next { slot ≡ takes_entry_at card.old.board.setting card.old.side app }
+    requires slot { TakesEntryAt card.old app slot }
     requires seen { (next_slot card.old.side.inside.refill_slots app).seen ≡ true }
     requires so_far { at ≡ refill_words_at card.old.side app }
     requires more { at < refill_width }
@@ -47,9 +43,7 @@ pub(crate) fn load_entry(card: &mut CardStepper, app: u32, slot: u32, at: u32) -
 
 /// It loads the last word of the slot, and has the entry in hand of which the words tell.
 pub(crate) fn load_last(card: &mut CardStepper, app: u32, slot: u32, at: u32) -> u64
-    requires app { app < apps_of card.old.board.setting }
-    requires within { slot < card.old.board.setting.places }
-    requires next { slot ≡ takes_entry_at card.old.board.setting card.old.side app }
+    requires slot { TakesEntryAt card.old app slot }
     requires seen { (next_slot card.old.side.inside.refill_slots app).seen ≡ true }
     requires so_far { at ≡ refill_words_at card.old.side app }
     requires last { at + 1 ≡ refill_width }
@@ -66,12 +60,7 @@ pub(crate) fn load_last(card: &mut CardStepper, app: u32, slot: u32, at: u32) ->
 
 /// It frees the slot: the entry in hand was a return of the buffer, for which both counts were lowered.
 pub(crate) fn free_honoured(card: &mut CardStepper, app: u32, slot: u32, entry: Rqe, buffer: u32)
-    requires app { app < apps_of card.old.board.setting }
-    requires within { slot < card.old.board.setting.places }
-    requires next { slot ≡ takes_entry_at card.old.board.setting card.old.side app }
-    requires seen { (next_slot card.old.side.inside.refill_slots app).seen ≡ true }
-    requires in_hand { card.old.side.inside.entry
-        ≡ Some (record { app = app; entry = entry; judged = BothLowered buffer }) }
+    requires entry { HasEntry card.old app slot entry (BothLowered buffer) }
     requires bare { card.old.side.inside.hands ≡ [] }
     ensures { card.new ≡ record card.old {
       side = side_dealt card.old.side app entry (Honoured buffer);
@@ -84,12 +73,7 @@ pub(crate) fn free_honoured(card: &mut CardStepper, app: u32, slot: u32, entry: 
 
 /// It frees the slot: the entry in hand was judged a stray.
 pub(crate) fn free_stray(card: &mut CardStepper, app: u32, slot: u32, entry: Rqe)
-    requires app { app < apps_of card.old.board.setting }
-    requires within { slot < card.old.board.setting.places }
-    requires next { slot ≡ takes_entry_at card.old.board.setting card.old.side app }
-    requires seen { (next_slot card.old.side.inside.refill_slots app).seen ≡ true }
-    requires in_hand { card.old.side.inside.entry
-        ≡ Some (record { app = app; entry = entry; judged = judged_stray }) }
+    requires entry { HasEntry card.old app slot entry judged_stray }
     ensures { card.new ≡ record card.old { side = side_dealt card.old.side app entry Stray } }
 {
     laws::card_keeps_the_rule();
@@ -99,12 +83,7 @@ pub(crate) fn free_stray(card: &mut CardStepper, app: u32, slot: u32, entry: Rqe
 
 /// It frees the slot: the entry in hand names no buffer.
 pub(crate) fn free_void(card: &mut CardStepper, app: u32, slot: u32, entry: Rqe)
-    requires app { app < apps_of card.old.board.setting }
-    requires within { slot < card.old.board.setting.places }
-    requires next { slot ≡ takes_entry_at card.old.board.setting card.old.side app }
-    requires seen { (next_slot card.old.side.inside.refill_slots app).seen ≡ true }
-    requires in_hand { card.old.side.inside.entry
-        ≡ Some (record { app = app; entry = entry; judged = Not }) }
+    requires entry { HasEntry card.old app slot entry Not }
     requires void { judged card.old.board.setting.layout entry ≡ None }
     ensures { card.new ≡ record card.old { side = side_dealt card.old.side app entry Stray } }
 {
@@ -116,9 +95,7 @@ pub(crate) fn free_void(card: &mut CardStepper, app: u32, slot: u32, entry: Rqe)
 /// The card takes the next entry of an application in hand: it looks at the flag of the slot, and where the slot is full it
 /// loads the words. `None` says that the slot was free.
 pub(crate) fn take_entry(card: &mut CardStepper, app: u32, slot: u32) -> Option<Rqe>
-    requires app { app < apps_of card.old.board.setting }
-    requires within { slot < card.old.board.setting.places }
-    requires next { slot ≡ takes_entry_at card.old.board.setting card.old.side app }
+    requires slot { TakesEntryAt card.old app slot }
     requires idle { card.old.side.inside.entry ≡ None }
     ensures event { card.new ≡ record card.old {
       side = side_entry_taken card.old.side app result;

@@ -1,7 +1,7 @@
-ghost use Rattle.std.specs.Prelude.{◌≡◌, ◌<◌, [], ◌∷◌, true, length, nat_lt, if◌then◌else◌, Some};
+ghost use Rattle.std.specs.Prelude.{◌≡◌, ◌<◌, [], ◌∷◌, true, length, nat_lt, if◌then◌else◌};
 ghost use Rattle.area_layout.specs.Layout.{total, pool_buffers};
-ghost use Rattle.board_face.specs.{AppCalls.{HasHeld}, AppEvents.{released}, NicCalls.{HasOwn, apps_of}, NicEvents.{cache_room, shut, gave_up}, Sides.{nic_at, app_at}, SlotSteps.{next_slot, side_dealt}, declared.views.nic.{Fate.TheVariants.{Honoured}, Judged.TheVariants.{Owed}}};
-ghost use Rattle.ref_words.specs.Rings.{takes_entry_at};
+ghost use Rattle.board_face.specs.{AppCalls.{HasHeld}, AppEvents.{released}, NicCalls.{HasOwn}, NicEvents.{cache_room, shut, gave_up}, Sides.{nic_at, app_at}, SlotSteps.{side_dealt}, declared.views.nic.{Fate.TheVariants.{Honoured}, Judged.TheVariants.{Owed}}};
+ghost use Rattle.word_board.specs.AtHand.{AppIsBare, CardIsBare, HasEntry};
 
 use crate::kinds::{free_honoured, give_back, list_by_app, list_by_card, release_held, shut_own};
 use crate::stepper::{AppStepper, CardStepper};
@@ -45,12 +45,11 @@ pub(crate) fn list_last_by_app(app: &mut AppStepper, buffer: u32, in_hand: bool)
 /// The card closes a buffer: its own reference goes. A pool buffer that comes to be free by that is cached where the cache has
 /// `room`, and listed else. It answers whether no holder is left.
 pub(crate) fn shut_buffer(card: &mut CardStepper, own: Filling, pool: u32, room: bool) -> bool
-    requires set { card.old.side.view.setting ≡ card.old.board.setting }
+    requires bare { CardIsBare card.old }
     requires within { own.buffer < total card.old.board.setting.layout }
     requires out { HasOwn card.old.side.view own }
     requires pool { pool ≡ pool_buffers card.old.board.setting.layout }
     requires room { room ≡ nat_lt (length card.old.side.view.cache) cache_room }
-    requires bare { card.old.side.inside.hands ≡ [] }
     ensures { card.new ≡ record card.old {
       side = nic_at card.old.side (shut card.old.side.view own result);
     } }
@@ -77,17 +76,11 @@ pub(crate) fn honour_entry(
     pool: u32,
     room: bool,
 ) -> bool
-    requires set { card.old.side.view.setting ≡ card.old.board.setting }
-    requires app { loaded.app < apps_of card.old.board.setting }
-    requires slot { loaded.slot < card.old.board.setting.places }
-    requires next { loaded.slot ≡ takes_entry_at card.old.board.setting card.old.side loaded.app }
-    requires seen { (next_slot card.old.side.inside.refill_slots loaded.app).seen ≡ true }
+    requires bare { CardIsBare card.old }
+    requires entry { HasEntry card.old loaded.app loaded.slot loaded.entry (Owed buffer) }
     requires within { buffer < total card.old.board.setting.layout }
-    requires in_hand { card.old.side.inside.entry
-        ≡ Some (record { app = loaded.app; entry = loaded.entry; judged = Owed buffer }) }
     requires pool { pool ≡ pool_buffers card.old.board.setting.layout }
     requires room { room ≡ nat_lt (length card.old.side.view.cache) cache_room }
-    requires bare { card.old.side.inside.hands ≡ [] }
     ensures { card.new ≡ record card.old {
       side = side_dealt
           (nic_at card.old.side (gave_up card.old.side.view buffer result)) loaded.app loaded.entry
@@ -102,11 +95,10 @@ pub(crate) fn honour_entry(
 
 /// An application gives a held piece up. A pool buffer that comes to be free by that is listed.
 pub(crate) fn release_piece(app: &mut AppStepper, place: Place, pool: u32)
-    requires set { app.old.side.view.setting ≡ app.old.board.setting }
+    requires bare { AppIsBare app.old }
     requires within { place.buffer < total app.old.board.setting.layout }
     requires out { HasHeld app.old.side.view place }
     requires pool { pool ≡ pool_buffers app.old.board.setting.layout }
-    requires bare { app.old.side.inside.hands ≡ [] }
     ensures { app.new ≡ record app.old {
       side = app_at app.old.side (released app.old.side.view place);
     } }

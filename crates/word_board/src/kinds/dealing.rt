@@ -1,8 +1,7 @@
-ghost use Rattle.std.specs.Prelude.{◌≡◌, ◌<◌, [], true, None, Some, ◌≢◌};
+ghost use Rattle.std.specs.Prelude.{◌≡◌, ◌<◌, None, Some, ◌≢◌};
 ghost use Rattle.area_layout.specs.Layout.{total, pool_buffers, judged};
-ghost use Rattle.board_face.specs.{NicCalls.{DealtWith, apps_of}, SlotSteps.{next_slot}, declared.{views.nic.Judged.TheVariants.{Not}, answers.Entry.TheVariants.{Empty as got_none}}, NicEvents.{nic_gist}};
-ghost use Rattle.ref_words.specs.Rings.{takes_entry_at};
-ghost use Rattle.word_board.specs.Told.{SawRingEmpty};
+ghost use Rattle.board_face.specs.{declared.{views.nic.Judged.TheVariants.{Not}, answers.Entry.TheVariants.{Empty as got_none}}, NicEvents.{nic_gist}};
+ghost use Rattle.word_board.specs.{AtHand.{CardIsBare, DealtEntry, HasEntry, TakesEntryAt}, Told.{SawRingEmpty}};
 
 use crate::found::cache_if;
 use crate::kinds::{Loaded, free_stray, free_void, honour_entry, look_user, take_entry};
@@ -20,26 +19,14 @@ fn deal_with(
     pool: u32,
     cache: &mut Cache,
 ) -> Entry
-    requires set { card.old.side.view.setting ≡ card.old.board.setting }
-    requires app { loaded.app < apps_of card.old.board.setting }
-    requires slot { loaded.slot < card.old.board.setting.places }
-    requires next { loaded.slot ≡ takes_entry_at card.old.board.setting card.old.side loaded.app }
-    requires seen { (next_slot card.old.side.inside.refill_slots loaded.app).seen ≡ true }
+    requires bare { CardIsBare card.old }
+    requires entry { HasEntry card.old loaded.app loaded.slot loaded.entry Not }
     requires within { buffer < total card.old.board.setting.layout }
     requires names { judged card.old.board.setting.layout loaded.entry ≡ Some buffer }
-    requires in_hand { card.old.side.inside.entry
-        ≡ Some (record { app = loaded.app; entry = loaded.entry; judged = Not }) }
     requires pool { pool ≡ pool_buffers card.old.board.setting.layout }
     requires cache { cache.old.items ≡ card.old.side.view.cache }
-    requires bare { card.old.side.inside.hands ≡ [] }
-    ensures board { card.new.board ≡ card.old.board }
-    ensures view { DealtWith card.old.side.view card.new.side.view loaded.app result }
-    ensures cache { cache.new.items ≡ card.new.side.view.cache }
-    ensures inside { card.new.side.inside ≡ record card.old.side.inside {
-      entry = None;
-      refill_slots = card.new.side.inside.refill_slots;
-    } }
-    ensures dealt { result ≢ got_none }
+    ensures dealt { DealtEntry card.old card.new loaded.app result cache.new.items }
+    ensures some { result ≢ got_none }
 {
     if look_user(card, loaded.app, loaded.entry, buffer) {
         free_stray(card, loaded.app, loaded.slot, loaded.entry);
@@ -60,20 +47,12 @@ pub(crate) fn next_entry(
     slot: u32,
     cache: &mut Cache,
 ) -> Entry
-    requires set { card.old.side.view.setting ≡ card.old.board.setting }
+    requires bare { CardIsBare card.old }
     requires layout { layout.now ≡ card.old.board.setting.layout }
-    requires app { app < apps_of card.old.board.setting }
-    requires within { slot < card.old.board.setting.places }
-    requires next { slot ≡ takes_entry_at card.old.board.setting card.old.side app }
+    requires slot { TakesEntryAt card.old app slot }
     requires idle { card.old.side.inside.entry ≡ None }
     requires cache { cache.old.items ≡ card.old.side.view.cache }
-    requires bare { card.old.side.inside.hands ≡ [] }
-    ensures board { card.new.board ≡ card.old.board }
-    ensures view { DealtWith card.old.side.view card.new.side.view app result }
-    ensures cache { cache.new.items ≡ card.new.side.view.cache }
-    ensures inside { card.new.side.inside ≡ record card.old.side.inside {
-      refill_slots = card.new.side.inside.refill_slots;
-    } }
+    ensures dealt { DealtEntry card.old card.new app result cache.new.items }
     ensures told { result ≡ got_none
         → SawRingEmpty card.old.board.setting (nic_gist card.old.side.view) app }
 {

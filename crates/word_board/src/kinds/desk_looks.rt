@@ -1,7 +1,7 @@
 //! Loads by which the desk learns what the rule says of the roles that are back.
 ghost use Rattle.std.specs.Prelude.{◌≡◌, ℕ, ◌<◌, ◌≤◌, if◌then◌else◌, nat_eq, count_by, length};
 ghost use Rattle.area_layout.specs.Layout.{pool_buffers};
-ghost use Rattle.word_board.specs.{Board.{card_of}, Desk.{AreOfBoard, AreOver, AreServed, AllAreBack, HasNoHolders}};
+ghost use Rattle.word_board.specs.{Board.{card_of}, Desk.{AreOfBoard, AreOver, AreServed, AllAreBack, HasNoHolders}, Lines.{IsSameSeat}};
 
 use crate::kinds::WORD_BITS;
 use crate::rule::{SharedWords, WordSeat};
@@ -13,9 +13,7 @@ use std::marker::Brand;
 pub(crate) fn look_served(words: &SharedWords, desk: &mut WordSeat)
     requires table { desk.old.table_id ≡ words.now.table.shared.table_id }
     requires over { AreOver desk.old.me.0 }
-    ensures table { desk.new.table_id ≡ desk.old.table_id }
-    ensures number { desk.new.id ≡ desk.old.id }
-    ensures me { desk.new.me ≡ desk.old.me }
+    ensures same { IsSameSeat desk.old desk.new }
     ensures one { length desk.old.me.0.nics ≤ 1 }
     ensures served { AreServed desk.old.me.0 }
     ensures known { AreOfBoard words.now.map desk.old.me.0 }
@@ -31,9 +29,7 @@ pub(crate) fn look_unheld(words: &SharedWords, desk: &mut WordSeat)
     requires table { desk.old.table_id ≡ words.now.table.shared.table_id }
     requires over { AreOver desk.old.me.0 }
     requires all { AllAreBack words.now.map desk.old.me.0 }
-    ensures table { desk.new.table_id ≡ desk.old.table_id }
-    ensures number { desk.new.id ≡ desk.old.id }
-    ensures me { desk.new.me ≡ desk.old.me }
+    ensures same { IsSameSeat desk.old desk.new }
     ensures holders { HasNoHolders desk.old.me.0 }
     ensures reserves { (b : ℕ) → pool_buffers words.now.map.layout ≤ b
         → count_by (nat_eq b) (card_of desk.old.me.0).view.cache ≡ 0 }
@@ -51,9 +47,7 @@ pub(crate) fn look_listed(words: &SharedWords, desk: &mut WordSeat, buffer: u32)
     requires over { AreOver desk.old.me.0 }
     requires all { AllAreBack words.now.map desk.old.me.0 }
     requires of_pool { buffer < pool_buffers words.now.map.layout }
-    ensures table { desk.new.table_id ≡ desk.old.table_id }
-    ensures number { desk.new.id ≡ desk.old.id }
-    ensures me { desk.new.me ≡ desk.old.me }
+    ensures same { IsSameSeat desk.old desk.new }
     ensures listed { count_by (nat_eq buffer) (card_of desk.old.me.0).view.cache
         ≡ (if result then 0 else 1) }
 {

@@ -1,9 +1,9 @@
 ghost use Rattle.std.specs.Prelude.{◌≡◌, ◌+◌, ◌<◌, ◌≤◌, [], true, false, length, take, drop, if◌then◌else◌, All};
 ghost use Rattle.area_layout.specs.Layout.{area_of_buffer, pool_buffers};
 ghost use Rattle.board_face.specs.{NicCalls.{apps_of, IsOpen, HasPiece}, NicEvents.{text_at, nic_gist}, Texts.{IsSplitNote, IsLinearNote}, SlotSteps.{next_slot, seen_with, at_note, side_note_looked, side_note_stored, side_sent, side_sent_linear}};
-ghost use Rattle.word_rings.specs.{Slots.{note_width, note_body, IsBlankFrom}, Texts.{text_count}};
-ghost use Rattle.ref_words.specs.{Rings.{NoteFits, writes_note_at, left_in_note, note_so_far, note_words_at}};
-ghost use Rattle.word_board.specs.Told.{SawNoteInUse};
+ghost use Rattle.word_rings.specs.Slots.{note_width, note_body, words_for};
+ghost use Rattle.ref_words.specs.Rings.{note_words_at};
+ghost use Rattle.word_board.specs.{AtHand.{HasStoredNote, IsUnstored, WritesNoteAt}, Told.{SawNoteInUse}};
 
 use crate::stepper::CardStepper;
 use crate::steps::Op;
@@ -15,9 +15,7 @@ use zr_kinds::Note;
 /// The card looks at the flag of the next note slot of an application, into which it has stored nothing yet. `true` says that
 /// the slot is free.
 pub(crate) fn look_note(card: &mut CardStepper, app: u32, slot: u32) -> bool
-    requires app { app < apps_of card.old.board.setting }
-    requires within { slot < card.old.board.setting.places }
-    requires next { slot ≡ writes_note_at card.old.board.setting card.old.side app }
+    requires slot { WritesNoteAt card.old app slot }
     requires unstored { (next_slot card.old.side.inside.note_slots app).words ≡ [] }
     ensures event { card.new ≡ record card.old {
       side = side_note_looked card.old.side app result;
@@ -37,9 +35,7 @@ pub(crate) fn look_note(card: &mut CardStepper, app: u32, slot: u32) -> bool
 
 /// It stores the next word of a note into the slot, which it saw free.
 pub(crate) fn store_note(card: &mut CardStepper, app: u32, slot: u32, at: u32, n: u64)
-    requires app { app < apps_of card.old.board.setting }
-    requires within { slot < card.old.board.setting.places }
-    requires next { slot ≡ writes_note_at card.old.board.setting card.old.side app }
+    requires slot { WritesNoteAt card.old app slot }
     requires seen { (next_slot card.old.side.inside.note_slots app).seen ≡ true }
     requires so_far { at ≡ note_words_at card.old.side app }
     requires more { at < note_width }
@@ -52,9 +48,7 @@ pub(crate) fn store_note(card: &mut CardStepper, app: u32, slot: u32, at: u32, n
 
 /// It stores so many of a note's words into the slot, which it saw free.
 fn store_words(card: &mut CardStepper, app: u32, slot: u32, body: &[u64; 39], many: usize)
-    requires app { app < apps_of card.old.board.setting }
-    requires within { slot < card.old.board.setting.places }
-    requires next { slot ≡ writes_note_at card.old.board.setting card.old.side app }
+    requires slot { WritesNoteAt card.old app slot }
     requires slots { length card.old.side.inside.note_slots ≡ apps_of card.old.board.setting }
     requires seen { next_slot card.old.side.inside.note_slots app ≡ seen_with [] }
     requires many { 1 + many ≤ note_width }
@@ -70,16 +64,11 @@ fn store_words(card: &mut CardStepper, app: u32, slot: u32, body: &[u64; 39], ma
 
 /// It hands the slot over: a note is on its way with the piece at its place, as the words tell.
 pub(crate) fn publish_note(card: &mut CardStepper, app: u32, slot: u32, note: Note)
-    requires app { app < apps_of card.old.board.setting }
-    requires within { slot < card.old.board.setting.places }
-    requires next { slot ≡ writes_note_at card.old.board.setting card.old.side app }
+    requires note { HasStoredNote card.old slot
+        (record { app = app; note = note; bytes = text_at card.old.side.view note.place })
+        (note_body note [] (area_of_buffer card.old.board.setting.layout note.place.buffer)) }
     requires out { HasPiece card.old.side.view note.place }
     requires fields { IsSplitNote note }
-    requires fits { NoteFits
-        (record { app = app; note = note; bytes = text_at card.old.side.view note.place }) }
-    requires seen { (next_slot card.old.side.inside.note_slots app).seen ≡ true }
-    requires words { note_so_far card.old.board.setting card.old.side app
-        ≡ note_body note [] (area_of_buffer card.old.board.setting.layout note.place.buffer) }
     ensures { card.new ≡ record card.old { side = side_sent card.old.side app note } }
 {
     laws::card_keeps_the_rule();
@@ -89,16 +78,11 @@ pub(crate) fn publish_note(card: &mut CardStepper, app: u32, slot: u32, note: No
 
 /// It hands the slot over: a note is on its way in which its bytes travel.
 pub(crate) fn publish_linear(card: &mut CardStepper, app: u32, slot: u32, note: Note, bytes: &[u8])
-    requires app { app < apps_of card.old.board.setting }
-    requires within { slot < card.old.board.setting.places }
-    requires next { slot ≡ writes_note_at card.old.board.setting card.old.side app }
+    requires note { HasStoredNote card.old slot
+        (record { app = app; note = note; bytes = bytes.now }) (note_body note bytes.now 0) }
     requires running { IsOpen card.old.side.view }
     requires fields { IsLinearNote note }
     requires bytes { note.total ≡ length bytes.now }
-    requires fits { NoteFits (record { app = app; note = note; bytes = bytes.now }) }
-    requires seen { (next_slot card.old.side.inside.note_slots app).seen ≡ true }
-    requires words { note_so_far card.old.board.setting card.old.side app
-        ≡ note_body note bytes.now 0 }
     ensures { card.new ≡ record card.old {
       side = side_sent_linear card.old.side app note bytes.now;
     } }
@@ -110,7 +94,7 @@ pub(crate) fn publish_linear(card: &mut CardStepper, app: u32, slot: u32, note: 
 
 /// How many words of a slot so many bytes take.
 pub(crate) fn payload_words(bytes: usize) -> usize
-    ensures { result ≡ text_count bytes }
+    ensures { result ≡ words_for bytes }
 {
     bytes.div_ceil(8)
 }
@@ -119,14 +103,10 @@ pub(crate) fn payload_words(bytes: usize) -> usize
 /// Of the payload's words it stores those that may be other than 0 from the last note there, which are the first `left`.
 /// `false` says that the slot was seen in use.
 pub(crate) fn send_note(card: &mut CardStepper, app: u32, slot: u32, note: Note, left: u32) -> bool
-    requires app { app < apps_of card.old.board.setting }
-    requires within { slot < card.old.board.setting.places }
-    requires next { slot ≡ writes_note_at card.old.board.setting card.old.side app }
+    requires slot { WritesNoteAt card.old app slot }
     requires out { HasPiece card.old.side.view note.place }
     requires fields { IsSplitNote note }
-    requires unstored { (next_slot card.old.side.inside.note_slots app).words ≡ [] }
-    requires left { left ≤ 32 }
-    requires blank { IsBlankFrom left (left_in_note card.old.board.setting card.old.side app) }
+    requires left { IsUnstored card.old app left }
     ensures event { card.new ≡ record card.old {
       side = if result then side_sent card.old.side app note
           else side_note_looked card.old.side app false;
@@ -155,15 +135,11 @@ pub(crate) fn send_linear(
     bytes: &[u8],
     left: u32,
 ) -> bool
-    requires app { app < apps_of card.old.board.setting }
-    requires within { slot < card.old.board.setting.places }
-    requires next { slot ≡ writes_note_at card.old.board.setting card.old.side app }
+    requires slot { WritesNoteAt card.old app slot }
     requires running { IsOpen card.old.side.view }
     requires fields { IsLinearNote note }
     requires bytes { note.total ≡ length bytes.now }
-    requires unstored { (next_slot card.old.side.inside.note_slots app).words ≡ [] }
-    requires left { left ≤ 32 }
-    requires blank { IsBlankFrom left (left_in_note card.old.board.setting card.old.side app) }
+    requires left { IsUnstored card.old app left }
     ensures event { card.new ≡ record card.old {
       side = if result then side_sent_linear card.old.side app note bytes.now
           else side_note_looked card.old.side app false;

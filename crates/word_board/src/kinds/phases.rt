@@ -1,8 +1,7 @@
 ghost use Rattle.std.specs.Prelude.{◌≡◌, ◌<◌, true, false, None, MatchBool};
-ghost use Rattle.area_layout.specs.Layout.{total};
-ghost use Rattle.board_face.specs.{NicCalls.{HasNoToken, NicOnlySaw, apps_of}, NicEvents.{saw_leave, nic_gist}, AppCalls.{HasLoan, CanLeave}, AppEvents.{reserve_of, app_gist}, Steps.{HasSearched}, declared.views.nic.NicLook.TheVariants.{NotLeft}};
-ghost use Rattle.ref_words.specs.{PhaseSteps.{side_ended, side_leave_looked, side_left, side_end_looked, side_note_sought, side_reserve_looked, side_abandoned}, Rings.{takes_note_at}};
-ghost use Rattle.word_board.specs.Told.{SawNotLeft, SawNotEnded, SawNoNote, SawReserveHeld};
+ghost use Rattle.board_face.specs.{NicCalls.{HasNoToken, NicOnlySaw, apps_of}, NicEvents.{saw_leave, nic_gist}, AppCalls.{HasLoan, CanLeave}, AppEvents.{app_gist}, Steps.{HasSearched}, declared.views.nic.NicLook.TheVariants.{NotLeft}};
+ghost use Rattle.ref_words.specs.{PhaseSteps.{side_ended, side_leave_looked, side_left, side_end_looked, side_note_sought, side_reserve_looked, side_abandoned}};
+ghost use Rattle.word_board.specs.{AtHand.{IsReserve, TakesNoteAt}, Told.{SawNotLeft, SawNotEnded, SawNoNote, SawReserveHeld}};
 
 use crate::stepper::{AppStepper, CardStepper};
 use crate::steps::Op;
@@ -62,8 +61,7 @@ pub(crate) fn look_end(app: &mut AppStepper) -> bool
 
 /// An application that looked for the end looks at the flag of its next note slot. `true` says that the slot is full.
 pub(crate) fn seek_note(app: &mut AppStepper, slot: u32) -> bool
-    requires within { slot < app.old.board.setting.places }
-    requires next { slot ≡ takes_note_at app.old.board.setting app.old.side }
+    requires slot { TakesNoteAt app.old slot }
     ensures event { app.new ≡ record app.old { side = side_note_sought app.old.side result } }
     ensures told { result ≡ false → SawNoNote app.old.board.setting (app_gist app.old.side.view) }
 {
@@ -74,8 +72,7 @@ pub(crate) fn seek_note(app: &mut AppStepper, slot: u32) -> bool
 
 /// An application that looked at each free word looks whether somebody has its reserve. `true` says that nobody does.
 pub(crate) fn look_reserve(app: &mut AppStepper, reserve: u32) -> bool
-    requires within { reserve < total app.old.board.setting.layout }
-    requires own { reserve ≡ reserve_of app.old.side.view }
+    requires reserve { IsReserve app.old reserve }
     requires searched { HasSearched app.old.side }
     ensures event { app.new ≡ record app.old { side = side_reserve_looked app.old.side result } }
     ensures told { result ≡ false
@@ -88,8 +85,7 @@ pub(crate) fn look_reserve(app: &mut AppStepper, reserve: u32) -> bool
 
 /// An application abandons a loan, as of the moment in which it loads the pool count of its reserve.
 pub(crate) fn abandon_loan(app: &mut AppStepper, reserve: u32, place: Place)
-    requires within { reserve < total app.old.board.setting.layout }
-    requires own { reserve ≡ reserve_of app.old.side.view }
+    requires reserve { IsReserve app.old reserve }
     requires out { HasLoan app.old.side.view place }
     requires unread { app.old.side.inside.making ≡ None }
     ensures { app.new ≡ record app.old { side = side_abandoned app.old.side place } }

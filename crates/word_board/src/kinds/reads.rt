@@ -2,9 +2,8 @@ ghost use Rattle.std.specs.Prelude.{◌≡◌, ◌+◌, ◌≤◌, length, None}
 ghost use Rattle.area_layout.specs.Layout.{LiesIn};
 ghost use Rattle.board_face.specs.{AppCalls.{HasLoan, ShowsCopy}, AppEvents.{loan_origin, has_read}, Sides.{app_at}};
 
-use crate::lines::LINE_BYTES;
 use crate::stepper::AppStepper;
-use ref_words::laws;
+use ref_words::{LINE_BYTES, laws};
 use std::marker::Brand;
 use zr_kinds::Place;
 

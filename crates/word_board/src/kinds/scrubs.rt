@@ -1,8 +1,8 @@
-ghost use Rattle.std.specs.Prelude.{◌≡◌, ℕ, ◌<◌, [], false, true, slice_index};
+ghost use Rattle.std.specs.Prelude.{◌≡◌, ◌<◌, slice_index};
 ghost use Rattle.area_layout.specs.Layout.{total, pool_buffers};
 ghost use Rattle.board_face.specs.NicCalls.{apps_of};
 ghost use Rattle.ref_words.specs.Sides.{HasScrubLists};
-ghost use Rattle.word_board.specs.Board.{ScrubbedOne, ScrubbedAll};
+ghost use Rattle.word_board.specs.{AtHand.{AppIsBare, BeginsScrub, ScrubsAt}, Board.{ScrubbedOne, ScrubbedAll}};
 
 use crate::kinds::{list_last_by_app, lower_scrubbed, scrub_user};
 use crate::stepper::AppStepper;
@@ -10,16 +10,11 @@ use crate::stepper::AppStepper;
 /// An application's scrub takes what is owed of the buffer to which it came: all of the user count, and as many references
 /// from the pool count. A pool buffer that comes to be free by that is listed.
 pub(crate) fn scrub_one(app: &mut AppStepper, buffer: u32, pool: u32)
-    requires set { app.old.side.view.setting ≡ app.old.board.setting }
-    requires within { buffer < total app.old.board.setting.layout }
+    requires bare { AppIsBare app.old }
+    requires at { ScrubsAt app.old buffer }
     requires pool { pool ≡ pool_buffers app.old.board.setting.layout }
-    requires next { app.old.side.inside.scrub_mark ≡ buffer }
-    requires quiet { app.old.side.view.quiet ≡ true }
-    requires lent { app.old.side.view.loans ≡ [] }
-    requires counted { app.old.side.view.scrubbed ≡ false }
     requires lists { HasScrubLists app.old.board.setting app.old.side }
     requires clear { slice_index app.old.side.inside.scrub_owes buffer ≡ 0 }
-    requires bare { app.old.side.inside.hands ≡ [] }
     ensures board { app.new.board ≡ app.old.board }
     ensures event { ScrubbedOne app.old.side app.new.side buffer }
 {
@@ -33,16 +28,10 @@ pub(crate) fn scrub_one(app: &mut AppStepper, buffer: u32, pool: u32)
 /// An application's scrub takes all that is owed, buffer by buffer. Each pool buffer that comes to be free by that is listed.
 pub(crate) fn scrub_counts(app: &mut AppStepper, buffers: u32, pool: u32)
     requires few { app.old.side.view.app < apps_of app.old.board.setting }
-    requires set { app.old.side.view.setting ≡ app.old.board.setting }
+    requires bare { AppIsBare app.old }
     requires all { buffers ≡ total app.old.board.setting.layout }
     requires pool { pool ≡ pool_buffers app.old.board.setting.layout }
-    requires quiet { app.old.side.view.quiet ≡ true }
-    requires lent { app.old.side.view.loans ≡ [] }
-    requires counted { app.old.side.view.scrubbed ≡ false }
-    requires unbegun { app.old.side.inside.scrub_mark ≡ 0 }
-    requires lists { HasScrubLists app.old.board.setting app.old.side }
-    requires clear { (b : ℕ) → slice_index app.old.side.inside.scrub_owes b ≡ 0 }
-    requires bare { app.old.side.inside.hands ≡ [] }
+    requires begins { BeginsScrub app.old }
     ensures board { app.new.board ≡ app.old.board }
     ensures event { ScrubbedAll app.old.side app.new.side }
 {

@@ -1,8 +1,8 @@
-ghost use Rattle.std.specs.Prelude.{◌≡◌, ◌<◌, [], MatchOption};
-ghost use Rattle.area_layout.specs.Layout.{IsLayout, pool_buffers, total};
-ghost use Rattle.board_face.specs.{AppCalls.{IsHere, MaySpare}, AppEvents.{reserve_of, app_gist}, NicCalls.{free_words_of}, Steps.{side_picked}, Used.{PicksAreGiven}};
+ghost use Rattle.std.specs.Prelude.{◌≡◌, ◌<◌, MatchOption};
+ghost use Rattle.area_layout.specs.Layout.{pool_buffers};
+ghost use Rattle.board_face.specs.{AppCalls.{IsHere}, AppEvents.{app_gist}, NicCalls.{free_words_of}, Steps.{side_picked}};
 ghost use Rattle.ref_words.specs.FreeSteps.{side_word_without};
-ghost use Rattle.word_board.specs.{Spares.{Searched, FoundNone, TookListed, TookSpare, TookNoSpare}, Told.{SawWithout, SawNoneListed, SawReserveHeld, IsLowestSeen, IsFirstSeen}};
+ghost use Rattle.word_board.specs.{AtHand.{AppIsBare, IsReserve, MaySearch}, Spares.{Searched, FoundNone, TookListed, TookSpare, TookNoSpare}, Told.{SawWithout, SawNoneListed, SawReserveHeld, IsLowestSeen, IsFirstSeen}};
 
 use crate::kinds::{
     WORD_BITS, look_free_word, look_reserve, pick_buffer, take_picked, take_reserve,
@@ -13,9 +13,7 @@ use crate::stepper::AppStepper;
 /// no buffer was listed, or that another was faster.
 fn pick_in_word(app: &mut AppStepper, word: u32) -> Option<u32>
     requires within { word < free_words_of app.old.board.setting }
-    requires sound { IsLayout app.old.board.setting.layout }
-    requires due { MaySpare app.old.side.view }
-    requires given { PicksAreGiven app.old.side }
+    requires may { MaySearch app.old }
     ensures event { MatchOption result
         (app.new ≡ record app.old { side = side_word_without app.old.side word })
         (λ buffer. (app.new ≡ record app.old { side = side_picked app.old.side buffer })
@@ -40,9 +38,7 @@ fn pick_in_word(app: &mut AppStepper, word: u32) -> Option<u32>
 fn pick_listed(app: &mut AppStepper, free_words: u32) -> Option<u32>
     requires set { app.old.side.view.setting ≡ app.old.board.setting }
     requires all { free_words ≡ free_words_of app.old.board.setting }
-    requires sound { IsLayout app.old.board.setting.layout }
-    requires due { MaySpare app.old.side.view }
-    requires given { PicksAreGiven app.old.side }
+    requires may { MaySearch app.old }
     ensures board { app.new.board ≡ app.old.board }
     ensures event { Searched app.old.side app.new.side result }
     ensures told { MatchOption result
@@ -60,13 +56,10 @@ fn pick_listed(app: &mut AppStepper, free_words: u32) -> Option<u32>
 /// An application takes a spare from the free list: it picks a buffer, and holds it. `None` says that each word was seen 0, or
 /// its lowest buffer was lost to another.
 fn spare_listed(app: &mut AppStepper, free_words: u32) -> Option<u32>
-    requires set { app.old.side.view.setting ≡ app.old.board.setting }
+    requires bare { AppIsBare app.old }
     requires all { free_words ≡ free_words_of app.old.board.setting }
-    requires sound { IsLayout app.old.board.setting.layout }
+    requires may { MaySearch app.old }
     requires here { IsHere app.old.side.view }
-    requires due { MaySpare app.old.side.view }
-    requires given { PicksAreGiven app.old.side }
-    requires bare { app.old.side.inside.hands ≡ [] }
     ensures board { app.new.board ≡ app.old.board }
     ensures event { MatchOption result
         (FoundNone app.old.side app.new.side)
@@ -83,15 +76,11 @@ fn spare_listed(app: &mut AppStepper, free_words: u32) -> Option<u32>
 /// An application takes a spare: a buffer from the free list, else its reserve. `None` says that no word had one, and that the
 /// reserve was seen to be held after that.
 pub(crate) fn take_spare(app: &mut AppStepper, free_words: u32, reserve: u32) -> Option<u32>
-    requires set { app.old.side.view.setting ≡ app.old.board.setting }
+    requires bare { AppIsBare app.old }
     requires all { free_words ≡ free_words_of app.old.board.setting }
-    requires own { reserve ≡ reserve_of app.old.side.view }
-    requires within { reserve < total app.old.board.setting.layout }
-    requires sound { IsLayout app.old.board.setting.layout }
+    requires reserve { IsReserve app.old reserve }
+    requires may { MaySearch app.old }
     requires here { IsHere app.old.side.view }
-    requires due { MaySpare app.old.side.view }
-    requires given { PicksAreGiven app.old.side }
-    requires bare { app.old.side.inside.hands ≡ [] }
     ensures board { app.new.board ≡ app.old.board }
     ensures event { MatchOption result
         (TookNoSpare app.old.side app.new.side)

@@ -1,8 +1,8 @@
 ghost use Rattle.std.specs.Prelude.{◌≡◌, ◌+◌, ◌<◌, ◌≤◌, [], ◌∷◌, ◌++◌, true, false, length, take, drop, MatchBool};
 ghost use Rattle.board_face.specs.{AppCalls.{TookNote}, AppEvents.{took_note, app_gist}, Texts.{IsLinearNote}, SlotSteps.{seen_with, at_slot, side_slot_loaded, side_took_note, side_took_linear}, declared.answers.Polled.TheVariants.{Empty as got_none}};
 ghost use Rattle.word_rings.specs.Slots.{note_width, note_fields};
-ghost use Rattle.ref_words.specs.{Rings.{takes_note_at, loaded_note, loaded_bytes, note_loads}};
-ghost use Rattle.word_board.specs.{Board.{side_full_taken}, Polls.{Polls}, Told.{SawNotEnded, SawNoNote}};
+ghost use Rattle.ref_words.specs.{Rings.{loaded_note, loaded_bytes, note_loads}};
+ghost use Rattle.word_board.specs.{AtHand.{TakesNoteAt}, Board.{side_full_taken}, Polls.{Polls}, Told.{SawNotEnded, SawNoNote}};
 
 use crate::kinds::{look_end, payload_words, seek_note};
 use crate::stepper::AppStepper;
@@ -18,8 +18,7 @@ const PAYLOAD_WORDS: usize = NOTE_WORDS - NOTE_FIELDS;
 
 /// An application loads the next word of its next note slot, which it saw full.
 pub(crate) fn load_slot(app: &mut AppStepper, slot: u32, at: u32) -> u64
-    requires within { slot < app.old.board.setting.places }
-    requires next { slot ≡ takes_note_at app.old.board.setting app.old.side }
+    requires slot { TakesNoteAt app.old slot }
     requires seen { app.old.side.inside.note_slot.seen ≡ true }
     requires so_far { at ≡ 1 + length app.old.side.inside.note_slot.words }
     requires more { at < note_width }
@@ -32,8 +31,7 @@ pub(crate) fn load_slot(app: &mut AppStepper, slot: u32, at: u32) -> u64
 
 /// It loads the words of the fields from the slot, which it saw full, and answers them behind the flag.
 fn load_fields(app: &mut AppStepper, slot: u32) -> [u64; 7]
-    requires within { slot < app.old.board.setting.places }
-    requires next { slot ≡ takes_note_at app.old.board.setting app.old.side }
+    requires slot { TakesNoteAt app.old slot }
     requires seen { app.old.side.inside.note_slot ≡ seen_with [] }
     ensures event { app.new ≡ record app.old {
       side = at_slot app.old.side (seen_with (drop 1 result));
@@ -49,8 +47,7 @@ fn load_fields(app: &mut AppStepper, slot: u32) -> [u64; 7]
 
 /// It loads so many words behind the fields, and answers them with zeros behind.
 fn load_payload(app: &mut AppStepper, slot: u32, many: usize) -> [u64; 32]
-    requires within { slot < app.old.board.setting.places }
-    requires next { slot ≡ takes_note_at app.old.board.setting app.old.side }
+    requires slot { TakesNoteAt app.old slot }
     requires seen { app.old.side.inside.note_slot.seen ≡ true }
     requires fields { 1 + length app.old.side.inside.note_slot.words ≡ note_fields }
     requires many { many ≤ 32 }
@@ -68,8 +65,7 @@ fn load_payload(app: &mut AppStepper, slot: u32, many: usize) -> [u64; 32]
 
 /// It frees the slot: the note that the words tell of is taken, and its piece is held.
 pub(crate) fn free_note(app: &mut AppStepper, slot: u32)
-    requires within { slot < app.old.board.setting.places }
-    requires next { slot ≡ takes_note_at app.old.board.setting app.old.side }
+    requires slot { TakesNoteAt app.old slot }
     requires seen { app.old.side.inside.note_slot.seen ≡ true }
     requires enough { note_loads (loaded_note app.old.side)
         ≤ 1 + length app.old.side.inside.note_slot.words }
@@ -88,8 +84,7 @@ pub(crate) fn free_note(app: &mut AppStepper, slot: u32)
 
 /// It frees the slot: the note that the words tell of is taken, with the bytes that travelled in it.
 pub(crate) fn free_linear(app: &mut AppStepper, slot: u32)
-    requires within { slot < app.old.board.setting.places }
-    requires next { slot ≡ takes_note_at app.old.board.setting app.old.side }
+    requires slot { TakesNoteAt app.old slot }
     requires seen { app.old.side.inside.note_slot.seen ≡ true }
     requires enough { note_loads (loaded_note app.old.side)
         ≤ 1 + length app.old.side.inside.note_slot.words }
@@ -108,8 +103,7 @@ pub(crate) fn free_linear(app: &mut AppStepper, slot: u32)
 /// An application takes the note of its next slot, which it saw full: it loads the words of the fields, of an unsplit note
 /// those of its bytes too, and frees the slot. These bytes are the first of `linear`.
 fn take_full(app: &mut AppStepper, slot: u32, linear: &mut [u8; 256]) -> Note
-    requires within { slot < app.old.board.setting.places }
-    requires next { slot ≡ takes_note_at app.old.board.setting app.old.side }
+    requires slot { TakesNoteAt app.old slot }
     requires seen { app.old.side.inside.note_slot ≡ seen_with [] }
     ensures event { app.new ≡ record app.old {
       side = side_full_taken app.old.side result linear.new;
@@ -134,8 +128,7 @@ fn take_full(app: &mut AppStepper, slot: u32, linear: &mut [u8; 256]) -> Note
 /// An application looks for the next note sent to it: whether the card has ended, and then at its next slot. Where that is full
 /// it takes the note.
 pub(crate) fn poll(app: &mut AppStepper, slot: u32, linear: &mut [u8; 256]) -> Polled
-    requires within { slot < app.old.board.setting.places }
-    requires next { slot ≡ takes_note_at app.old.board.setting app.old.side }
+    requires slot { TakesNoteAt app.old slot }
     ensures board { app.new.board ≡ app.old.board }
     ensures event { Polls app.old.side app.new.side linear.new result }
     ensures untold { result ≡ got_none → app.old.side.view.ended ≡ false }

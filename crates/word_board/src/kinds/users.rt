@@ -1,6 +1,7 @@
-ghost use Rattle.std.specs.Prelude.{◌≡◌, ◌+◌, ◌^◌, ◌<◌, [], true, false, Some};
+ghost use Rattle.std.specs.Prelude.{◌≡◌, ◌+◌, ◌^◌, ◌<◌, Some};
 ghost use Rattle.area_layout.specs.Layout.{total, judged};
 ghost use Rattle.board_face.specs.{NicCalls.{apps_of}, AppCalls.{HasHeld, HasSpare, IsFilled, CanLend}, AppEvents.{lent, lent_own}, Returns.{loans_out}, Sides.{app_at}, Steps.{side_judged, side_user_lowered, side_user_taken}, declared.views.nic.Judged.TheVariants.{Not, Owed}};
+ghost use Rattle.word_board.specs.AtHand.{ScrubsAt};
 
 use crate::stepper::{AppStepper, CardStepper};
 use crate::steps::Op;
@@ -78,11 +79,7 @@ pub(crate) fn lower_user(card: &mut CardStepper, app: u32, entry: Rqe, buffer: u
 /// An application's scrub swaps its user count for the buffer to which it came with 0. It answers how many references it took.
 /// With the last buffer the application has scrubbed.
 pub(crate) fn scrub_user(app: &mut AppStepper, buffer: u32) -> u64
-    requires within { buffer < total app.old.board.setting.layout }
-    requires next { app.old.side.inside.scrub_mark ≡ buffer }
-    requires quiet { app.old.side.view.quiet ≡ true }
-    requires lent { app.old.side.view.loans ≡ [] }
-    requires counted { app.old.side.view.scrubbed ≡ false }
+    requires at { ScrubsAt app.old buffer }
     ensures { app.new ≡ record app.old { side = side_user_taken app.old.side buffer result } }
 {
     laws::app_keeps_the_rule();

@@ -18,10 +18,10 @@ returns-in-Did g c =
     let was = c.args.own.now.forward in
     let later = c.turn.new.self in
     let keeps = keeps-delay was.work later.work was.desk later.desk was.face.side.view later.face.side.view was.carrier later.carrier turn.asks in
-    let does : ForwardTurns (forward_moment c.args.own.now) (forward_moment now) = (c.turn.result, c.requires.here, rw c.in-Did.is c.requires.here, turn.does, keeps) in
+    let does : ForwardTurns (forward_moment c.args.own.now) (forward_moment now) = (c.turn.result, c.requires.here, rw c.in-Did.is c.requires.here, turn.makes.does, keeps) in
     record {
-      goes = forwards g.T.Shelf.kept g.T.Shelf.counts c.args.own.now now c.requires.here c.requires.fits.side turn.beside turn.same does c.requires.here
-          c.in-Did.ensures.gives;
+      goes = forwards g.T.Shelf.kept g.T.Shelf.counts c.args.own.now now c.requires.here c.requires.fits.side turn.seat.board turn.seat.app does c.requires.here
+          c.in-Did.ensures.makes.gives;
       takes = (does, λ _. subst DidPoll (sym c.in-Did.is) tt);
     }
 
@@ -32,10 +32,10 @@ returns-in-Idle g c =
     let was = c.args.own.now.forward in
     let later = c.turn.new.self in
     let keeps = keeps-delay was.work later.work was.desk later.desk was.face.side.view later.face.side.view was.carrier later.carrier turn.asks in
-    let does : ForwardTurns (forward_moment c.args.own.now) (forward_moment now) = (c.turn.result, c.requires.here, rw c.in-Idle.is c.requires.here, turn.does, keeps) in
+    let does : ForwardTurns (forward_moment c.args.own.now) (forward_moment now) = (c.turn.result, c.requires.here, rw c.in-Idle.is c.requires.here, turn.makes.does, keeps) in
     record {
-      goes = forwards g.T.Shelf.kept g.T.Shelf.counts c.args.own.now now c.requires.here c.requires.fits.side turn.beside turn.same does c.requires.here
-          c.in-Idle.ensures.gives;
+      goes = forwards g.T.Shelf.kept g.T.Shelf.counts c.args.own.now now c.requires.here c.requires.fits.side turn.seat.board turn.seat.app does c.requires.here
+          c.in-Idle.ensures.makes.gives;
       takes = (does, λ is. subst DidPoll (sym c.in-Idle.is) (c.rests_on.ensures is));
     }
 
@@ -46,9 +46,9 @@ returns-in-Ended g c =
     let was = c.args.own.now.forward in
     let later = c.turn.new.self in
     let keeps = keeps-delay was.work later.work was.desk later.desk was.face.side.view later.face.side.view was.carrier later.carrier turn.asks in
-    let does : ForwardTurns (forward_moment c.args.own.now) (forward_moment now) = (c.turn.result, c.requires.here, rw c.in-Ended.is refl, turn.does, keeps) in
+    let does : ForwardTurns (forward_moment c.args.own.now) (forward_moment now) = (c.turn.result, c.requires.here, rw c.in-Ended.is refl, turn.makes.does, keeps) in
     record {
-      goes = forwards-out g.T.Shelf.kept g.T.Shelf.counts c.args.own.now now c.requires.here c.requires.fits.side turn.beside turn.same does c.in-Ended.poured refl
-          c.in-Ended.ensures.gives;
+      goes = forwards-out g.T.Shelf.kept g.T.Shelf.counts c.args.own.now now c.requires.here c.requires.fits.side turn.seat.board turn.seat.app does c.in-Ended.poured refl
+          c.in-Ended.ensures.makes.gives;
       takes = (does, λ _. subst DidPoll (sym c.in-Ended.is) tt);
     }

@@ -1,5 +1,5 @@
 -- The last lane's seat goes back, and its shelf and its worker come to the end of theirs.
-use Rattle.std.{proofs.{Common.{◌≡◌, ◌++◌, ◌∷◌, [], map, Option, Some, sym, ap, subst, arith, ◌∙◌}, lemmas.List.{append-nil, map-append}}, specs.Prelude.{true, IfSome}}
+use Rattle.std.{proofs.{Common.{rules, ◌≡◌, ◌++◌, ◌∷◌, [], map, Option, Some, sym, ap, subst, arith, ◌∙◌}, lemmas.List.{append-nil, map-append}}, specs.Prelude.{true, reverse, IfSome}}
 use Rattle.std.proofs.lemmas.List.Elements.{All-pop}
 use Rattle.word_board.specs.Board.{TheApp, TheDesk}
 use Rattle.app_lanes.{specs.Seated.{end_of, is_gone, left_end, seat_of, shelf_of}, proofs.Reversed.{given-one}}
@@ -61,3 +61,18 @@ back-requires-clause-left g c =
     ∙ popped (λ l. (seat_of l.seated).side.view.left ≡ true) c.in-Some.is
     (All-pop (λ l. (seat_of l.seated).side.view.left ≡ true) c.loop-lane.lanes.items c.pop.new.self.items c.pop.result c.pop.ensures.items
     c.loop-lane.invariant.left).1
+
+pub returns-clause-took : goal.returns-clause-took
+returns-clause-took g c =
+    let was = c.loop-lane.invariant in
+    let none : c.loop-lane.lanes.items ≡ [] = search rules in
+    let all : c.loop-lane.desk.view.apps ++ [] ≡ map (λ l. (seat_of l.seated).side) (reverse c.args.lanes.items) =
+    subst (λ ls. c.loop-lane.desk.view.apps ++ map (λ l. (seat_of l.seated).side) (reverse ls)
+    ≡ map (λ l. (seat_of l.seated).side) (reverse c.args.lanes.items)) none was.apps in
+    record {
+      board = was.board;
+      nics = was.nics;
+      apps = sym (append-nil c.loop-lane.desk.view.apps) ∙ all;
+      served = was.served;
+      known = was.known;
+    }

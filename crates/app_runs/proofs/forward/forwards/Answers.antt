@@ -30,7 +30,7 @@ back-requires-clause-desk g c = sym c.loop-turn.invariant.at
 
 pub back-requires-in-Ended-clause-desk : goal.back-requires-in-Ended-clause-desk
 back-requires-in-Ended-clause-desk g c =
-    ap (λ d. d.board) c.back.ensures.desk ∙ sym (ap (λ s. s.board) c.parts-seat.ensures.0 ∙ c.turn.ensures.beside ∙ c.loop-turn.invariant.beside)
+    ap (λ d. d.board) c.back.ensures.desk ∙ sym (ap (λ s. s.board) c.parts-seat.ensures.0 ∙ c.turn.ensures.seat.board ∙ c.loop-turn.invariant.beside)
 
 pub finish-requires-clause-desk : goal.finish-requires-clause-desk
 finish-requires-clause-desk g c =
@@ -42,7 +42,7 @@ finish-requires-clause-back g c =
     let (desk, _, _) = given g (goal.at.finish-requires-clause-back g c).After-new-work in
     let many : apps_of c.in_ok-board.board.setting ≡ 1 = ap (λ (l : Shape). l.reserves) c.in_ok-board.ensures.setting in
     let number : c.parts-seat.result.0.side.view.app ≡ 0 =
-    ap (λ s. s.side.view.app) c.parts-seat.ensures.0 ∙ c.turn.ensures.same ∙ c.loop-turn.invariant.number in
+    ap (λ s. s.side.view.app) c.parts-seat.ensures.0 ∙ c.turn.ensures.seat.app ∙ c.loop-turn.invariant.number in
     rw (c.back-in-Ended.ensures.desk, c.back.ensures.desk, c.loop-turn.invariant.desk, desk) (all-back _ _ _ _ _ many number)
 
 pub loop-turn-preserved : goal.loop-turn-preserved
@@ -54,10 +54,10 @@ loop-turn-preserved g c =
         | in-Did w ↦ rw w.card-is c.loop-turn.invariant.at
         | in-Idle w ↦ rw w.card-is (w.feed.ensures ∙ c.loop-turn.invariant.at)
       ];
-      beside = c.turn.ensures.beside ∙ c.loop-turn.invariant.beside;
-      number = c.turn.ensures.same ∙ c.loop-turn.invariant.number;
+      beside = c.turn.ensures.seat.board ∙ c.loop-turn.invariant.beside;
+      number = c.turn.ensures.seat.app ∙ c.loop-turn.invariant.number;
       stands = elim c.match-turn.branch [
-        | in-Did w ↦ (first, losses, w.in-Did.ensures.gives first losses stands)
-        | in-Idle w ↦ (first, losses, w.in-Idle.ensures.gives first losses stands)
+        | in-Did w ↦ (first, losses, w.in-Did.ensures.makes.gives first losses stands)
+        | in-Idle w ↦ (first, losses, w.in-Idle.ensures.makes.gives first losses stands)
       ];
     }

@@ -6,15 +6,15 @@ use Rattle.app_worker.{specs.StateOf.{state_of}, proofs.Emptied.{gone-all, unrea
 use Rattle.app_worker.proofs.letting.let_go.Goals as goal
 
 pub abandon_all-requires-clause-out : goal.abandon_all-requires-clause-out
-abandon_all-requires-clause-out g c = unread-out (state_of c.args.st.now) (g.F.AppFace.seen c.args.face.now) c.requires.torn
+abandon_all-requires-clause-out g c = unread-out (state_of c.args.st.now) (g.F.AppFace.seen c.args.face.now) c.requires.may.torn
 
 pub abandon_due-requires-clause-out : goal.abandon_due-requires-clause-out
 abandon_due-requires-clause-out g c = due-still-out (state_of c.args.st.now) (g.F.AppFace.seen c.args.face.now)
-    (g.F.AppFace.seen c.abandon_all.new.face) c.requires.torn c.abandon_all.ensures.abandons
+    (g.F.AppFace.seen c.abandon_all.new.face) c.requires.may.torn c.abandon_all.ensures.abandons
 
 pub abandon_leaked-requires-clause-out : goal.abandon_leaked-requires-clause-out
 abandon_leaked-requires-clause-out g c = leaked-still-out (state_of c.args.st.now) (g.F.AppFace.seen c.args.face.now)
-    (g.F.AppFace.seen c.abandon_all.new.face) (g.F.AppFace.seen c.abandon_due.new.face) c.requires.torn c.abandon_all.ensures.abandons
+    (g.F.AppFace.seen c.abandon_all.new.face) (g.F.AppFace.seen c.abandon_due.new.face) c.requires.may.torn c.abandon_all.ensures.abandons
     c.abandon_due.ensures.abandons
 
 pub returns-clause-done : goal.returns-clause-done
@@ -26,6 +26,6 @@ returns-clause-done g c =
     (g.F.AppFace.seen c.args.face.now)
     (g.F.AppFace.seen c.abandon_all.new.face) (g.F.AppFace.seen c.abandon_due.new.face)
     (g.F.AppFace.seen c.abandon_leaked.new.face) (g.F.AppFace.seen c.release_all.new.face)
-    c.requires.reaped c.requires.not_yet c.requires.pushed c.requires.torn c.requires.common c.abandon_all.ensures.abandons c.abandon_due.ensures.abandons
+    c.requires.may.reaped c.requires.may.not_yet c.requires.may.pushed c.requires.may.torn c.requires.may.common c.abandon_all.ensures.abandons c.abandon_due.ensures.abandons
     c.abandon_leaked.ensures.abandons
     c.release_all.ensures.view c.release_all.ensures.facts c.release_all.ensures.short)

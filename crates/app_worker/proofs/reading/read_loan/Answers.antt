@@ -13,24 +13,27 @@ read-requires-clause-out g c =
     let v : AppView = g.F.AppFace.seen c.loop-done.face in
     let taken : List TakenNote = (g.F.AppFace.seen c.args.face.now).taken in
     in-contains (λ l. l.place) (lent_piece taken l) v.loans
-    (still-out (g.F.AppFace.seen c.args.face.now) v (lent_piece taken l) c.loop-done.invariant.4 c.requires.out)
+    (still-out (g.F.AppFace.seen c.args.face.now) v (lent_piece taken l) c.loop-done.invariant.4 c.requires.may.out)
 
-pub returns-in_err-append-clause-only : goal.returns-in_err-append-clause-only
-returns-in_err-append-clause-only g c =
+pub returns-in_err-append-clause-reads : goal.returns-in_err-append-clause-reads
+returns-in_err-append-clause-reads g c =
     let v : AppView = g.F.AppFace.seen c.loop-done.face in
-    rw c.read.ensures.view (only-then (g.F.AppFace.seen c.args.face.now) v
-    (has_read v c.args.lending.now.loan c.loop-done.done c.read.new.into) c.loop-done.invariant.4
-    (only-read v c.args.lending.now c.loop-done.done c.read.new.into))
+    record {
+      only = rw c.read.ensures.view (only-then (g.F.AppFace.seen c.args.face.now) v
+          (has_read v c.args.lending.now.loan c.loop-done.done c.read.new.into) c.loop-done.invariant.4
+          (only-read v c.args.lending.now c.loop-done.done c.read.new.into));
+      through = search rules;
+    }
 
-pub returns-in_err-append-clause-gained : goal.returns-in_err-append-clause-gained
-returns-in_err-append-clause-gained g c =
+pub returns-in_err-append-clause-kept : goal.returns-in_err-append-clause-kept
+returns-in_err-append-clause-kept g c =
     let l : Lending = c.args.lending.now in
     let v0 : AppView = g.F.AppFace.seen c.args.face.now in
     let v : AppView = g.F.AppFace.seen c.loop-done.face in
     let inv = c.loop-done.invariant in
-    let lie : LieApart v = still-apart v0 v inv.4 c.requires.apart in
+    let lie : LieApart v = still-apart v0 v inv.4 c.requires.may.apart in
     let taken : List TakenNote = v0.taken in
-    let out : IsIn (lent_piece taken l) v.loans = still-out v0 v (lent_piece taken l) inv.4 c.requires.out in
+    let out : IsIn (lent_piece taken l) v.loans = still-out v0 v (lent_piece taken l) inv.4 c.requires.may.out in
     let first = g.T.Shelf.kept c.args.shelf.now c.args.flow in
     let before = g.T.Shelf.kept c.loop-done.shelf c.args.flow in
     let after = g.T.Shelf.kept c.append.new.self c.args.flow in
@@ -39,8 +42,12 @@ returns-in_err-append-clause-gained g c =
     let fits : c.loop-done.done + length c.read.new.into ≤ c.args.most = omega (arith, size, n, inv.0, inv.1) in
     let added : (n : ℕ) × Appends before after (take n c.read.new.into) = c.in_err-append.ensures.bytes in
     let done : c.loop-done.bytes - c.args.bytes.now ≡ c.loop-done.done = omega (arith, inv.2) in
-    rw (c.read.ensures.view, done) (some-more taken first before after v lie l c.loop-done.done c.args.most added.0 c.read.new.into c.read.new.into out
-    c.requires.note c.read.ensures.copied c.requires.part fits (omega (arith, size, n)) refl inv.5 added.1)
+    record {
+      gained = rw (c.read.ensures.view, done) (some-more taken first before after v lie l c.loop-done.done c.args.most added.0 c.read.new.into c.read.new.into out
+          c.requires.may.note c.read.ensures.copied c.requires.part fits (omega (arith, size, n)) refl inv.5 added.1);
+      exact = search rules;
+      others = λ other away. Keeps-trans _ _ _ (inv.6 other away) (c.append.ensures.others other away);
+    }
 
 pub loop-done-preserved : goal.loop-done-preserved
 loop-done-preserved g c =
@@ -48,9 +55,9 @@ loop-done-preserved g c =
     let v0 : AppView = g.F.AppFace.seen c.args.face.now in
     let v : AppView = g.F.AppFace.seen c.loop-done.face in
     let inv = c.loop-done.invariant in
-    let lie : LieApart v = still-apart v0 v inv.4 c.requires.apart in
+    let lie : LieApart v = still-apart v0 v inv.4 c.requires.may.apart in
     let taken : List TakenNote = v0.taken in
-    let out : IsIn (lent_piece taken l) v.loans = still-out v0 v (lent_piece taken l) inv.4 c.requires.out in
+    let out : IsIn (lent_piece taken l) v.loans = still-out v0 v (lent_piece taken l) inv.4 c.requires.may.out in
     let first = g.T.Shelf.kept c.args.shelf.now c.args.flow in
     let before = g.T.Shelf.kept c.loop-done.shelf c.args.flow in
     let after = g.T.Shelf.kept c.append.new.self c.args.flow in
@@ -66,7 +73,7 @@ loop-done-preserved g c =
       omega (arith, length-append c.read.new.into (drop c.min-n.result c.loop-done.chunk), length-drop c.min-n.result c.loop-done.chunk, size, n, inv.3),
       only-then v0 v w inv.4 (only-read v l c.loop-done.done c.read.new.into),
       subst (λ k. Gained first after (IsReadTo taken w.reads l (c.loop-done.done + k))) size
-          (one-more taken first before after v lie l c.loop-done.done c.read.new.into c.read.new.into out c.requires.note c.read.ensures.copied
+          (one-more taken first before after v lie l c.loop-done.done c.read.new.into c.read.new.into out c.requires.may.note c.read.ensures.copied
           (omega (arith, size, n, inv.0, inv.1)) refl inv.5 added),
       λ other away. Keeps-trans _ _ _ (inv.6 other away) (c.append.ensures.others other away),
       search rules,
@@ -76,5 +83,8 @@ loop-done-preserved g c =
       omega (arith, c.in_ok-append.ensures.counted, inv.10, size),
     )
 
-pub returns-clause-through : goal.returns-clause-through
-returns-clause-through g c = λ byte below. c.loop-done.invariant.9 byte (omega (arith, below, c.loop-done.invariant.0))
+pub returns-clause-reads : goal.returns-clause-reads
+returns-clause-reads g c = record {
+  only = c.loop-done.invariant.4;
+  through = λ byte below. c.loop-done.invariant.9 byte (omega (arith, below, c.loop-done.invariant.0));
+}

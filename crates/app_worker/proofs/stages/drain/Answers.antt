@@ -44,11 +44,35 @@ read_one-requires-clause-none g c =
       reaped = inv.0.reaped;
     }
 
-pub let_go-requires-clause-pushed : goal.let_go-requires-clause-pushed
-let_go-requires-clause-pushed g c = ap (λ (s : State). s.stray.left) c.in-Failed.ensures.reads.same ∙ c.loop-face.invariant.10
+pub let_go-requires : goal.let_go-requires
+let_go-requires g c =
+    let inv = c.loop-face.invariant in
+    let reads = c.in-Failed.ensures.reads in
+    record {
+      may = record {
+        here = reads.left ∙ inv.0.left ∙ c.requires.none.works.here;
+        torn = reads.torn;
+        common = reads.common;
+        reaped = ap (λ (s : State). s.posted.entries) reads.same ∙ inv.0.reaped;
+        not_yet = ap (λ (s : State). s.bare) reads.same ∙ inv.0.working.live;
+        pushed = ap (λ (s : State). s.stray.left) reads.same ∙ inv.10;
+      };
+    }
 
-pub let_go-requires-in-Quit-clause-pushed : goal.let_go-requires-in-Quit-clause-pushed
-let_go-requires-in-Quit-clause-pushed g c = ap (λ (s : State). s.stray.left) c.in-Quit.ensures.reads.same ∙ c.loop-face.invariant.10
+pub let_go-requires-in-Quit : goal.let_go-requires-in-Quit
+let_go-requires-in-Quit g c =
+    let inv = c.loop-face.invariant in
+    let reads = c.in-Quit.ensures.reads in
+    record {
+      may = record {
+        here = reads.left ∙ inv.0.left ∙ c.requires.none.works.here;
+        torn = reads.torn;
+        common = reads.common;
+        reaped = ap (λ (s : State). s.posted.entries) reads.same ∙ inv.0.reaped;
+        not_yet = ap (λ (s : State). s.bare) reads.same ∙ inv.0.working.live;
+        pushed = ap (λ (s : State). s.stray.left) reads.same ∙ inv.10;
+      };
+    }
 
 -- a loan was read
 read-one : (g : _) (c : After-give_back g)

@@ -22,6 +22,5 @@ returns-in_default g c = record {
       c.loop-did.invariant.0 c.in_default.not-Did c.deliver_one.ensures.works.working c.deliver_one.ensures.works.common c.deliver_one.ensures.works.goes
       c.deliver_one.ensures.lends;
   told = c.deliver_one.ensures.told;
-  no_spare = c.deliver_one.ensures.no_spare;
   beside = c.deliver_one.ensures.beside ∙ c.loop-did.invariant.1;
 }

@@ -6,5 +6,5 @@ use Rattle.app_worker.proofs.stages.scrub.Goals as goal
 pub returns-then-scrubbed-clause-scrubs : goal.returns-then-scrubbed-clause-scrubs
 returns-then-scrubbed-clause-scrubs g c =
     let v : AppView = g.F.AppFace.seen c.args.face.now in
-    let is : v.scrubbed ≡ true = c.requires.known ∙ c.if-scrubbed.true in
+    let is : v.scrubbed ≡ true = c.requires.may.known ∙ c.if-scrubbed.true in
     (c.if-scrubbed.true, (v.quiet, ap (λ b. record v { scrubbed = b }) is))

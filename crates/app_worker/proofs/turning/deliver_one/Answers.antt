@@ -22,19 +22,28 @@ pub deliver-delivery-requires-clause-out : goal.deliver-delivery-requires-clause
 deliver-delivery-requires-clause-out g c =
     flow-out _ _ _ _ _ _ _ (active g (goal.at.deliver-delivery-requires-clause-out g c).After-index_mut-own).1
 
-pub deliver-delivery-requires-clause-notes : goal.deliver-delivery-requires-clause-notes
-deliver-delivery-requires-clause-notes g c =
-    (own-stands _ _ _ _ _ _ _ (active g (goal.at.deliver-delivery-requires-clause-notes g c).After-index_mut-own).1).notes
+pub deliver-delivery-requires-clause-can : goal.deliver-delivery-requires-clause-can
+deliver-delivery-requires-clause-can g c = record {
+  holds = record { here = c.requires.works.here; apart = c.requires.works.working.stands.tokens.apart };
+  counted = c.requires.works.working.stands.counted;
+  owns = c.requires.works.common.owns;
+}
 
-pub deliver-delivery-requires-clause-sized : goal.deliver-delivery-requires-clause-sized
-deliver-delivery-requires-clause-sized g c =
-    (own-stands _ _ _ _ _ _ _ (active g (goal.at.deliver-delivery-requires-clause-sized g c).After-index_mut-own).1).holds.sized
-
-pub deliver-delivery-requires-clause-spare : goal.deliver-delivery-requires-clause-spare
-deliver-delivery-requires-clause-spare g c =
+pub deliver-delivery-requires-clause-backed : goal.deliver-delivery-requires-clause-backed
+deliver-delivery-requires-clause-backed g c =
     let own : FlowQueue = c.index_mut-own.result.now in
-    let (at, _) = active g (goal.at.deliver-delivery-requires-clause-spare g c).After-index_mut-own in
-    omega (arith, c.requires.works.common.spares, ap (total (λ f. short_bytes f.queue)) at.is, total-append (λ f. short_bytes f.queue) at.before (own ∷ at.after))
+    let (at, stands) = active g (goal.at.deliver-delivery-requires-clause-backed g c).After-index_mut-own in
+    let flow = own-stands _ _ _ _ _ _ _ stands in
+    record {
+      notes = flow.notes;
+      sized = flow.holds.sized;
+      spare = omega (
+        arith,
+        c.requires.works.common.spares,
+        ap (total (λ f. short_bytes f.queue)) at.is,
+        total-append (λ f. short_bytes f.queue) at.before (own ∷ at.after),
+      );
+    }
 
 pub returns-then-st-len-clause-works : goal.returns-then-st-len-clause-works
 returns-then-st-len-clause-works g c = record {
@@ -67,7 +76,6 @@ returns-in-Did g c =
       };
       lends = rw c.in-Did.is lent.one;
       told = c.deliver-delivery.ensures.told;
-      no_spare = c.deliver-delivery.ensures.no_spare;
       beside = c.deliver-delivery.ensures.beside;
     }
 

@@ -11,13 +11,21 @@ use Rattle.app_worker.proofs.turning.read_one.Goals.{After-read_loan-result}
 use Rattle.zr_kinds.specs.declared.behaviour.Stopped.TheVariants as stop
 use Rattle.app_worker.proofs.turning.read_one.Goals as goal
 
-pub read_loan-result-requires-clause-out : goal.read_loan-result-requires-clause-out
-read_loan-result-requires-clause-out g c =
+pub read_loan-result-requires-clause-may : goal.read_loan-result-requires-clause-may
+read_loan-result-requires-clause-may g c =
     let st : State = state_of c.args.st.now in
     let p : Completion × Lending = (c.in-Some.completion, c.in-Some.lending) in
+    let rest : List (Completion × Lending) = drop 1 st.unread ++ st.posted.entries in
     let unread : st.unread ≡ p ∷ drop 1 st.unread = front-of st.unread p (search rules) in
-    oldest-out st.notes st.flows p (drop 1 st.unread ++ st.posted.entries) (read_of st) (g.F.AppFace.seen c.args.face.now)
-    (subst (λ es. Stands st.notes st.flows (es ++ st.posted.entries) (read_of st) (g.F.AppFace.seen c.args.face.now)) unread c.requires.none.works.working.stands)
+    let stands : Stands st.notes st.flows (p ∷ rest) (read_of st) (g.F.AppFace.seen c.args.face.now) =
+    subst (λ es. Stands st.notes st.flows (es ++ st.posted.entries) (read_of st) (g.F.AppFace.seen c.args.face.now)) unread
+    c.requires.none.works.working.stands in
+    record {
+      here = c.requires.none.works.here;
+      apart = stands.tokens.apart;
+      out = oldest-out st.notes st.flows p rest (read_of st) (g.F.AppFace.seen c.args.face.now) stands;
+      note = stands.lent.0;
+    }
 
 -- the flow of the oldest loan is found, and the others stay unread
 record IsFound (st : State) (p : Completion × Lending) (own : FlowQueue) (i : ℕ) (rest : Buffer (Completion × Lending)) (flush : Bool) (most : ℕ)
@@ -61,18 +69,18 @@ returns-in-Err-clause-reads g c =
     let most : ℕ = c.wanted-most.result in
     let found = found-oldest g (goal.at.returns-in-Err-clause-reads g c).After-read_loan-result in
     let count : c.saturating_add-st.result ≡ min (st.written + (c.read_loan-result.new.bytes - own.bytes)) (2 ^ 64 - 1) = omega arith in
-    let counted = c.read_loan-result.ensures.counted in
+    let counted = c.read_loan-result.ensures.counted.within in
     let short : c.read_loan-result.new.bytes < own.bytes + most = search rules in
     let quits : Quits st.how.quit c.saturating_add-st.result stop.No = quits-short st.how.quit st.written (c.read_loan-result.new.bytes - own.bytes)
     most c.saturating_add-st.result c.in-Some.lending.loan.len found.is (omega (arith, short, counted.0)) count found.going in
     rw (found.items, found.capacity) (oldest-failed st c.in-Some-find.i own p (drop 1 st.unread) (g.F.AppFace.seen c.args.face.now)
     (g.F.AppFace.seen c.read_loan-result.new.face) found.unread c.requires.none.due c.requires.none.pushed found.within
-    c.index_mut-own.ensures.value found.number c.read_loan-result.ensures.only c.requires.none.works.working c.requires.none.works.common c.requires.none.reaped
+    c.index_mut-own.ensures.value found.number c.read_loan-result.ensures.reads.only c.requires.none.works.working c.requires.none.works.common c.requires.none.reaped
     c.still_flushes-st.result found.flush_on found.flush_off c.requires.more
     c.read_loan-result.new.bytes c.saturating_add-st.result most (g.T.Shelf.counts c.args.shelf.now).faults (g.T.Shelf.counts c.read_loan-result.new.shelf).faults
     (g.T.Shelf.kept c.args.shelf.now) (g.T.Shelf.kept c.read_loan-result.new.shelf) counted.0 found.part counted.1 count
     (subst (Quits st.how.quit c.saturating_add-st.result) (sym c.requires.none.works.working.going) quits)
-    (search rules) c.read_loan-result.ensures.gained c.read_loan-result.ensures.others)
+    (search rules) c.read_loan-result.ensures.kept.gained c.read_loan-result.ensures.kept.others)
 
 pub returns-then-eq-clause-reads : goal.returns-then-eq-clause-reads
 returns-then-eq-clause-reads g c =
@@ -89,11 +97,11 @@ returns-then-eq-clause-reads g c =
     read) = search rules in
     rw (found.items, found.capacity) (oldest-quit st c.in-Some-find.i own p (drop 1 st.unread) (g.F.AppFace.seen c.args.face.now)
     (g.F.AppFace.seen c.read_loan-result.new.face) found.unread c.requires.none.due c.requires.none.pushed found.within
-    c.index_mut-own.ensures.value found.number c.read_loan-result.ensures.only c.requires.none.works.working c.requires.none.works.common c.requires.none.reaped
+    c.index_mut-own.ensures.value found.number c.read_loan-result.ensures.reads.only c.requires.none.works.working c.requires.none.works.common c.requires.none.reaped
     c.still_flushes-st.result found.flush_on found.flush_off c.requires.more
     c.read_loan-result.new.bytes c.saturating_add-st.result most (g.T.Shelf.kept c.args.shelf.now)
     (g.T.Shelf.kept c.read_loan-result.new.shelf) found.part bytes count (quits-now st.how.quit st.written c.saturating_add-st.result all) exact
-    c.read_loan-result.ensures.others)
+    c.read_loan-result.ensures.kept.others)
 
 pub returns-clause-reads : goal.returns-clause-reads
 returns-clause-reads g c =
@@ -114,7 +122,7 @@ returns-clause-reads g c =
     read) = search rules in
     rw (found.items, found.capacity) (oldest-read st c.in-Some-find.i own p (drop 1 st.unread) (g.F.AppFace.seen c.args.face.now)
     (g.F.AppFace.seen c.read_loan-result.new.face) found.unread c.requires.none.due c.requires.none.pushed found.within
-    c.index_mut-own.ensures.value found.number c.read_loan-result.ensures.only c.requires.none.works.working c.requires.none.works.common c.requires.none.reaped
+    c.index_mut-own.ensures.value found.number c.read_loan-result.ensures.reads.only c.requires.none.works.working c.requires.none.works.common c.requires.none.reaped
     c.still_flushes-st.result found.flush_on found.flush_off c.requires.more
     c.read_loan-result.new.bytes c.saturating_add-st.result (g.T.Shelf.kept c.args.shelf.now)
     (g.T.Shelf.kept c.read_loan-result.new.shelf)
@@ -126,4 +134,4 @@ returns-clause-reads g c =
     (subst (λ (n : ℕ). Gained (g.T.Shelf.kept c.args.shelf.now own.number) (g.T.Shelf.kept c.read_loan-result.new.shelf own.number)
     (λ (read : List ℕ). IsReadOf (g.F.AppFace.seen c.args.face.now).taken (g.F.AppFace.seen c.read_loan-result.new.face).reads c.in-Some.lending n n read))
     whole exact)
-    c.read_loan-result.ensures.others)
+    c.read_loan-result.ensures.kept.others)

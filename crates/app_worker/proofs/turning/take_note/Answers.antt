@@ -1,4 +1,4 @@
-use Rattle.std.proofs.Common.{rules, ◌≡◌, ◌+◌, ◌++◌}
+use Rattle.std.proofs.Common.{rules, ◌≡◌, ◌+◌, ◌++◌, false}
 use Rattle.board_face.specs.{AppCalls.{TookNote}, declared.views.app.AppView.{AppView}}
 use Rattle.flow_queues.{specs.{Core.{held_piece}, Pieces.{whole_piece}}, proofs.{Tokens.{in-contains}, Took.{is-took}}}
 use Rattle.app_worker.{specs.{State.{read_of}, StateOf.{state_of}}, proofs.NoteTaken.{released-taken, piece-lost, piece-entered}}
@@ -23,15 +23,26 @@ returns-in_default-clause-takes g c =
     (g.F.AppFace.seen c.poll.new.self) c.in-Note.note c.in-Note.held c.in-Note.ensures.view c.requires.works.working c.requires.works.common
     (g.F.AppFace.seen c.release.new.self) c.release.ensures.view
 
-pub take_piece-taken-requires-clause-apart : goal.take_piece-taken-requires-clause-apart
-take_piece-taken-requires-clause-apart g c =
-    (is-took (g.F.AppFace.seen c.args.face.now) (g.F.AppFace.seen c.poll.new.self) c.in-Note.note c.args.st.now.notes c.in-Note.held
-    c.requires.works.working.stands.tokens.apart c.requires.works.working.stands.notes c.in-Note.ensures.view).apart
+pub take_piece-taken-requires-clause-holds : goal.take_piece-taken-requires-clause-holds
+take_piece-taken-requires-clause-holds g c =
+    let here : (g.F.AppFace.seen c.poll.new.self).left ≡ false = search rules in
+    record {
+      here = here;
+      apart = (is-took (g.F.AppFace.seen c.args.face.now) (g.F.AppFace.seen c.poll.new.self) c.in-Note.note c.args.st.now.notes c.in-Note.held
+          c.requires.works.working.stands.tokens.apart c.requires.works.working.stands.notes c.in-Note.ensures.view).apart;
+    }
 
-pub take_piece-taken-requires-clause-out : goal.take_piece-taken-requires-clause-out
-take_piece-taken-requires-clause-out g c =
-    (is-took (g.F.AppFace.seen c.args.face.now) (g.F.AppFace.seen c.poll.new.self) c.in-Note.note c.args.st.now.notes c.in-Note.held
-    c.requires.works.working.stands.tokens.apart c.requires.works.working.stands.notes c.in-Note.ensures.view).out
+pub take_piece-taken-requires-clause-came : goal.take_piece-taken-requires-clause-came
+take_piece-taken-requires-clause-came g c =
+    let old : AppView = g.F.AppFace.seen c.args.face.now in
+    let mid : AppView = g.F.AppFace.seen c.poll.new.self in
+    let took : TookNote old mid c.in-Note.note c.in-Note.held = c.in-Note.ensures.view in
+    record {
+      fields = took.fields;
+      place = took.place;
+      out = (is-took old mid c.in-Note.note c.args.st.now.notes c.in-Note.held c.requires.works.working.stands.tokens.apart
+          c.requires.works.working.stands.notes took).out;
+    }
 
 pub returns-in_default-taken-clause-takes : goal.returns-in_default-taken-clause-takes
 returns-in_default-taken-clause-takes g c =

@@ -34,20 +34,10 @@ returns-then-st-2-clause-turns g c = λ kept faults.
     let passed = c.in-Some.ensures.passes (state_of c.args.st.now) kept faults c.requires.bare c.requires.is_bare c.requires.common c.if-st.false in
     then-nothing _ _ _ _ _ _ c.requires.is_bare c.requires.reaped passed (c.requires.common.scrubbed ∙ c.if-st-2.true)
 
-pub scrub-did-requires-clause-here : goal.scrub-did-requires-clause-here
-scrub-did-requires-clause-here g c =
+pub scrub-did-requires : goal.scrub-did-requires
+scrub-did-requires g c =
     let passed = c.in-Some.ensures.passes (state_of c.args.st.now) (λ _. None) 0 c.requires.bare c.requires.is_bare c.requires.common c.if-st.false in
-    passed.here ∙ c.requires.here
-
-pub scrub-did-requires-clause-loans : goal.scrub-did-requires-clause-loans
-scrub-did-requires-clause-loans g c =
-    let passed = c.in-Some.ensures.passes (state_of c.args.st.now) (λ _. None) 0 c.requires.bare c.requires.is_bare c.requires.common c.if-st.false in
-    passed.bare.loans
-
-pub scrub-did-requires-clause-known : goal.scrub-did-requires-clause-known
-scrub-did-requires-clause-known g c =
-    let passed = c.in-Some.ensures.passes (state_of c.args.st.now) (λ _. None) 0 c.requires.bare c.requires.is_bare c.requires.common c.if-st.false in
-    passed.common.scrubbed
+    record { may = record { here = passed.here ∙ c.requires.here; loans = passed.bare.loans; known = passed.common.scrubbed } }
 
 pub returns-clause-turns : goal.returns-clause-turns
 returns-clause-turns g c = λ kept faults.

@@ -1,4 +1,4 @@
-use Rattle.std.proofs.Common.{◌≡◌, ◌≢◌, ◌≤◌, false, None, length, arith, inl, inr}
+use Rattle.std.proofs.Common.{◌≡◌, ◌≢◌, ◌≤◌, ◌∙◌, false, None, length, arith, inl, inr}
 use Rattle.app_worker.{specs.StateOf.{state_of}, proofs.{NoteTaken.{torn-of}, LentAll.{drained}, Closing.{out-of, turns-finished, turns-not-quiet}}}
 use Rattle.app_worker.{proofs.TurnLemmas.{turns-did}, specs.{Stages.{Through}, declared.stages.Drained.TheVariants.{InUse, Quit, Failed}}}
 use Rattle.app_worker.proofs.working.close.Goals.{After-drain}
@@ -14,13 +14,19 @@ all-read g c free quit fail = drained 0 (state_of c.args.st.now) (state_of c.dra
     (g.T.Shelf.counts c.drain.new.shelf).faults c.drain.result free quit fail c.requires.none.due c.requires.none.pushed c.requires.none.works.working c.requires.none.works.common
     c.requires.none.reaped c.drain.ensures.reads
 
-pub let_go-requires-clause-torn : goal.let_go-requires-clause-torn
-let_go-requires-clause-torn g c = torn-of _ _ (all-read g (goal.at.let_go-requires-clause-torn g c).After-drain c.in_default.not-InUse
-    c.in_default.not-Quit c.in_default.not-Failed).0.working
-
-pub let_go-requires-clause-pushed : goal.let_go-requires-clause-pushed
-let_go-requires-clause-pushed g c = (all-read g (goal.at.let_go-requires-clause-pushed g c).After-drain c.in_default.not-InUse
-    c.in_default.not-Quit c.in_default.not-Failed).4
+pub let_go-requires : goal.let_go-requires
+let_go-requires g c =
+    let all = all-read g (goal.at.let_go-requires g c).After-drain c.in_default.not-InUse c.in_default.not-Quit c.in_default.not-Failed in
+    record {
+      may = record {
+        here = all.0.left ∙ c.requires.none.works.here;
+        torn = torn-of _ _ all.0.working;
+        common = all.0.common;
+        reaped = all.0.reaped;
+        not_yet = all.0.working.live;
+        pushed = all.4;
+      };
+    }
 
 pub returns-then-leave-clause-turns : goal.returns-then-leave-clause-turns
 returns-then-leave-clause-turns g c =

@@ -6,6 +6,21 @@ use Rattle.app_worker.{specs.declared.turn.Why.TheVariants.{NoNote}, proofs.{Len
 use Rattle.zr_io.specs.Moved.{raised_by}
 use Rattle.app_worker.proofs.working.look.Goals as goal
 
+pub let_go-requires : goal.let_go-requires
+let_go-requires g c =
+    let takes = c.in-Memory.ensures.takes in
+    let none = c.requires.may.none in
+    record {
+      may = record {
+        here = takes.left ∙ none.works.here;
+        torn = takes.torn;
+        common = takes.common;
+        reaped = ap (λ (s : State). s.posted.entries) takes.same ∙ none.reaped;
+        not_yet = ap (λ (s : State). s.bare) takes.same ∙ none.works.working.live;
+        pushed = ap (λ (s : State). s.stray.left) takes.same ∙ none.pushed;
+      };
+    }
+
 pub close-requires-clause-none : goal.close-requires-clause-none
 close-requires-clause-none g c =
     let a : State = state_of c.args.st.now in

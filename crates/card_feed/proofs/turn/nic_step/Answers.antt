@@ -74,15 +74,15 @@ returns-clause-answer g c =
           elim c.if-not-nothing.branch [
             | then-not-nothing v ↦ absurd (let so : c.match-matches.matches ≡ true = w.if-nothing.true in let no = v.if-not-nothing.true in cc)
             | else-not-nothing v ↦ rw (v.result-is, w.plays-is, view, w.feed-inside-is, w.face-is, same) (by-answer w.keep_up-plays.result _ _
-                (λ did. let rises = w.keep_up-plays.ensures.rises did in omega (arith, count, none, rises))
+                (λ did. let rises = rw did at w.keep_up-plays.ensures.answer in omega (arith, count, none, rises))
                 (λ idle. looked-as _ _ g.F.NicFace.tells _ _ _ _ _ (λ none_pending. inr (awaiting, none_pending))
-                (rw same at (w.keep_up-plays.ensures.idle idle c.receive.new.self inside.closed))))
+                (rw same at ((rw idle at w.keep_up-plays.ensures.answer) c.receive.new.self inside.closed))))
           ]
       | else-nothing w ↦
           let later = w.play-plays.ensures.later in
           let kept = w.play-plays.ensures.same in
-          let records = ap (λ (t : Tally). t.records) kept.1 in
-          let over = ap (λ s. one_if (is_over s)) kept.0 in
+          let records = ap (λ (t : Tally). t.records) kept.tally in
+          let over = ap (λ s. one_if (is_over s)) kept.stage_is in
           elim c.if-not-nothing.branch [
             | then-not-nothing v ↦
                 let no : c.match-matches.matches ≡ false = (let so = v.if-not-nothing.true in cc) in
@@ -98,9 +98,9 @@ returns-clause-answer g c =
                   | else-nothing-via-else-nothing u ↦ true≢false (sym so ∙ u.if-nothing.false)
                 ] in
                 rw (v.result-is, w.plays-is, view, w.feed-inside-is, w.face-is) (by-answer w.play-plays.result _ _
-                (λ did. let rises = w.play-plays.ensures.rises did (λ some. (rw view at c.requires.ready.waits)
+                (λ did. let rises = (rw did at w.play-plays.ensures.answer) (λ some. (rw view at c.requires.ready.waits)
                 (λ none_there. some (ap (λ (i : Intake). i.hand) same ∙ no_hand inside.intake.hand inside.intake.bytes.items none_there))) in omega (arith, count, none, rises, records, over))
                 (λ idle. ⊎_elim (λ rests. absurd (not_readable (record { none = rests.0; goes = rests.1 })))
-                (λ looked. looked-as _ _ g.F.NicFace.tells _ _ _ _ _ (λ closed. inl closed) (rw same at looked)) (w.play-plays.ensures.idle idle)))
+                (λ looked. looked-as _ _ g.F.NicFace.tells _ _ _ _ _ (λ closed. inl closed) (rw same at looked)) (rw idle at w.play-plays.ensures.answer)))
           ]
     ]

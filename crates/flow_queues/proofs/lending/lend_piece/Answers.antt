@@ -26,5 +26,5 @@ returns-clause-lent g c =
     let of : IsInArea v.taken p = (each-first (IsOfNote v.taken) c.args.own.now.queue c.pop_front.new.self (InArea p) c.in-Some.field-0-1 loses
     c.requires.notes).0 in
     let out : IsIn (held_piece p) v.helds = first-out v c.args.own.now.queue c.pop_front.new.self p c.in-Some.field-0-1 loses c.requires.out in
-    piece-lent v w c.args.own.now c.pop_front.new.self c.in-Some.field-0-1 (search rules) c.requires.next.some c.requires.settled c.requires.apart c.lend-loan.result p loses
+    piece-lent v w c.args.own.now c.pop_front.new.self c.in-Some.field-0-1 (search rules) c.requires.next.some c.requires.settled c.requires.holds.apart c.lend-loan.result p loses
     of out c.lend-loan.ensures.view c.lend-loan.ensures.place

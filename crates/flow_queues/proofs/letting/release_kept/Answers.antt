@@ -6,7 +6,7 @@ use Rattle.flow_queues.proofs.Releasing.{released-one}
 use Rattle.flow_queues.proofs.letting.release_kept.Goals as goal
 
 pub loop-waiting-init : goal.loop-waiting-init
-loop-waiting-init g c = (record { view = refl; apart = c.requires.apart; moved = λ f. refl }, refl, refl)
+loop-waiting-init g c = (record { view = refl; apart = c.requires.holds.apart; moved = λ f. refl }, refl, refl)
 
 -- the first piece is out
 out-too : (u v : AppView) (was now : Queue Waiting) → ((f : HeldPiece → ℕ) → over_kept f was ≤ total f u.helds)

@@ -8,4 +8,4 @@ release-requires-clause-out g c = in-contains (λ h. h.place) (held_piece c.in-S
 pub returns-in-Some-clause-only : goal.returns-in-Some-clause-only
 returns-in-Some-clause-only g c =
     let is : c.args.piece ≡ Some c.in-Some.piece = search rules in
-    rw (c.release.ensures.view, is) (given-up (g.F.AppFace.seen c.args.face.now) c.requires.apart c.in-Some.piece (search rules))
+    rw (c.release.ensures.view, is) (given-up (g.F.AppFace.seen c.args.face.now) c.requires.holds.apart c.in-Some.piece (search rules))

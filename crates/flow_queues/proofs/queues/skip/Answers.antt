@@ -11,13 +11,13 @@ release-requires-clause-out g c =
     let v : AppView = g.F.AppFace.seen c.args.face.now in
     let h : HeldPiece = held_piece c.args.piece in
     let some : 0 < c.args.n = omega (arith, c.if-n-eq0.false) in
-    let is = is-cut v c.requires.apart h c.args.n c.requires.out some c.requires.part in
+    let is = is-cut v c.requires.holds.apart h c.args.n c.requires.out some c.requires.part in
     rw (c.cut-front.ensures.view, c.cut-front.ensures.places.0)
-    (in-contains (λ h. h.place) (front v c.requires.apart h c.args.n) (cut v h.place c.args.n).helds is.front_out)
+    (in-contains (λ h. h.place) (front v c.requires.holds.apart h c.args.n) (cut v h.place c.args.n).helds is.front_out)
 
 pub returns-clause-gave : goal.returns-clause-gave
 returns-clause-gave g c =
     let v : AppView = g.F.AppFace.seen c.args.face.now in
     let some : 0 < c.args.n = omega (arith, c.if-n-eq0.false) in
     rw (c.release.ensures.view, c.cut-front.ensures.view, c.cut-front.ensures.places.0, c.cut-front.ensures.places.1)
-    (skipped v c.requires.apart c.args.piece c.args.n c.requires.out some c.requires.part)
+    (skipped v c.requires.holds.apart c.args.piece c.args.n c.requires.out some c.requires.part)

@@ -11,4 +11,4 @@ returns-clause-cut g c =
     let v : AppView = g.F.AppFace.seen c.args.face.now in
     let below : c.args.n < c.args.piece.held.len = search rules in
     rw (c.cut-front.ensures.view, c.cut-front.ensures.places.0, c.cut-front.ensures.places.1)
-    (taken-off v c.requires.apart c.args.piece c.args.n c.requires.out c.requires.some below)
+    (taken-off v c.requires.holds.apart c.args.piece c.args.n c.requires.out c.requires.some below)

@@ -21,7 +21,7 @@ returns-in-Ok-enter_short c =
         base = c.enter_short.ensures.same.0;
         popped = c.enter_short.ensures.same.1;
       };
-      some = record { over = c.enter_short.ensures.over; short = c.enter_short.ensures.short };
+      some = c.enter_short.ensures.some;
       all = record {
         enters = c.in-Ok-enter_short.ensures.enters;
         notes = λ taken t there such. c.enter_short.ensures.notes taken t there such.0 such.1;
@@ -53,7 +53,7 @@ returns-in-Err-enter_short c =
         base = c.enter_short.ensures.same.0;
         popped = c.enter_short.ensures.same.1;
       };
-      some = record { over = c.enter_short.ensures.over; short = c.enter_short.ensures.short };
+      some = c.enter_short.ensures.some;
     }) in
     record {
       takes = takes;

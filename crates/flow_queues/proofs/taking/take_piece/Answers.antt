@@ -5,7 +5,7 @@ use Rattle.flow_queues.proofs.taking.take_piece.Goals as goal
 
 pub release-requires-clause-out : goal.release-requires-clause-out
 release-requires-clause-out g c =
-    in-contains (λ h. h.place) (held_piece (whole_piece c.args.number c.args.held)) (g.F.AppFace.seen c.args.face.now).helds c.requires.out
+    in-contains (λ h. h.place) (held_piece (whole_piece c.args.number c.args.held)) (g.F.AppFace.seen c.args.face.now).helds c.requires.came.out
 
 pub returns-in-Ok-enter-clause-takes : goal.returns-in-Ok-enter-clause-takes
 returns-in-Ok-enter-clause-takes g c =
@@ -24,7 +24,7 @@ returns-in-Ok-enter-clause-takes g c =
         base = c.enter.ensures.same.0;
         popped = c.enter.ensures.same.1;
       };
-      some = record { only = c.enter.ensures.only; fewer = c.enter.ensures.fewer; short = c.enter.ensures.short };
+      some = c.enter.ensures.some;
       all = record { enters = c.in-Ok-enter.ensures.enters; notes = c.enter.ensures.notes };
     }
 
@@ -46,7 +46,7 @@ returns-in-Err-clause-takes g c =
         base = c.enter.ensures.same.0;
         popped = c.enter.ensures.same.1;
       };
-      some = record { only = c.enter.ensures.only; fewer = c.enter.ensures.fewer; short = c.enter.ensures.short };
+      some = c.enter.ensures.some;
     })
 
 pub returns-in_default-clause-stands : goal.returns-in_default-clause-stands

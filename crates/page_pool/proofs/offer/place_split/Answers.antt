@@ -6,7 +6,7 @@ pub returns-then-place_in_current-clause-answer : goal.returns-then-place_in_cur
 returns-then-place_in_current-clause-answer g c =
     let same = sym c.pool.view_is in
     rw same (PlacesSplit-current _ _ _ _ _ _ (rw same at c.requires.stands)
-    (rw same at c.requires.none) c.requires.app c.requires.some c.requires.most c.if-place_in_current.ensures.answer)
+    (rw same at c.requires.none) c.requires.offer.app c.requires.offer.some c.requires.offer.most c.if-place_in_current.ensures.answer)
 
 pub returns-in-Empty-clause-answer : goal.returns-in-Empty-clause-answer
 returns-in-Empty-clause-answer g c =
@@ -42,5 +42,5 @@ returns-clause-answer g c =
     record { too_long = leaves.too_long; size_is = c.size.ensures.value; need_is = c.div_ceil-needed.ensures } in
     rw same
     (PlacesSplit-fresh _ _ _ _ _ _ _ _ _ _ _ _ _ (rw same at c.requires.stands) (rw same at c.requires.none) is
-    c.size.ensures.sound c.requires.some closes c.close_current.ensures.out c.find_fresh-end.ensures.searches c.in_default.not-Empty counts placed
+    c.size.ensures.sound c.requires.offer.some closes c.close_current.ensures.out c.find_fresh-end.ensures.searches c.in_default.not-Empty counts placed
     c.place_fresh-pool-inside.ensures.out c.place_fresh-pool-inside.ensures.few)

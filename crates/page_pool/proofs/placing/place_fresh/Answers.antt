@@ -6,7 +6,7 @@ use Rattle.page_pool.proofs.placing.place_fresh.Goals as goal
 pub loop-at-init : goal.loop-at-init
 loop-at-init g c = record {
   so_far = FreshSoFar-none _ _ _ c.requires.out.0 c.requires.out.1 c.requires.out.2 c.requires.enough;
-  before = c.requires.some;
+  before = c.requires.offer.some;
   total_is = refl;
   beside = refl;
 }
@@ -19,7 +19,7 @@ returns-then-at-total-clause-places g c =
     ≡ c.min-len.result = simp (length-take, length-drop) (grind (arith, n_is)) in
     rw (c.place_part.ensures.view, c.place_part.ensures.pieces, c.place_part.ensures.own)
     (FreshSoFar-last c.args.offer.now _ _ _ c.in_ok-own.own _ c.loop-at.at c.min-len.result _ c.requires.sound inv.so_far
-    c.in_ok-own.ensures.view n_is refl size inv.before c.if-at-total.true c.requires.app c.requires.most)
+    c.in_ok-own.ensures.view n_is refl size inv.before c.if-at-total.true c.requires.offer.app c.requires.offer.most)
 
 pub loop-at-preserved : goal.loop-at-preserved
 loop-at-preserved g c =
@@ -32,7 +32,7 @@ loop-at-preserved g c =
     record {
       so_far = rw c.place_part.ensures.pieces
           (FreshSoFar-next c.args.offer.now _ _ _ _ c.in_ok-own.own _ c.loop-at.at c.min-len.result _ inv.so_far c.in_ok-own.ensures.view
-          n_is refl size rest c.requires.app c.requires.most closed);
+          n_is refl size rest c.requires.offer.app c.requires.offer.most closed);
       before = rest;
       total_is = refl;
       beside = cc;
@@ -51,11 +51,15 @@ returns-in_err-own-clause-few g c =
     let inv = c.loop-at.invariant in
     omega (arith, fewer-parts _ _ _ _ _ c.requires.sound inv.so_far inv.before, c.requires.few)
 
-pub place_part-requires-clause-some : goal.place_part-requires-clause-some
-place_part-requires-clause-some g c =
+pub place_part-requires-clause-part : goal.place_part-requires-clause-part
+place_part-requires-clause-part g c =
     let inv = c.loop-at.invariant in
     let some = own-some _ _ _ _ _ _ _ c.requires.sound inv.so_far c.in_ok-own.ensures.view in
-    omega (arith, some, c.size.ensures.value, c.min-len.ensures, inv.before)
+    record {
+      some = omega (arith, some, c.size.ensures.value, c.min-len.ensures, inv.before);
+      within = omega (arith, c.min-len.ensures, inv.before, inv.total_is);
+      most = c.requires.offer.most;
+    }
 
 pub place_part-requires-clause-room : goal.place_part-requires-clause-room
 place_part-requires-clause-room g c =

@@ -1,5 +1,5 @@
 -- A whole run: the shelves that were set aside stand behind the others again.
-use Rattle.std.{proofs.{Common.{◌≡◌, Option, Some, ◌++◌, [], length, map, ap, ◌∙◌, subst, sym, arith}, lemmas.List.{length-map}}, specs.Prelude.{IfSome, reverse}}
+use Rattle.std.{proofs.{Common.{rules, ◌≡◌, Option, Some, ◌++◌, [], length, map, ap, ◌∙◌, subst, sym, arith}, lemmas.List.{length-map}}, specs.Prelude.{IfSome, reverse}}
 use Rattle.run_account.specs.Ran.{TellsOfEnds}
 use Rattle.app_lanes.{specs.Seated.{left_end}, proofs.Reversed.{put-back, set-aside}}
 use Rattle.replay_threads.proofs.Told.{on-err, run-lacks, run-told}
@@ -12,16 +12,15 @@ laid-out r x y is holds = subst (λ s. IfSome s (λ l. l ≡ y)) is holds
 pub move_last-requires-clause-keep : goal.move_last-requires-clause-keep
 move_last-requires-clause-keep g c = omega (arith, c.len-apps.ensures, c.requires.shelves)
 
-pub play_seated-feed-requires-clause-desk : goal.play_seated-feed-requires-clause-desk
-play_seated-feed-requires-clause-desk g c κs within = c.in_ok-board.ensures.desk
+pub play_seated-feed-requires-clause-board : goal.play_seated-feed-requires-clause-board
+play_seated-feed-requires-clause-board g c κs within = record {
+  desk_is = c.in_ok-board.ensures.desk;
+  setting = subst (λ layout. c.in_ok-board.board.setting ≡ record { layout = layout; places = c.args.plan.now.ring })
+      (laid-out _ _ _ c.unwrap-layout.ensures c.layout.ensures.value) c.in_ok-board.ensures.setting;
+}
 
-pub play_seated-feed-requires-clause-setting : goal.play_seated-feed-requires-clause-setting
-play_seated-feed-requires-clause-setting g c κs within =
-    subst (λ layout. c.in_ok-board.board.setting ≡ record { layout = layout; places = c.args.plan.now.ring })
-    (laid-out _ _ _ c.unwrap-layout.ensures c.layout.ensures.value) c.in_ok-board.ensures.setting
-
-pub play_seated-feed-requires-clause-feed : goal.play_seated-feed-requires-clause-feed
-play_seated-feed-requires-clause-feed g c κs within = c.in_ok-feed.ensures.value
+pub play_seated-feed-requires-clause-begun : goal.play_seated-feed-requires-clause-begun
+play_seated-feed-requires-clause-begun g c κs within = record { new = c.in_ok-feed.ensures.value; ready = search rules; starts_are = search rules }
 
 pub play_seated-feed-requires-clause-lefts : goal.play_seated-feed-requires-clause-lefts
 play_seated-feed-requires-clause-lefts g c κs within =
@@ -43,8 +42,8 @@ move_last-requires-2-clause-room g c =
       moved.many,
       moved.kept,
       moved.room,
-      played.many,
-      played.room,
+      played.shelves.0,
+      played.shelves.1,
       c.args.shelves.now.ok,
       c.in_ok-lanes.aside.ok,
       ap length c.in_ok-lanes.ensures.aside.0,
@@ -57,7 +56,7 @@ returns-clause-many g c =
       arith,
       moved.many,
       moved.kept,
-      c.play_seated-feed.ensures.many,
+      c.play_seated-feed.ensures.shelves.0,
       c.move_last-2.ensures.many,
       c.in_ok-lanes.aside.ok,
       ap length c.in_ok-lanes.ensures.aside.0,
@@ -70,7 +69,7 @@ returns-in_err-outcome-clause-many g c =
       arith,
       moved.many,
       moved.kept,
-      c.play_seated-feed.ensures.many,
+      c.play_seated-feed.ensures.shelves.0,
       c.move_last-2.ensures.many,
       c.in_ok-lanes.aside.ok,
       ap length c.in_ok-lanes.ensures.aside.0,

@@ -1,5 +1,5 @@
 -- A whole run by rounds.
-use Rattle.std.proofs.Common.{length, inl, refl, sym, ap, ◌∙◌, arith}
+use Rattle.std.proofs.Common.{rules, length, inl, refl, sym, ap, ◌∙◌, arith}
 use Rattle.plain_board.specs.Board.{Board}
 use Rattle.replay_turns.proofs.{Telling.{told}, WholeRun.{on-err, rounds-lacks, rounds-plan, rounds-runs, rounds-told}}
 use Rattle.replay_turns.proofs.running.run_rounds.Goals as goal
@@ -12,10 +12,13 @@ returns-clause-ran g c =
     played.ensures.over c.in_ok-outcome.outcome (told played.new.run c.deref.result.now c.deref-2.result.now c.args.plan.now.ports.items
     c.in_ok-outcome.outcome c.deref.ensures.value c.deref-2.ensures.value c.in_ok-outcome.ensures)
 
-pub returns-clause-room : goal.returns-clause-room
-returns-clause-room g c =
-    c.play_waiting-board.ensures.plays.room
-    ∙ ap (λ (b : Board). b.log.room) c.in_ok-board.ensures.opened.board_is
+pub returns-clause-leaves : goal.returns-clause-leaves
+returns-clause-leaves g c = record {
+  sound = c.play_waiting-board.ensures.plays.fits.sound;
+  recorded = search rules;
+  room = c.play_waiting-board.ensures.plays.room
+      ∙ ap (λ (b : Board). b.log.room) c.in_ok-board.ensures.opened.board_is;
+}
 
 pub returns-in_err-board-clause-lacks : goal.returns-in_err-board-clause-lacks
 returns-in_err-board-clause-lacks g c = on-err _ _ (inl (record { source_is = refl; shelves_are = refl }))

@@ -1,5 +1,5 @@
 -- A whole run.
-use Rattle.std.proofs.Common.{length, inl, refl, sym, ap, subst, ◌∙◌, arith}
+use Rattle.std.proofs.Common.{rules, length, inl, refl, sym, ap, subst, ◌∙◌, arith}
 use Rattle.plain_board.specs.Board.{Board}
 use Rattle.replay_turns.{specs.Schedule.{AreTurns}, proofs.{Sweeping.{each-swept}, Telling.{told}, WholeRun.{on-err, whole-runs, text-fits, text-plan, run-by, run-few, run-told, run-lacks}}}
 use Rattle.replay_turns.proofs.running.run_turns.Goals as goal
@@ -27,11 +27,14 @@ returns-clause-swept g c = each-swept _ _ _ _ _ _ _ _ _ _ _ _ (returns-clause-fo
     c.in_ok-outcome.outcome (told c.play_rounds-board.new.run c.deref.result.now c.deref-2.result.now c.args.plan.now.ports.items c.in_ok-outcome.outcome c.deref.ensures.value
     c.deref-2.ensures.value c.in_ok-outcome.ensures))
 
-pub returns-clause-room : goal.returns-clause-room
-returns-clause-room g c =
-    c.play_rounds-board.ensures.plays.room
-    ∙ c.play_text-board.ensures.plays.room
-    ∙ ap (λ (b : Board). b.log.room) c.in_ok-board.ensures.opened.board_is
+pub returns-clause-leaves : goal.returns-clause-leaves
+returns-clause-leaves g c = record {
+  sound = c.play_rounds-board.ensures.plays.fits.sound;
+  recorded = search rules;
+  room = c.play_rounds-board.ensures.plays.room
+      ∙ c.play_text-board.ensures.plays.room
+      ∙ ap (λ (b : Board). b.log.room) c.in_ok-board.ensures.opened.board_is;
+}
 
 pub returns-in_err-board-clause-lacks : goal.returns-in_err-board-clause-lacks
 returns-in_err-board-clause-lacks g c = on-err _ _ (inl (record { source_is = refl; shelves_are = refl }))

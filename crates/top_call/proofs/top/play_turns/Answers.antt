@@ -19,11 +19,11 @@ returns-clause-plays g c =
         sweeps = λ _. ran.swept;
         sides = (refl, refl);
         over = over;
-        uncounted = (boards-end_well _ ran.sound over).counts;
-        way = (ran.sound, ran.recorded);
+        uncounted = (boards-end_well _ ran.leaves.sound over).counts;
+        way = (ran.leaves.sound, ran.leaves.recorded);
         played = ran.follows;
       };
       recorded = board-records g.S.Source.left g.S.Source.faults g.T.Shelf.kept g.T.Shelf.counts _ _ _ _ c.args.plan.now _ _ c.requires.plan
-          c.in_ok-outcome.ensures.ran c.in_ok-outcome.ensures.sound c.in_ok-outcome.ensures.recorded c.in_ok-outcome.ensures.room;
+          ran.ran ran.leaves.sound ran.leaves.recorded ran.leaves.room;
       lacks = tt;
     }

@@ -41,8 +41,10 @@ returns c =
     let full : length c.args.into.now ≤ c.loop-done.done = omega (arith, c.loop-done-test.false, c.loop-done.auto.into) in
     let all = read-all c.args.first _ c.args.skip _ (held c.args.seat.now.me) c.requires.has.many c.requires.has.wide refl _ _ _ _ _ _ so_far full
     c.loop-done.auto.into in record {
-      table = c.loop-done.invariant.table ∙ sym c.requires.table;
-      number = c.loop-done.invariant.number;
-      me = λ i. (so_far.view_is i, (all.0 ∙ sym c.requires.has.slots) i);
+      same = record {
+        table = c.loop-done.invariant.table ∙ sym c.requires.table;
+        number = c.loop-done.invariant.number;
+        me = λ i. (so_far.view_is i, (all.0 ∙ sym c.requires.has.slots) i);
+      };
       bytes = all.1;
     }

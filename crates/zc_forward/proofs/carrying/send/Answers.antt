@@ -5,7 +5,7 @@ use Rattle.zc_forward.proofs.carrying.send.Goals as goal
 
 pub returns-then-is_err-clause-tags : goal.returns-then-is_err-clause-tags
 returns-then-is_err-clause-tags g c = λ none.
-    absurd (omega (arith, none, loan-has (g.F.AppFace.seen c.args.stream.now.face) c.requires.stands.common.apart c.args.sent.now.loan c.requires.out))
+    absurd (omega (arith, none, loan-has (g.F.AppFace.seen c.args.stream.now.face) c.requires.holds.stands.common.apart c.args.sent.now.loan c.requires.holds.out))
 
 -- no byte was carried
 pub returns-then-is_err-clause-carries : goal.returns-then-is_err-clause-carries
@@ -16,7 +16,7 @@ returns-then-is_err-clause-carries g c = record {
   others = search rules;
   later = search rules;
   still = λ none.
-      absurd (omega (arith, none, loan-has (g.F.AppFace.seen c.args.stream.now.face) c.requires.stands.common.apart c.args.sent.now.loan c.requires.out));
+      absurd (omega (arith, none, loan-has (g.F.AppFace.seen c.args.stream.now.face) c.requires.holds.stands.common.apart c.args.sent.now.loan c.requires.holds.out));
   cause = search rules;
   appended = search rules;
   pace = search rules;

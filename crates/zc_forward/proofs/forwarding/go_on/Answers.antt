@@ -4,12 +4,12 @@ use Rattle.zc_forward.specs.{OutboxOf.{outbox_of}, Tags.{Tags, TakesTag}, Sendin
 use Rattle.zc_forward.{specs.Turns.{Stage, TurnDoes, stage_of, with_due, CarriedItem}, proofs.{Live.{has-out}, Forwards.{due-out}, Scrubs.{not-full}}}
 use Rattle.zc_forward.proofs.forwarding.go_on.Goals as goal
 
-pub give_back-requires-clause-out : goal.give_back-requires-clause-out
-give_back-requires-clause-out g c =
+pub give_back-requires-clause-holds : goal.give_back-requires-clause-holds
+give_back-requires-clause-holds g c =
     let v : AppView = g.F.AppFace.seen c.args.stream.now.face in
     let (first, losses, was, took, before) = c.requires.stands in
     let due : c.args.work.now.tally.due ≡ Some c.in-Some-take.loan = search rules in
-    has-out v c.in-Some-take.loan (due-out (outbox_of c.args.work.now) v.loans c.in-Some-take.loan before.loans due)
+    record { stands = before.stands; out = has-out v c.in-Some-take.loan (due-out (outbox_of c.args.work.now) v.loans c.in-Some-take.loan before.loans due) }
 
 pub returns-then-not-has_ended-clause-does : goal.returns-then-not-has_ended-clause-does
 returns-then-not-has_ended-clause-does g c = λ was pace took asked.
@@ -41,14 +41,14 @@ returns-clause-does g c = λ was pace took asked.
     (c.leave.ensures.does first got losses faults tags pace (g.C.Carrier.pace c.args.carrier.now)
     (subst (λ (o : OutboxState). ForwardStands first losses o c.args.stream.now.desk tags got faults v) (sym same) on)))
 
-pub take_step-requires-clause-few : goal.take_step-requires-clause-few
-take_step-requires-clause-few g c =
+pub take_step-requires-clause-can : goal.take_step-requires-clause-can
+take_step-requires-clause-can g c =
     let (first, losses, was, took, before) = c.requires.stands in
     let few : many_kept (outbox_of c.args.work.now) ≤ most_out = omega (arith, before.few) in
     let no : c.is_full.result ≡ false = c.if-is_full.false in
     let is : (many_kept (outbox_of c.args.work.now) == most_out) ≡ false = sym c.is_full.ensures ∙ no in
     let less : many_kept (outbox_of c.args.work.now) < most_out = search rules in
-    omega (arith, less)
+    record { more = search rules; due = search rules; few = omega (arith, less) }
 
 pub returns-then-not-has_ended-clause-rest : goal.returns-then-not-has_ended-clause-rest
 returns-then-not-has_ended-clause-rest g c = λ was pace took.

@@ -13,21 +13,27 @@ give_up_uncarried-requires-clause-out g c =
     let (first, got, losses, now, tags, before) = c.requires.stands in
     may-give-up (outbox_of c.args.work.now) (g.F.AppFace.seen c.args.stream.now.face) before.loans c.args.work.now.uncarried refl
 
-pub leave-requires-clause-none : goal.leave-requires-clause-none
-leave-requires-clause-none g c =
+pub leave-requires : goal.leave-requires
+leave-requires g c =
     let (first, got, losses, now, tags, before) = c.requires.stands in
     let gone = c.give_up_uncarried.ensures in
     let poured = ends-pours first got losses now (outbox_of c.args.work.now) c.args.stream.now.desk c.give_up_uncarried.new.stream.desk tags
-    (g.F.AppFace.seen c.args.stream.now.face) (g.F.AppFace.seen c.give_up_uncarried.new.stream.face) before c.requires.none c.requires.due gone.stands gone.desk
+    (g.F.AppFace.seen c.args.stream.now.face) (g.F.AppFace.seen c.give_up_uncarried.new.stream.face) before c.requires.none c.requires.due gone.stays.stands gone.stays.desk
     c.args.work.now.uncarried refl gone.view in
-    subst (λ (d : Option Place). OnlyDue d (g.F.AppFace.seen c.give_up_uncarried.new.stream.face).loans) c.requires.due poured.due
+    record {
+      may = record {
+        stands = gone.stays.stands;
+        ended = ap (λ (d : Desk). d.ended) gone.stays.desk ∙ c.requires.ended;
+        none = subst (λ (d : Option Place). OnlyDue d (g.F.AppFace.seen c.give_up_uncarried.new.stream.face).loans) c.requires.due poured.due;
+      };
+    }
 
 pub returns-then-not-leave-clause-gives : goal.returns-then-not-leave-clause-gives
 returns-then-not-leave-clause-gives g c = λ first got losses now tags before.
     let gone = c.give_up_uncarried.ensures in
     let saw = c.if-not-leave.ensures.left in
     let poured = ends-pours first got losses now (outbox_of c.args.work.now) c.args.stream.now.desk c.give_up_uncarried.new.stream.desk tags
-    (g.F.AppFace.seen c.args.stream.now.face) (g.F.AppFace.seen c.give_up_uncarried.new.stream.face) before c.requires.none c.requires.due gone.stands gone.desk
+    (g.F.AppFace.seen c.args.stream.now.face) (g.F.AppFace.seen c.give_up_uncarried.new.stream.face) before c.requires.none c.requires.due gone.stays.stands gone.stays.desk
     c.args.work.now.uncarried refl gone.view in
     subst (λ (k : Kept). ForwardStands first losses (outbox_of k) c.leave.new.self.desk tags got now (g.F.AppFace.seen c.leave.new.self.face)) (sym gone.work)
     (waits-forwards first got losses now (outbox_of (record c.args.work.now { uncarried = None })) c.leave.new.self.desk tags (g.F.AppFace.seen c.leave.new.self.face)
@@ -39,9 +45,9 @@ pub returns-clause-gives : goal.returns-clause-gives
 returns-clause-gives g c = λ first got losses now tags before how.
     let gone = c.give_up_uncarried.ensures in
     let poured = ends-pours first got losses now (outbox_of c.args.work.now) c.args.stream.now.desk c.give_up_uncarried.new.stream.desk tags
-    (g.F.AppFace.seen c.args.stream.now.face) (g.F.AppFace.seen c.give_up_uncarried.new.stream.face) before c.requires.none c.requires.due gone.stands gone.desk
+    (g.F.AppFace.seen c.args.stream.now.face) (g.F.AppFace.seen c.give_up_uncarried.new.stream.face) before c.requires.none c.requires.due gone.stays.stands gone.stays.desk
     c.args.work.now.uncarried refl gone.view in
-    let ended : c.give_up_uncarried.new.stream.desk.ended ≡ true = ap (λ (d : Desk). d.ended) gone.desk ∙ c.requires.ended in
+    let ended : c.give_up_uncarried.new.stream.desk.ended ≡ true = ap (λ (d : Desk). d.ended) gone.stays.desk ∙ c.requires.ended in
     let left : AppEnd = pour_end c.told-poured.result in
     let same : work_end (tally_of c.args.work.now.tally) ≡ left = search rules in (
       λ quit. subst (HasLeft how first got losses now (g.F.AppFace.seen c.leave.new.self.face)) same

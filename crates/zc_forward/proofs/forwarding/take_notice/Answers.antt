@@ -5,13 +5,16 @@ use Rattle.zc_forward.{specs.{declared.outbox.Outbox.{Outbox as Kept}, OutboxOf.
 use Rattle.zc_forward.proofs.Forwards.{goes-back, sent-out, told-forwards, back-work}
 use Rattle.zc_forward.proofs.forwarding.take_notice.Goals as goal
 
-pub give_back-requires-clause-out : goal.give_back-requires-clause-out
-give_back-requires-clause-out g c =
+pub give_back-requires-clause-holds : goal.give_back-requires-clause-holds
+give_back-requires-clause-holds g c =
     let v : AppView = g.F.AppFace.seen c.args.stream.now.face in
     let loan : Place = c.take_sent-loan.result in
     let (first, got, losses, now, was, tags, before, took) = c.requires.stands in
     let (flow, there) = c.take_sent-loan.ensures.was in
-    has-out v loan (sent-out (outbox_of c.args.work.now) v.loans (record { tag = c.args.tag; flow = flow; loan = loan }) before.loans there)
+    record {
+      stands = before.stands;
+      out = has-out v loan (sent-out (outbox_of c.args.work.now) v.loans (record { tag = c.args.tag; flow = flow; loan = loan }) before.loans there);
+    }
 
 pub returns-clause-gives : goal.returns-clause-gives
 returns-clause-gives g c = λ first got losses now was tags before took.

@@ -17,15 +17,12 @@ step_once-requires-clause-stands g c =
           (g.C.Carrier.tags c.args.carrier.now) before,
     )
 
-pub step_once-requires-clause-more : goal.step_once-requires-clause-more
-step_once-requires-clause-more g c = c.scrub_stopped.ensures.desk.1 ∙ c.requires.more
-
-pub step_once-requires-clause-none : goal.step_once-requires-clause-none
-step_once-requires-clause-none g c = ap (λ (k : Kept). (outbox_of k).tally.due) c.scrub_stopped.ensures.work ∙ c.requires.none
-
-pub step_once-requires-clause-few : goal.step_once-requires-clause-few
-step_once-requires-clause-few g c =
-    subst (λ out. length out < most_out) (sym (ap (λ (k : Kept). (outbox_of k).out) c.scrub_stopped.ensures.work)) c.requires.few
+pub step_once-requires-clause-can : goal.step_once-requires-clause-can
+step_once-requires-clause-can g c = record {
+  more = c.scrub_stopped.ensures.desk.1 ∙ c.requires.can.more;
+  due = ap (λ (k : Kept). (outbox_of k).tally.due) c.scrub_stopped.ensures.work ∙ c.requires.can.due;
+  few = subst (λ out. length out < most_out) (sym (ap (λ (k : Kept). (outbox_of k).out) c.scrub_stopped.ensures.work)) c.requires.can.few;
+}
 
 pub returns-clause-gives : goal.returns-clause-gives
 returns-clause-gives g c = λ first losses before.
@@ -41,7 +38,7 @@ returns-clause-does g c = λ pace.
     (g.F.AppFace.seen c.scrub_stopped.new.stream.face) in
     let now : Stage = stage_of (outbox_of c.step_once.new.work) c.step_once.new.stream.desk (g.C.Carrier.tags c.step_once.new.carrier)
     (g.C.Carrier.pace c.step_once.new.carrier) (g.F.AppFace.seen c.step_once.new.stream.face) in
-    step-does was now c.step_once.result c.requires.none
+    step-does was now c.step_once.result c.requires.can.due
     (record { stage = mid; first = c.scrub_stopped.ensures.first tags pace; does = c.step_once.ensures.does pace })
 
 pub returns-clause-rest : goal.returns-clause-rest

@@ -32,7 +32,7 @@ returns-clause-gave_up g c =
     let first_gone : GaveUp v y = subst (GaveUp v) (sym c.give_up_due.ensures.view) (gave-due w v before.loans apart c.args.work.now.tally.due refl) in
     gave-then v y (g.F.AppFace.seen c.give_up_uncarried.new.stream.face) first_gone
     (subst (GaveUp y) (sym c.give_up_uncarried.ensures.view)
-    (gave-aside (with_due w None) y are c.give_up_due.ensures.stands.common.apart c.args.work.now.uncarried refl))
+    (gave-aside (with_due w None) y are c.give_up_due.ensures.stays.stands.common.apart c.args.work.now.uncarried refl))
 
 pub returns-clause-loans : goal.returns-clause-loans
 returns-clause-loans g c =
@@ -43,5 +43,5 @@ returns-clause-loans g c =
     let left = left-due w v before.loans before.stands.common.apart c.args.work.now.tally.due refl in
     let are : AreLoans (with_due w None) y.loans = subst (λ (k : AppView). AreLoans (with_due w None) k.loans) (sym c.give_up_due.ensures.view) left in
     λ f. ap (λ (k : AppView). total (λ (l : LentPiece). f l.place) k.loans) c.give_up_uncarried.ensures.view
-    ∙ left-aside (with_due w None) y are c.give_up_due.ensures.stands.common.apart refl c.args.work.now.uncarried refl f
+    ∙ left-aside (with_due w None) y are c.give_up_due.ensures.stays.stands.common.apart refl c.args.work.now.uncarried refl f
     ∙ ap (λ (k : Kept). of_sent f k.out.items) (sym c.give_up_uncarried.ensures.work)

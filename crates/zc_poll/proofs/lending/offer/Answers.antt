@@ -1,6 +1,6 @@
 use Rattle.std.proofs.Common.{rules, ◌≡◌, ◌<◌, length, refl, true, false}
 use Rattle.board_face.specs.declared.views.app.AppView.{AppView}
-use Rattle.zc_poll.{specs.DeskOf.{desk_of}, proofs.Lends.{item-is, none-active, next-out, next-notes, next-spare, desk-back, none-next, held-stepped}}
+use Rattle.zc_poll.{specs.DeskOf.{desk_of}, proofs.Lends.{item-is, none-active, next-can, next-out, next-backed, desk-back, none-next, held-stepped}}
 use Rattle.zc_poll.proofs.lending.offer.Goals as goal
 
 pub returns-then-st-len-clause-offers : goal.returns-then-st-len-clause-offers
@@ -17,18 +17,15 @@ lend_next-requires-clause-out g c =
     next-out (desk_of c.args.st.now) (g.F.AppFace.seen c.args.face.now) c.requires.stands on c.requires.more c.index_mut-own.result.now within
     c.index_mut-own.ensures.value
 
-pub lend_next-requires-clause-notes : goal.lend_next-requires-clause-notes
-lend_next-requires-clause-notes g c =
-    let within : c.args.st.now.active < length c.args.st.now.flows.items = search rules in
-    let on : c.args.st.now.stopped ≡ false = search rules in
-    next-notes (desk_of c.args.st.now) (g.F.AppFace.seen c.args.face.now) c.requires.stands on c.requires.more c.index_mut-own.result.now within
-    c.index_mut-own.ensures.value
+pub lend_next-requires-clause-can : goal.lend_next-requires-clause-can
+lend_next-requires-clause-can g c =
+    next-can (desk_of c.args.st.now) (g.F.AppFace.seen c.args.face.now) c.requires.stands (search rules) c.requires.more
 
-pub lend_next-requires-clause-spare : goal.lend_next-requires-clause-spare
-lend_next-requires-clause-spare g c =
+pub lend_next-requires-clause-backed : goal.lend_next-requires-clause-backed
+lend_next-requires-clause-backed g c =
     let within : c.args.st.now.active < length c.args.st.now.flows.items = search rules in
     let on : c.args.st.now.stopped ≡ false = search rules in
-    next-spare (desk_of c.args.st.now) (g.F.AppFace.seen c.args.face.now) c.requires.stands on c.requires.more c.index_mut-own.result.now within
+    next-backed (desk_of c.args.st.now) (g.F.AppFace.seen c.args.face.now) c.requires.stands on c.requires.more c.index_mut-own.result.now within
     c.index_mut-own.ensures.value
 
 pub returns-in-Lent-clause-offers : goal.returns-in-Lent-clause-offers

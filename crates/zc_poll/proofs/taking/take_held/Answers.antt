@@ -1,5 +1,5 @@
 use Rattle.std.proofs.Common.{rules, ◌≡◌, ◌+◌, false, []}
-use Rattle.zc_poll.{specs.DeskOf.{desk_of}, proofs.Noted.{held-out, piece-past, now-out, now-apart, piece-wanted, piece-dropped, piece-entered}}
+use Rattle.zc_poll.{specs.DeskOf.{desk_of}, proofs.Noted.{held-out, piece-past, now-came, now-apart, piece-wanted, piece-dropped, piece-entered}}
 use Rattle.zc_poll.proofs.taking.take_held.Goals as goal
 
 pub returns-then-st-clause-takes : goal.returns-then-st-clause-takes
@@ -17,16 +17,19 @@ returns-in_default-clause-takes g c = λ old took stands more rest.
     piece-dropped (desk_of c.args.st.now) old (g.F.AppFace.seen c.args.face.now) c.args.note.now c.args.held took stands more (search rules)
     (g.F.AppFace.seen c.release-in_default.new.self) c.release-in_default.ensures.view
 
-pub take_piece-taken-requires-clause-apart : goal.take_piece-taken-requires-clause-apart
-take_piece-taken-requires-clause-apart g c =
+pub take_piece-taken-requires-clause-holds : goal.take_piece-taken-requires-clause-holds
+take_piece-taken-requires-clause-holds g c =
     let on : c.args.st.now.stopped ≡ false = search rules in
-    now-apart (desk_of c.args.st.now) c.requires.took.0 (g.F.AppFace.seen c.args.face.now) c.args.note.now c.args.held c.requires.took.1 c.requires.took.2
-    c.requires.took.3 on
+    record {
+      here = c.requires.here;
+      apart = now-apart (desk_of c.args.st.now) c.requires.took.0 (g.F.AppFace.seen c.args.face.now) c.args.note.now c.args.held c.requires.took.1
+          c.requires.took.2 c.requires.took.3 on;
+    }
 
-pub take_piece-taken-requires-clause-out : goal.take_piece-taken-requires-clause-out
-take_piece-taken-requires-clause-out g c =
+pub take_piece-taken-requires-clause-came : goal.take_piece-taken-requires-clause-came
+take_piece-taken-requires-clause-came g c =
     let on : c.args.st.now.stopped ≡ false = search rules in
-    now-out (desk_of c.args.st.now) c.requires.took.0 (g.F.AppFace.seen c.args.face.now) c.args.note.now c.args.held c.requires.took.1 c.requires.took.2
+    now-came (desk_of c.args.st.now) c.requires.took.0 (g.F.AppFace.seen c.args.face.now) c.args.note.now c.args.held c.requires.took.1 c.requires.took.2
     c.requires.took.3 on
 
 pub returns-in_default-taken-clause-takes : goal.returns-in_default-taken-clause-takes

@@ -18,11 +18,11 @@ returns-clause-gives g c = λ first kept losses now before how.
       λ quit. subst (HasLeft how first kept losses now (g.F.AppFace.seen c.leave.new.self.face)) same
           (subst (λ (v : AppView). HasLeft how first kept losses now v (work_end (tally_of c.args.work.now))) (sym c.if-not-leave.ensures.left)
           (left-pours first kept losses now (tally_of c.args.work.now) c.args.stream.now.desk (g.F.AppFace.seen c.args.stream.now.face) before c.requires.due
-          c.requires.ended how quit)),
+          c.requires.may.ended how quit)),
       λ leak stray. subst (λ (e : AppEnd). HasReturned how e.stopped e.written (g.F.AppFace.seen c.leave.new.self.face)) same
           (subst (λ (v : AppView). HasReturned how c.args.work.now.stopped c.args.work.now.written v) (sym c.if-not-leave.ensures.left)
           (returned-pours first kept losses now (tally_of c.args.work.now) c.args.stream.now.desk (g.F.AppFace.seen c.args.stream.now.face) before c.requires.due
-          c.requires.ended how leak stray)),
+          c.requires.may.ended how leak stray)),
     )
 
 pub returns-then-not-leave-clause-scrubs : goal.returns-then-not-leave-clause-scrubs

@@ -3,11 +3,11 @@ use Rattle.board_face.specs.declared.views.app.AppView.{AppView}
 use Rattle.zc_poll.{specs.{Standing.{Desk}, TallyOf.{tally_of}}, proofs.Scrubbing.{scrub-pours, scrubs-first, scrubbed-desk, scrubbed-view, scrubs-quiet}}
 use Rattle.zc_poll.proofs.to_shelf.scrub_stopped.Goals as goal
 
-pub scrub-requires-clause-stopped : goal.scrub-requires-clause-stopped
-scrub-requires-clause-stopped g c = let (first, kept, losses, now, before) = c.requires.stands in (before.over (search rules)).0
-
-pub scrub-requires-clause-none : goal.scrub-requires-clause-none
-scrub-requires-clause-none g c = let (first, kept, losses, now, before) = c.requires.stands in (before.over (search rules)).1
+pub scrub-requires : goal.scrub-requires
+scrub-requires g c =
+    let (first, kept, losses, now, before) = c.requires.stands in
+    let over = before.over (search rules) in
+    record { still = (before.stands, over.0, over.1) }
 
 pub returns-clause-gives : goal.returns-clause-gives
 returns-clause-gives g c = λ first kept losses now before.

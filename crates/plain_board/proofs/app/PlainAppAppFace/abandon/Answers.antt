@@ -13,8 +13,8 @@ invariant_of-self c =
     let said = rw c.deref_mut.ensures.value at c.abandon.ensures in
     let out = rw (← c.self.view_is) at c.requires.out in
     rw (c.push.ensures.log, c.deref_mut-2.ensures.value, c.deref_mut.ensures.value) (
-      rw said.layout c.self.invariant.0,
-      app-told (abandons c.args.loan) old new a before c.self.invariant.0 (out, ended-returned old a before c.self.invariant.0) tt said.others said.inside said.view (_ ∷ []) (rw (c.user_count-user.ensures, c.deref-2.ensures, c.place-place.ensures) refl) (c.push.ensures.small, tt) _ c.self.invariant.1,
+      rw said.only.layout c.self.invariant.0,
+      app-told (abandons c.args.loan) old new a before c.self.invariant.0 (out, ended-returned old a before c.self.invariant.0) tt said.only.others said.only.inside said.view (_ ∷ []) (rw (c.user_count-user.ensures, c.deref-2.ensures, c.place-place.ensures) refl) (c.push.ensures.small, tt) _ c.self.invariant.1,
     )
 
 pub returns-clause-log : goal.returns-clause-log

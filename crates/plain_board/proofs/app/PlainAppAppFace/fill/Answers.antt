@@ -13,6 +13,6 @@ invariant_of-self c =
     let said = rw c.deref_mut.ensures.value at c.fill.ensures in
     let out = rw (← c.self.view_is) at c.requires.out in
     rw c.deref_mut.ensures.value (
-      rw said.layout c.self.invariant.0,
-      app-told (fills c.args.own.now c.args.bytes.now) old new a before c.self.invariant.0 out c.requires.few said.others said.inside said.view [] refl tt _ c.self.invariant.1,
+      rw said.only.layout c.self.invariant.0,
+      app-told (fills c.args.own.now c.args.bytes.now) old new a before c.self.invariant.0 out c.requires.few said.only.others said.only.inside said.view [] refl tt _ c.self.invariant.1,
     )

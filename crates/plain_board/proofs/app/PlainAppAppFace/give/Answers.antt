@@ -10,8 +10,8 @@ invariant_of-self c =
     let before = rw c.deref.ensures at c.sound.ensures in
     let said = rw c.deref_mut.ensures.value at c.in_err-give.ensures in
     rw c.deref_mut.ensures.value (
-      rw said.layout c.self.invariant.0,
-      app-told (sees RefillInUse) old c.give.new.self c.self.inside.app before c.self.invariant.0 tt tt said.others said.inside said.view.1.event [] refl tt _ c.self.invariant.1,
+      rw said.only.layout c.self.invariant.0,
+      app-told (sees RefillInUse) old c.give.new.self c.self.inside.app before c.self.invariant.0 tt tt said.only.others said.only.inside said.view.1.event [] refl tt _ c.self.invariant.1,
     )
 
 pub invariant_of-self-2 : goal.invariant_of-self-2
@@ -23,8 +23,8 @@ invariant_of-self-2 c =
     let said = rw c.deref_mut.ensures.value at c.in_ok-give.ensures in
     let out = rw (← c.self.view_is) at c.requires.out in
     rw (c.push.ensures.log, c.deref_mut-2.ensures.value, c.deref_mut.ensures.value) (
-      rw said.layout c.self.invariant.0,
-      app-told (gives c.args.loan) old new a before c.self.invariant.0 (out, ended-returned old a before c.self.invariant.0) tt said.others said.inside said.view
+      rw said.only.layout c.self.invariant.0,
+      app-told (gives c.args.loan) old new a before c.self.invariant.0 (out, ended-returned old a before c.self.invariant.0) tt said.only.others said.only.inside said.view
           (_ ∷ []) (rw (c.user_count-user.ensures, c.deref-2.ensures, c.place-place.ensures) refl) (c.push.ensures.small, tt) _ c.self.invariant.1,
     )
 

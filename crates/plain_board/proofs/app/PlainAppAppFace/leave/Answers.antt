@@ -12,6 +12,6 @@ invariant_of-self c =
     let before = rw c.deref.ensures at c.sound.ensures in
     let said = rw c.deref_mut.ensures.value at c.leave.ensures in
     rw c.deref_mut.ensures.value (
-      rw said.layout c.self.invariant.0,
-      app-told (leaves) old new a before c.self.invariant.0 tt tt said.others said.inside said.view [] refl tt _ c.self.invariant.1,
+      rw said.only.layout c.self.invariant.0,
+      app-told (leaves) old new a before c.self.invariant.0 tt tt said.only.others said.only.inside said.view [] refl tt _ c.self.invariant.1,
     )

@@ -13,8 +13,8 @@ invariant_of-self c =
     let said = rw c.deref_mut.ensures.value at c.lend_own-loan.ensures in
     let asked = rw (← c.self.view_is) at c.requires in
     rw (c.push.ensures.log, c.deref_mut-2.ensures.value, c.deref_mut.ensures.value) (
-      rw said.layout c.self.invariant.0,
-      app-told (lends_own c.args.own) old new a before c.self.invariant.0 asked.out asked.filled said.others said.inside said.view (_ ∷ []) (rw (c.pool_count-pool.ensures, c.deref-2.ensures, c.user_count-user.ensures, c.deref-3.ensures, c.place-place.ensures, rw c.deref_mut.ensures.value at c.lend_own-loan.ensures.place) refl) (c.push.ensures.small, tt) _ c.self.invariant.1,
+      rw said.only.layout c.self.invariant.0,
+      app-told (lends_own c.args.own) old new a before c.self.invariant.0 asked.out asked.filled said.only.others said.only.inside said.view (_ ∷ []) (rw (c.pool_count-pool.ensures, c.deref-2.ensures, c.user_count-user.ensures, c.deref-3.ensures, c.place-place.ensures, rw c.deref_mut.ensures.value at c.lend_own-loan.ensures.place) refl) (c.push.ensures.small, tt) _ c.self.invariant.1,
     )
 
 pub returns-clause-log : goal.returns-clause-log

@@ -12,8 +12,8 @@ invariant_of-self c =
     let took = rw (c.deref_mut.ensures.value, c.in-Note.is) at c.poll-polled.ensures.view in
     let said = rw c.deref_mut.ensures.value at c.poll-polled.ensures in
     rw (c.push.ensures.log, c.deref_mut-in-Note.ensures.value, c.deref_mut.ensures.value) (
-      rw said.layout c.self.invariant.0,
-      polled-note old c.poll-polled.new.self a before after c.self.invariant.0 said.layout said.others said.inside c.in-Note.note c.in-Note.field-1 took
+      rw said.only.layout c.self.invariant.0,
+      polled-note old c.poll-polled.new.self a before after c.self.invariant.0 said.only.layout said.only.others said.only.inside c.in-Note.note c.in-Note.field-1 took
           c.push.ensures.small _ c.self.invariant.1,
     )
 
@@ -25,8 +25,8 @@ invariant_of-self-in_default c =
     let after = rw c.deref-2.ensures at c.sound-2.ensures in
     let said = rw c.deref_mut.ensures.value at c.poll-polled.ensures in
     rw c.deref_mut.ensures.value (
-      rw said.layout c.self.invariant.0,
-      polled-other old c.poll-polled.new.self a before after c.self.invariant.0 said.layout said.others said.inside _ c.poll-polled.result said.view c.in_default.not-Note _
+      rw said.only.layout c.self.invariant.0,
+      polled-other old c.poll-polled.new.self a before after c.self.invariant.0 said.only.layout said.only.others said.only.inside _ c.poll-polled.result said.view c.in_default.not-Note _
           c.self.invariant.1,
     )
 

@@ -12,8 +12,8 @@ invariant_of-self c =
     let before = rw c.deref.ensures at c.sound.ensures in
     let said = rw c.deref_mut.ensures.value at c.settle.ensures in
     rw c.deref_mut.ensures.value (
-      rw said.layout c.self.invariant.0,
+      rw said.only.layout c.self.invariant.0,
       by-answer c.settle.result said.view
-          (λ done. app-told settles old new a before c.self.invariant.0 tt tt said.others said.inside done [] refl tt _ c.self.invariant.1)
-          (λ done. app-told (sees RawOnItsWay) old new a before c.self.invariant.0 tt tt said.others said.inside done.event [] refl tt _ c.self.invariant.1),
+          (λ done. app-told settles old new a before c.self.invariant.0 tt tt said.only.others said.only.inside done [] refl tt _ c.self.invariant.1)
+          (λ done. app-told (sees RawOnItsWay) old new a before c.self.invariant.0 tt tt said.only.others said.only.inside done.event [] refl tt _ c.self.invariant.1),
     )

@@ -10,8 +10,8 @@ invariant_of-self c =
     let before = rw c.deref.ensures at c.sound.ensures in
     let said = rw c.deref_mut.ensures.value at c.in_err-own.ensures in
     rw c.deref_mut.ensures.value (
-      rw said.layout c.self.invariant.0,
-      app-told (sees NoSpare) old c.spare.new.self c.self.inside.app before c.self.invariant.0 tt tt said.others said.inside said.view.event [] refl tt _ c.self.invariant.1,
+      rw said.only.layout c.self.invariant.0,
+      app-told (sees NoSpare) old c.spare.new.self c.self.inside.app before c.self.invariant.0 tt tt said.only.others said.only.inside said.view.event [] refl tt _ c.self.invariant.1,
     )
 
 pub invariant_of-self-2 : goal.invariant_of-self-2
@@ -20,8 +20,8 @@ invariant_of-self-2 c =
     let before = rw c.deref.ensures at c.sound.ensures in
     let said = rw c.deref_mut.ensures.value at c.in_ok-own.ensures in
     rw (c.push.ensures.log, c.deref_mut-2.ensures.value, c.deref_mut.ensures.value) (
-      rw said.layout c.self.invariant.0,
-      app-told (spares c.in_ok-own.own.buffer) old c.spare.new.self c.self.inside.app before c.self.invariant.0 tt (said.view.buffer, said.unheld) said.others said.inside said.view.event
+      rw said.only.layout c.self.invariant.0,
+      app-told (spares c.in_ok-own.own.buffer) old c.spare.new.self c.self.inside.app before c.self.invariant.0 tt (said.view.buffer, said.unheld) said.only.others said.only.inside said.view.event
           (_ ∷ []) (rw (c.pool_count-pool.ensures, c.deref-2.ensures, c.buffer-buffer.ensures) refl) (c.push.ensures.small, tt) _ c.self.invariant.1,
     )
 

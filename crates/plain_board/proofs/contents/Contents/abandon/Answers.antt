@@ -22,10 +22,11 @@ invariant_of-self c =
     rw (c.note_at.ensures, c.lower.ensures.counts, c.user_index-user.ensures, c.place-place.ensures)
     (IsSound-abandoned _ c.args.app _ c.args.loan c.self.invariant.0 here asked.out _ refl, c.self.invariant.1)
 
-pub returns-clause-others : goal.returns-clause-others
-returns-clause-others c = rw (← c.self.view_is, c.note_at.ensures) (others-then c.self.inside.nic c.self.inside.apps.items c.args.app _)
-
-pub returns-clause-inside : goal.returns-clause-inside
-returns-clause-inside c =
+pub returns-clause-only : goal.returns-clause-only
+returns-clause-only c =
     let here = here-of _ c.args.app c.self.invariant.0 (rw (← c.self.view_is) at c.requires.app) in
-    rw (← c.self.view_is, c.note_at.ensures, side-then c.self.inside.apps.items c.args.app _ _ here) refl
+    record {
+      inside = rw (← c.self.view_is, c.note_at.ensures, side-then c.self.inside.apps.items c.args.app _ _ here) refl;
+      others = rw (← c.self.view_is, c.note_at.ensures) (others-then c.self.inside.nic c.self.inside.apps.items c.args.app _);
+      layout = rw (← c.self.view_is) refl;
+    }

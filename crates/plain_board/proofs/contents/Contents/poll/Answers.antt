@@ -40,8 +40,14 @@ returns-in_default-clause-untold c =
       | else-ended w ↦ λ none. rw (← c.self.view_is) (untold _ c.args.app _ c.self.invariant.0 here w.if-ended.false _ refl)
     ]
 
-pub returns-in_default-clause-others : goal.returns-in_default-clause-others
-returns-in_default-clause-others c = rw (← c.self.view_is, c.note_at.ensures) (others-then c.self.inside.nic c.self.inside.apps.items c.args.app _)
+pub returns-in_default-clause-only : goal.returns-in_default-clause-only
+returns-in_default-clause-only c =
+    let here = here-of _ c.args.app c.self.invariant.0 (rw (← c.self.view_is) at c.requires.app) in
+    record {
+      inside = rw (← c.self.view_is, c.note_at.ensures, side-then c.self.inside.apps.items c.args.app _ _ here) refl;
+      others = rw (← c.self.view_is, c.note_at.ensures) (others-then c.self.inside.nic c.self.inside.apps.items c.args.app _);
+      layout = rw (← c.self.view_is) refl;
+    }
 
 -- a split note is there
 
@@ -61,8 +67,14 @@ returns-then-note-clause-view c =
     rw (← c.self.view_is, c.note_at-then-note.ensures, side-then c.self.inside.apps.items c.args.app _ _ here, c.new.ensures)
     (TookNote-took _ c.args.app _ c.in-Some.slot _ c.self.invariant.0 here asked.here found c.if-note.true)
 
-pub returns-then-note-clause-others : goal.returns-then-note-clause-others
-returns-then-note-clause-others c = rw (← c.self.view_is, c.note_at-then-note.ensures) (others-then c.self.inside.nic c.self.inside.apps.items c.args.app _)
+pub returns-then-note-clause-only : goal.returns-then-note-clause-only
+returns-then-note-clause-only c =
+    let here = here-of _ c.args.app c.self.invariant.0 (rw (← c.self.view_is) at c.requires.app) in
+    record {
+      inside = rw (← c.self.view_is, c.note_at-then-note.ensures, side-then c.self.inside.apps.items c.args.app _ _ here) refl;
+      others = rw (← c.self.view_is, c.note_at-then-note.ensures) (others-then c.self.inside.nic c.self.inside.apps.items c.args.app _);
+      layout = rw (← c.self.view_is) refl;
+    }
 
 -- another note is there
 
@@ -82,20 +94,11 @@ returns-clause-view c =
     rw (← c.self.view_is, c.note_at-2.ensures, side-then c.self.inside.apps.items c.args.app _ _ here)
     (TookLinear-took _ c.args.app _ c.in-Some.slot _ c.self.invariant.0 here asked.here found c.if-note.false)
 
-pub returns-clause-others : goal.returns-clause-others
-returns-clause-others c = rw (← c.self.view_is, c.note_at-2.ensures) (others-then c.self.inside.nic c.self.inside.apps.items c.args.app _)
-
-pub returns-in_default-clause-inside : goal.returns-in_default-clause-inside
-returns-in_default-clause-inside c =
+pub returns-clause-only : goal.returns-clause-only
+returns-clause-only c =
     let here = here-of _ c.args.app c.self.invariant.0 (rw (← c.self.view_is) at c.requires.app) in
-    rw (← c.self.view_is, c.note_at.ensures, side-then c.self.inside.apps.items c.args.app _ _ here) refl
-
-pub returns-then-note-clause-inside : goal.returns-then-note-clause-inside
-returns-then-note-clause-inside c =
-    let here = here-of _ c.args.app c.self.invariant.0 (rw (← c.self.view_is) at c.requires.app) in
-    rw (← c.self.view_is, c.note_at-then-note.ensures, side-then c.self.inside.apps.items c.args.app _ _ here) refl
-
-pub returns-clause-inside : goal.returns-clause-inside
-returns-clause-inside c =
-    let here = here-of _ c.args.app c.self.invariant.0 (rw (← c.self.view_is) at c.requires.app) in
-    rw (← c.self.view_is, c.note_at-2.ensures, side-then c.self.inside.apps.items c.args.app _ _ here) refl
+    record {
+      inside = rw (← c.self.view_is, c.note_at-2.ensures, side-then c.self.inside.apps.items c.args.app _ _ here) refl;
+      others = rw (← c.self.view_is, c.note_at-2.ensures) (others-then c.self.inside.nic c.self.inside.apps.items c.args.app _);
+      layout = rw (← c.self.view_is) refl;
+    }

@@ -16,8 +16,14 @@ returns-then-not-put_back-clause-told c =
     rw (← c.self.view_is, c.note_at.ensures, side-then c.self.inside.apps.items c.args.app _ _ here)
     (told-full _ c.args.app _ c.args.entry c.self.invariant.0 here c.if-not-put_back.ensures.slots.1)
 
-pub returns-then-not-put_back-clause-others : goal.returns-then-not-put_back-clause-others
-returns-then-not-put_back-clause-others c = rw (← c.self.view_is, c.note_at.ensures) (others-then c.self.inside.nic c.self.inside.apps.items c.args.app _)
+pub returns-then-not-put_back-clause-only : goal.returns-then-not-put_back-clause-only
+returns-then-not-put_back-clause-only c =
+    let here = here-of _ c.args.app c.self.invariant.0 (rw (← c.self.view_is) at c.requires.app) in
+    record {
+      inside = rw (← c.self.view_is, c.note_at.ensures, side-then c.self.inside.apps.items c.args.app _ _ here) refl;
+      others = rw (← c.self.view_is, c.note_at.ensures) (others-then c.self.inside.nic c.self.inside.apps.items c.args.app _);
+      layout = rw (← c.self.view_is) refl;
+    }
 
 pub invariant_of-self-2 : goal.invariant_of-self-2
 invariant_of-self-2 c =
@@ -28,8 +34,14 @@ invariant_of-self-2 c =
     rw (c.note_at-2.ensures, c.put.ensures, c.if-not-put_back.ensures.slots)
     (IsSound-pushed _ c.args.app _ c.args.entry c.self.invariant.0 here asked.idle asked.counted (c.if-not-put_back.ensures.room refl) _ many, c.self.invariant.1)
 
-pub returns-clause-others : goal.returns-clause-others
-returns-clause-others c = rw (← c.self.view_is, c.note_at-2.ensures) (others-then c.self.inside.nic c.self.inside.apps.items c.args.app _)
+pub returns-clause-only : goal.returns-clause-only
+returns-clause-only c =
+    let here = here-of _ c.args.app c.self.invariant.0 (rw (← c.self.view_is) at c.requires.app) in
+    record {
+      inside = rw (← c.self.view_is, c.note_at-2.ensures, side-then c.self.inside.apps.items c.args.app _ _ here) refl;
+      others = rw (← c.self.view_is, c.note_at-2.ensures) (others-then c.self.inside.nic c.self.inside.apps.items c.args.app _);
+      layout = rw (← c.self.view_is) refl;
+    }
 
 pub returns-then-not-put_back-clause-full : goal.returns-then-not-put_back-clause-full
 returns-then-not-put_back-clause-full c =
@@ -43,13 +55,3 @@ overflow_cast-entries c =
     in
     let few = ring-few _ c.args.app _ c.args.entry c.self.invariant.0 here (c.if-not-put_back.ensures.room refl) in
     omega (arith, many, few)
-
-pub returns-then-not-put_back-clause-inside : goal.returns-then-not-put_back-clause-inside
-returns-then-not-put_back-clause-inside c =
-    let here = here-of _ c.args.app c.self.invariant.0 (rw (← c.self.view_is) at c.requires.app) in
-    rw (← c.self.view_is, c.note_at.ensures, side-then c.self.inside.apps.items c.args.app _ _ here) refl
-
-pub returns-clause-inside : goal.returns-clause-inside
-returns-clause-inside c =
-    let here = here-of _ c.args.app c.self.invariant.0 (rw (← c.self.view_is) at c.requires.app) in
-    rw (← c.self.view_is, c.note_at-2.ensures, side-then c.self.inside.apps.items c.args.app _ _ here) refl

@@ -16,16 +16,17 @@ returns-clause-told c =
     rw (← c.self.view_is, c.note_at.ensures, side-then c.self.inside.apps.items c.args.app _ _ here)
     (told-quiet _ c.args.app _ c.self.invariant.0 here _ (ap (λ n. n == 0) many))
 
-pub returns-clause-others : goal.returns-clause-others
-returns-clause-others c = rw (← c.self.view_is, c.note_at.ensures) (others-then c.self.inside.nic c.self.inside.apps.items c.args.app _)
+pub returns-clause-only : goal.returns-clause-only
+returns-clause-only c =
+    let here = here-of _ c.args.app c.self.invariant.0 (rw (← c.self.view_is) at c.requires.app) in
+    record {
+      inside = rw (← c.self.view_is, c.note_at.ensures, side-then c.self.inside.apps.items c.args.app _ _ here) refl;
+      others = rw (← c.self.view_is, c.note_at.ensures) (others-then c.self.inside.nic c.self.inside.apps.items c.args.app _);
+      layout = rw (← c.self.view_is) refl;
+    }
 
 pub returns-clause-some : goal.returns-clause-some
 returns-clause-some c = λ no.
     let here = here-of _ c.args.app c.self.invariant.0 (rw (← c.self.view_is) at c.requires.app) in
     let many = rw c.as_slice.ensures.value at c.ring_len-quiet.ensures in
     rw (← c.self.view_is) (some-written _ c.args.app _ c.self.invariant.0 here (sym (ap (λ n. n == 0) many) ∙ no))
-
-pub returns-clause-inside : goal.returns-clause-inside
-returns-clause-inside c =
-    let here = here-of _ c.args.app c.self.invariant.0 (rw (← c.self.view_is) at c.requires.app) in
-    rw (← c.self.view_is, c.note_at.ensures, side-then c.self.inside.apps.items c.args.app _ _ here) refl

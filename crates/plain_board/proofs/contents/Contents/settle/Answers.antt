@@ -26,8 +26,14 @@ returns-clause-still c = λ settled.
     let none = raw ∙ still-settled _ c.args.app _ c.self.invariant.0 here (rw (← c.self.view_is) at settled) in
     rw none refl
 
-pub returns-clause-others : goal.returns-clause-others
-returns-clause-others c = rw (← c.self.view_is, c.note_at.ensures) (others-then c.self.inside.nic c.self.inside.apps.items c.args.app _)
+pub returns-clause-only : goal.returns-clause-only
+returns-clause-only c =
+    let here = here-of _ c.args.app c.self.invariant.0 (rw (← c.self.view_is) at c.requires.app) in
+    record {
+      inside = rw (← c.self.view_is, c.note_at.ensures, side-then c.self.inside.apps.items c.args.app _ _ here) refl;
+      others = rw (← c.self.view_is, c.note_at.ensures) (others-then c.self.inside.nic c.self.inside.apps.items c.args.app _);
+      layout = rw (← c.self.view_is) refl;
+    }
 
 pub returns-clause-raw : goal.returns-clause-raw
 returns-clause-raw c = λ no.
@@ -35,8 +41,3 @@ returns-clause-raw c = λ no.
     let here = here-of _ c.args.app c.self.invariant.0 within in
     let raw = get_or_read c.self.inside.raw.items c.args.app c.index.result.now (there-raw _ c.args.app c.self.invariant.0 within) c.index.ensures 0 in
     rw (← c.self.view_is) (raw-pushed _ c.args.app _ c.self.invariant.0 here (sym (ap (λ n. n == 0) raw) ∙ no))
-
-pub returns-clause-inside : goal.returns-clause-inside
-returns-clause-inside c =
-    let here = here-of _ c.args.app c.self.invariant.0 (rw (← c.self.view_is) at c.requires.app) in
-    rw (← c.self.view_is, c.note_at.ensures, side-then c.self.inside.apps.items c.args.app _ _ here) refl

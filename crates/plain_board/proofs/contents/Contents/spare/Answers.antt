@@ -32,8 +32,14 @@ returns-in_default-clause-held c =
     let none = rw (c.as_slice.ensures.value, c.buffers.ensures.value) at c.in_default.ensures in
     rw (← c.self.view_is) (used-reserve _ c.args.app _ c.self.invariant.0 here none.1)
 
-pub returns-in_default-clause-others : goal.returns-in_default-clause-others
-returns-in_default-clause-others c = rw (← c.self.view_is, c.note_at.ensures) (others-then c.self.inside.nic c.self.inside.apps.items c.args.app _)
+pub returns-in_default-clause-only : goal.returns-in_default-clause-only
+returns-in_default-clause-only c =
+    let here = here-of _ c.args.app c.self.invariant.0 (rw (← c.self.view_is) at c.requires.app) in
+    record {
+      inside = rw (← c.self.view_is, c.note_at.ensures, side-then c.self.inside.apps.items c.args.app _ _ here) refl;
+      others = rw (← c.self.view_is, c.note_at.ensures) (others-then c.self.inside.nic c.self.inside.apps.items c.args.app _);
+      layout = rw (← c.self.view_is) refl;
+    }
 
 -- a buffer is there
 
@@ -80,24 +86,20 @@ returns-clause-told c =
     rw (← c.self.view_is, c.note_at-2.ensures, side-then c.self.inside.apps.items c.args.app _ _ here)
     (told-got _ c.args.app c.in-Some.buffer _ _ c.self.invariant.0 here asked.here asked.due free)
 
-pub returns-clause-others : goal.returns-clause-others
-returns-clause-others c = rw (← c.self.view_is, c.note_at-2.ensures) (others-then c.self.inside.nic c.self.inside.apps.items c.args.app _)
+pub returns-clause-only : goal.returns-clause-only
+returns-clause-only c =
+    let here = here-of _ c.args.app c.self.invariant.0 (rw (← c.self.view_is) at c.requires.app) in
+    record {
+      inside = rw (← c.self.view_is, c.note_at-2.ensures, side-then c.self.inside.apps.items c.args.app _ _ here) refl;
+      others = rw (← c.self.view_is, c.note_at-2.ensures) (others-then c.self.inside.nic c.self.inside.apps.items c.args.app _);
+      layout = rw (← c.self.view_is) refl;
+    }
 
 pub returns-clause-lowest : goal.returns-clause-lowest
 returns-clause-lowest c =
     let here = here-of _ c.args.app c.self.invariant.0 (rw (← c.self.view_is) at c.requires.app) in
     let picked = rw (c.as_slice.ensures.value, c.buffers.ensures.value) at c.in-Some.ensures in
     rw (← c.self.view_is, c.new.ensures) (found-lowest _ c.args.app _ c.self.invariant.0 here c.in-Some.buffer _ picked)
-
-pub returns-in_default-clause-inside : goal.returns-in_default-clause-inside
-returns-in_default-clause-inside c =
-    let here = here-of _ c.args.app c.self.invariant.0 (rw (← c.self.view_is) at c.requires.app) in
-    rw (← c.self.view_is, c.note_at.ensures, side-then c.self.inside.apps.items c.args.app _ _ here) refl
-
-pub returns-clause-inside : goal.returns-clause-inside
-returns-clause-inside c =
-    let here = here-of _ c.args.app c.self.invariant.0 (rw (← c.self.view_is) at c.requires.app) in
-    rw (← c.self.view_is, c.note_at-2.ensures, side-then c.self.inside.apps.items c.args.app _ _ here) refl
 
 pub returns-clause-unheld : goal.returns-clause-unheld
 returns-clause-unheld c =

@@ -23,7 +23,7 @@ invariant_of-desk c =
     let mine = c.self.inside.app.side in
     let joined = c.join_seats.ensures in
     let looked = c.look_served.ensures in
-    let view : c.look_served.new.desk.me.0 ≡ both_sides desk.seat.me.0 (app_view mine) = ap (λ me. me.0) looked.me
+    let view : c.look_served.new.desk.me.0 ≡ both_sides desk.seat.me.0 (app_view mine) = ap (λ me. me.0) looked.same.me
     ∙ (ap (λ me. me.0) joined.desk ∙ ap (both_sides desk.seat.me.0) (ap (λ me. me.0) c.app.invariant.1 ∙ ap (λ (v : TheApp). app_view v.side) c.app.view_is)) in
     let keeps = c.self.invariant in
     let given = desk.nic_given ∷ map is_none desk.hands.items in
@@ -32,8 +32,8 @@ invariant_of-desk c =
       hands = keeps.rests.hands;
       lowered = keeps.rests.owes;
     } in (
-      looked.number ∙ (joined.number ∙ was.0),
-      ap (λ me. me.1) looked.me ∙ (ap (λ me. me.1) joined.desk ∙ was.1),
+      looked.same.number ∙ (joined.number ∙ was.0),
+      ap (λ me. me.1) looked.same.me ∙ (ap (λ me. me.1) joined.desk ∙ was.1),
       subst (HasDealt given) (sym view) (HasDealt-both given desk.seat.me.0 (app_view mine) refl was.2),
       was.3,
       was.4,
@@ -45,4 +45,4 @@ invariant_of-desk c =
     )
 
 pub returns-clause-served : goal.returns-clause-served
-returns-clause-served c = subst AreServed (sym (ap (λ me. me.0) c.look_served.ensures.me)) c.look_served.ensures.served
+returns-clause-served c = subst AreServed (sym (ap (λ me. me.0) c.look_served.ensures.same.me)) c.look_served.ensures.served

@@ -1,5 +1,5 @@
 -- The loan was counted, and isn't any more.
-use Rattle.std.proofs.Common.{rules}
+use Rattle.std.proofs.Common.{arith, rules}
 use Rattle.board_face.specs.AppCalls.{HasLoan}
 use Rattle.word_board.proofs.SparesKept.{loan-there, loan-counted, AppKeeps-abandoned}
 use Rattle.word_board.proofs.app_seat.AppSeatAppFace.abandon.Goals as goal
@@ -18,3 +18,6 @@ pub invariant_of-self : goal.invariant_of-self
 invariant_of-self c =
     let out : HasLoan c.self.inside.app.side.view c.place-place.result = search rules in
     let did = c.abandon_loan.ensures in rw (did, c.lower.ensures.counts) (AppKeeps-abandoned _ _ _ _ _ _ _ c.self.invariant _ out)
+
+pub abandon_loan-requires-clause-reserve : goal.abandon_loan-requires-clause-reserve
+abandon_loan-requires-clause-reserve c = record { within = grind arith; own = grind arith }

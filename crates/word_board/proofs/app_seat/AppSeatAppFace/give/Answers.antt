@@ -1,6 +1,6 @@
-use Rattle.std.proofs.Common.{sym, ◌∙◌, ap, subst, refl}
+use Rattle.std.proofs.Common.{◌<◌, arith, sym, ◌∙◌, ap, subst, refl}
 use Rattle.board_face.specs.{AppCalls.{HasLoan}, declared.views.{app.AppLook.TheVariants.{RefillInUse}, parts.Setting.{Setting}}, NotNow.{HasWrittenRingful}}
-use Rattle.word_board.{specs.Board.{TheApp}, proofs.{AppKept.{loan-lies, loan-some, kept-saw, kept-gave}, Implied.{full-written}}}
+use Rattle.word_board.{specs.Board.{TheApp}, proofs.{AppKept.{entry-within, loan-lies, loan-some, kept-saw, kept-gave}, Implied.{full-written}}}
 use Rattle.word_board.proofs.app_seat.AppSeatAppFace.give.Goals as goal
 
 pub off_of-requires : goal.off_of-requires
@@ -49,3 +49,14 @@ pub returns-then-not-give_entry-clause-full : goal.returns-then-not-give_entry-c
 returns-then-not-give_entry-clause-full c =
     subst (λ (s : TheApp). HasWrittenRingful s.side.view) c.self.view_is
     (full-written _ c.self.inside.app.side.view (c.if-not-give_entry.ensures.told refl))
+
+pub give_entry-requires-clause-slot : goal.give_entry-requires-clause-slot
+give_entry-requires-clause-slot c =
+    let hand = c.self.inside.hand in
+    let setting = c.self.inside.app.board.setting in
+    let places = c.places-places.ensures.value ∙ ap (λ (s : Setting). s.places) c.map-2.ensures in
+    let some : 0 < setting.places = omega (arith, places, c.places-places.ensures.some) in
+    record {
+      within = entry-within setting c.self.inside.app.side hand.note hand.entry hand.raw c.self.invariant.slots some;
+      next = c.self.invariant.slots.next_entry;
+    }

@@ -4,13 +4,13 @@ use Rattle.word_board.{proofs.{app_seat.AppSeatAppFace.poll.Goals.{in_default, i
 use Rattle.board_face.specs.{AppEvents.{app_gist}, Looks.{AppTold}, declared.views.parts.Setting.{Setting}}
 use Rattle.word_board.proofs.app_seat.AppSeatAppFace.poll.Goals as goal
 
-pub poll-polled-requires-clause-within : goal.poll-polled-requires-clause-within
-poll-polled-requires-clause-within c =
+pub poll-polled-requires : goal.poll-polled-requires
+poll-polled-requires c =
     let hand = c.self.inside.hand in
     let places = ap (λ (s : Setting). s.places) c.map.ensures in
     let within = note-within c.self.inside.app.board.setting c.self.inside.app.side hand.note hand.entry hand.raw c.self.invariant.slots
     (omega (arith, places, c.places-places.ensures.value, c.places-places.ensures.some)) in
-    omega (arith, within, places)
+    record { slot = record { within = omega (arith, within, places); next = c.self.invariant.slots.next_note } }
 
 pub invariant_of-self : goal.invariant_of-self
 invariant_of-self c =

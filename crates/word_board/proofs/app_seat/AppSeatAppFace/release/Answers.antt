@@ -16,3 +16,6 @@ invariant_of-self c =
     let setting = c.self.inside.app.board.setting in
     let keeps = kept-released setting mine hand.note hand.entry hand.raw hand.loans.items hand.filled.items c.self.invariant c.place.result in
     rw c.release_piece.ensures keeps
+
+pub release_piece-requires-clause-bare : goal.release_piece-requires-clause-bare
+release_piece-requires-clause-bare c = record { set = c.self.invariant.set; hands = c.self.invariant.rests.hands }

@@ -1,7 +1,7 @@
 -- A spare is given whose buffer holds nothing of the application.
-use Rattle.std.proofs.Common.{refl, ap, sym, subst}
+use Rattle.std.proofs.Common.{arith, refl, ap, sym, subst}
 use Rattle.area_layout.specs.Layout.{IsLayout}
-use Rattle.board_face.{proofs.TokenLemmas.{FitsBuffer-fresh}, specs.{declared.views.app.AppSide.{AppSide}, AppEvents.{app_saw, app_gist}, Looks.{AppTold}}}
+use Rattle.board_face.{proofs.TokenLemmas.{FitsBuffer-fresh}, specs.{declared.views.app.AppSide.{AppSide}, AppCalls.{MaySpare}, AppEvents.{app_saw, app_gist}, Looks.{AppTold}}}
 use Rattle.board_face.{specs.{NotNow.{HasUsedReserve}, declared.views.{parts.Setting.{Setting}, app.AppLook.TheVariants.{NoSpare}}}, proofs.LookLemmas.{AppTold-one}}
 use Rattle.word_board.{specs.{Board.{TheApp}, Told.{AppTells}}, proofs.{SparesKept.{given-there, AppKeeps-got_spare}, AppKept.{kept-saw}, Implied.{used-reserve}}}
 use Rattle.word_board.proofs.Telling.{told-spare, if-none}
@@ -26,6 +26,19 @@ invariant_of-self-2 c =
     let same = ap (λ (s : Setting). s.layout) c.map.ensures in
     let sound : IsLayout c.self.inside.app.board.setting.layout = subst IsLayout same c.layout-layout.ensures.sound in
     rw (did.board, did.event.event, c.put.ensures) (AppKeeps-got_spare _ _ _ _ _ _ _ c.self.invariant c.in_ok-buffer.buffer got.apart got.buffer sound)
+
+pub take_spare-requires-clause-bare : goal.take_spare-requires-clause-bare
+take_spare-requires-clause-bare c = record { set = c.self.invariant.set; hands = c.self.invariant.rests.hands }
+
+pub take_spare-requires-clause-reserve : goal.take_spare-requires-clause-reserve
+take_spare-requires-clause-reserve c = record { within = grind arith; own = grind arith }
+
+pub take_spare-requires-clause-may : goal.take_spare-requires-clause-may
+take_spare-requires-clause-may c = record {
+  sound = subst IsLayout (ap (λ (s : Setting). s.layout) c.map.ensures) c.layout-layout.ensures.sound;
+  due = subst (λ (s : TheApp). MaySpare s.side.view) (sym c.self.view_is) c.requires.due;
+  given = c.self.invariant.rests.given;
+}
 
 -- no spare is there
 

@@ -16,9 +16,9 @@ loop-buffer-init c =
     let setting = ap (λ (d : TheDesk). d.board.setting) c.desk.view_is
     ∙ (ap (λ (b : TheBoard). b.setting) c.requires.desk ∙ sym (ap (λ (b : TheBoard). b.setting) c.self.view_is)) in
     record {
-      table = c.look_unheld.ensures.table;
-      number = c.look_unheld.ensures.number;
-      me = c.look_unheld.ensures.me;
+      table = c.look_unheld.ensures.same.table;
+      number = c.look_unheld.ensures.same.number;
+      me = c.look_unheld.ensures.same.me;
       many = refl;
       one = λ b less. absurd (omega (arith, less));
       none = λ b past. ap (count_by (nat_eq b)) cache
@@ -56,9 +56,9 @@ loop-buffer-preserved c =
       c.loop-buffer-test.true,
     ) in
     record {
-      table = c.look_listed.ensures.table ∙ h.table;
-      number = c.look_listed.ensures.number ∙ h.number;
-      me = c.look_listed.ensures.me ∙ h.me;
+      table = c.look_listed.ensures.same.table ∙ h.table;
+      number = c.look_listed.ensures.same.number ∙ h.number;
+      me = c.look_listed.ensures.same.me ∙ h.me;
       many = length-set c.loop-buffer.listed.items n c.look_listed.result ∙ h.many;
       one = λ b less. looked-more desk.cache.items c.loop-buffer.listed.items n c.look_listed.result there h.one
           (ap (count_by (nat_eq n)) cache ∙ c.look_listed.ensures.listed) b (omega (arith, less));

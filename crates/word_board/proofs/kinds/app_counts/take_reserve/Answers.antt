@@ -14,10 +14,10 @@ step-requires-clause-may c = app-may (
       step = λ ws nic apps rule here small.
           let law = c.app_keeps_the_rule.ensures setting ws nic apps mine takes_reserve rule here
           (c.requires.searched, c.requires.free, c.requires.due, c.requires.here) in
-          let own : reserve_of mine.view ≡ c.args.reserve = sym c.requires.own in (
+          let own : reserve_of mine.view ≡ c.args.reserve = sym c.requires.reserve.own in (
             subst (λ b. MakesWords setting ws c.pool-word.result ((get_or (table_of ws) c.pool-word.result 0 + 1) % 2 ^ 64) nic
                 (set apps mine.view.app (side_spare_begun mine b))) own
-                (raises setting ws (reserve_of mine.view) c.pool-word.result (cc) (omega (arith, own, c.requires.within)) rule (omega (arith, law.finds.1)) law.rule),
+                (raises setting ws (reserve_of mine.view) c.pool-word.result (cc) (omega (arith, own, c.requires.reserve.within)) rule (omega (arith, law.finds.1)) law.rule),
             subst (λ b. HasNoneIn mine.view b) own law.finds.0,
           );
     })

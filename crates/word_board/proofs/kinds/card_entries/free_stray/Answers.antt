@@ -11,8 +11,8 @@ step-requires-clause-may c = card-may (λ n. refl) (λ ws apps rule small.
     let a = c.args.app in
     let s = takes_entry_at setting mine a in
     let i : ℕ = 0 in
-    let within : s < setting.places = subst (λ k. k < setting.places) c.requires.next c.requires.within in
+    let within : s < setting.places = subst (λ k. k < setting.places) c.requires.entry.at.next c.requires.entry.at.within in
     let next : ℕ → NicSide = λ n. side_dealt mine a c.args.entry Stray in
     let law = c.card_keeps_the_rule.ensures setting ws mine apps (frees_stray a c.args.entry) rule
-    (c.requires.app, c.requires.seen, c.requires.in_hand) in
-    (stores-refill setting ws a s i c.refill-word.result (cc) c.requires.app within (omega arith) rule 0 law.rule, tt))
+    (c.requires.entry.at.here, c.requires.entry.seen, c.requires.entry.in_hand) in
+    (stores-refill setting ws a s i c.refill-word.result (cc) c.requires.entry.at.here within (omega arith) rule 0 law.rule, tt))

@@ -24,8 +24,9 @@ step_as-found-requires-clause-allows c =
     (of-word setting board.words (b / word_bits) i at_word within board.rule told
     (free-there law setting s board desk.id desk.me.0 at c.requires.over all b of_pool)))
 
-pub returns-clause-me : goal.returns-clause-me
-returns-clause-me c = c.step_as-found.ensures.me
+pub returns-clause-same : goal.returns-clause-same
+returns-clause-same c =
+    let did = c.step_as-found.ensures in record { table = did.table; number = did.number; me = did.me }
 
 one-of-both : (listed : Bool) (n : ℕ) → n + (if listed then 1 else 0) ≡ 1 → n ≡ (if listed then 0 else 1)
 one-of-both true n one = omega (arith, one)

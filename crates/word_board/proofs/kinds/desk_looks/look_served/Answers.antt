@@ -16,8 +16,9 @@ step_as-requires-clause-allows c =
       known-there law setting s board desk.id desk.me.0 at c.requires.over,
     ))
 
-pub returns-clause-me : goal.returns-clause-me
-returns-clause-me c = c.step_as.ensures.me
+pub returns-clause-same : goal.returns-clause-same
+returns-clause-same c =
+    let did = c.step_as.ensures in record { table = did.table; number = did.number; me = did.me }
 
 pub returns-clause-one : goal.returns-clause-one
 returns-clause-one c = c.step_as.ensures.told.0

@@ -20,8 +20,9 @@ step_as-requires-clause-allows c =
       served-there law setting s board desk.id desk.me.0 at c.requires.over,
     ))
 
-pub returns-clause-me : goal.returns-clause-me
-returns-clause-me c = c.step_as.ensures.me
+pub returns-clause-same : goal.returns-clause-same
+returns-clause-same c =
+    let did = c.step_as.ensures in record { table = did.table; number = did.number; me = did.me }
 
 pub returns-clause-holders : goal.returns-clause-holders
 returns-clause-holders c = c.step_as.ensures.told.0

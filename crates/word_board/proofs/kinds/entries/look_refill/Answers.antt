@@ -11,7 +11,7 @@ step-requires-clause-may c = app-may (
     let a = mine.view.app in
     let s = writes_entry_at setting mine in
     let at : c.refill-word.result ≡ refill_at setting a s 0 = cc in
-    let within : s < setting.places = subst (λ k. k < setting.places) c.requires.next c.requires.within in
+    let within : s < setting.places = subst (λ k. k < setting.places) c.requires.slot.next c.requires.slot.within in
     let next : ℕ → AppSide = λ n. side_refill_looked mine (n == 0) in
     record {
       number = λ n. refill_looked-number mine (n == 0);

@@ -9,13 +9,13 @@ step-requires-clause-may c = app-may (
     let mine = c.args.app.now.side in
     let a = mine.view.app in
     let s = writes_entry_at setting mine in
-    let within : s < setting.places = subst (λ k. k < setting.places) c.requires.next c.requires.within in
+    let within : s < setting.places = subst (λ k. k < setting.places) c.requires.entry.at.next c.requires.entry.at.within in
     record {
       number = λ n. refl;
       making = λ n. refl;
       step = λ ws nic apps rule here small.
           let law = c.app_keeps_the_rule.ensures setting ws nic apps mine (gives c.args.place) rule here
-          (c.requires.out, c.requires.seen, c.requires.words, c.requires.fits, c.requires.unread) in (
+          (c.requires.out, c.requires.entry.seen, c.requires.entry.words, c.requires.entry.fits, c.requires.unread) in (
             stores-refill setting ws a s 0 c.refill-word.result (cc) c.number.ensures.here within (omega arith) rule 1 law.rule,
             tt,
           );

@@ -11,7 +11,7 @@ step-requires-clause-may c = app-may (
     let a = mine.view.app in
     let s = writes_entry_at setting mine in
     let i = 1 + length mine.inside.refill_slot.words in
-    let within : s < setting.places = subst (λ k. k < setting.places) c.requires.next c.requires.within in
+    let within : s < setting.places = subst (λ k. k < setting.places) c.requires.slot.next c.requires.slot.within in
     let more = subst (λ k. k < refill_width) c.requires.so_far c.requires.more in
     record {
       number = λ n. refl;

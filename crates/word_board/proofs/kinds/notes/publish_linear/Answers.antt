@@ -11,9 +11,9 @@ step-requires-clause-may c = card-may (λ n. refl) (λ ws apps rule small.
     let a = c.args.app in
     let s = writes_note_at setting mine a in
     let i : ℕ = 0 in
-    let within : s < setting.places = subst (λ k. k < setting.places) c.requires.next c.requires.within in
-    let words_are = c.requires.words in
+    let within : s < setting.places = subst (λ k. k < setting.places) c.requires.note.at.next c.requires.note.at.within in
+    let words_are = c.requires.note.words in
     let next : ℕ → NicSide = λ n. side_sent_linear mine a c.args.note c.args.bytes.now in
     let law = c.card_keeps_the_rule.ensures setting ws mine apps (sends_linear a c.args.note c.args.bytes.now) rule
-    (c.requires.app, c.requires.fields, c.requires.bytes, c.requires.seen, words_are, c.requires.fits, c.requires.running) in
-    (stores-note setting ws a s i c.note-word.result (cc) c.requires.app within (omega arith) rule 1 law.rule, tt))
+    (c.requires.note.at.here, c.requires.fields, c.requires.bytes, c.requires.note.seen, words_are, c.requires.note.fits, c.requires.running) in
+    (stores-note setting ws a s i c.note-word.result (cc) c.requires.note.at.here within (omega arith) rule 1 law.rule, tt))

@@ -12,8 +12,8 @@ step-requires-clause-may c = card-may (λ n. refl) (λ ws apps rule small.
     let a = c.args.app in
     let s = writes_note_at setting mine a in
     let i : ℕ = note_words_at mine a in
-    let within : s < setting.places = subst (λ k. k < setting.places) c.requires.next c.requires.within in
+    let within : s < setting.places = subst (λ k. k < setting.places) c.requires.slot.next c.requires.slot.within in
     let more = subst (λ k. k < note_width) c.requires.so_far c.requires.more in
     let next : ℕ → NicSide = λ n. side_note_stored mine a c.args.n in
-    let law = c.card_keeps_the_rule.ensures setting ws mine apps (stores_note a c.args.n) rule (c.requires.app, c.requires.seen, more) in
-    (stores-note setting ws a s i c.note-word.result (cc) c.requires.app within more rule c.args.n law.rule, tt))
+    let law = c.card_keeps_the_rule.ensures setting ws mine apps (stores_note a c.args.n) rule (c.requires.slot.here, c.requires.seen, more) in
+    (stores-note setting ws a s i c.note-word.result (cc) c.requires.slot.here within more rule c.args.n law.rule, tt))

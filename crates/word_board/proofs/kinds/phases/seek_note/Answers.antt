@@ -13,7 +13,7 @@ step-requires-clause-may c = app-may (
     let s = takes_note_at setting mine in
     let i : ℕ = 0 in
     let at : c.note-word.result ≡ note_at setting a s i = cc in
-    let within : s < setting.places = subst (λ k. k < setting.places) c.requires.next c.requires.within in
+    let within : s < setting.places = subst (λ k. k < setting.places) c.requires.slot.next c.requires.slot.within in
     let next : ℕ → AppSide = λ n. side_note_sought mine (n == 1) in
     record {
       number = λ n. note_sought-number mine (n == 1);

@@ -8,28 +8,31 @@ use Rattle.word_board.proofs.kinds.scrubs.scrub_counts.Goals as goal
 pub loop-buffer-init : goal.loop-buffer-init
 loop-buffer-init c = (
   refl,
-  IsScrubbedBelow-none _ _ (omega (arith, c.requires.few)) c.requires.counted c.requires.unbegun c.requires.lists c.requires.clear,
+  IsScrubbedBelow-none _ _ (omega (arith, c.requires.few)) c.requires.begins.can.counted c.requires.begins.unbegun
+      c.requires.begins.lists c.requires.begins.clear,
 )
 
-pub scrub_one-requires-clause-next : goal.scrub_one-requires-clause-next
-scrub_one-requires-clause-next c = ap (λ s. s.inside.scrub_mark) c.loop-buffer.invariant.1.event
-
-pub scrub_one-requires-clause-set : goal.scrub_one-requires-clause-set
-scrub_one-requires-clause-set c = ap (λ s. s.view.setting) c.loop-buffer.invariant.1.event
-    ∙ (c.requires.set ∙ sym (ap (λ (b : TheBoard). b.setting) c.loop-buffer.invariant.0))
-
 pub scrub_one-requires-clause-bare : goal.scrub_one-requires-clause-bare
-scrub_one-requires-clause-bare c = ap (λ s. s.inside.hands) c.loop-buffer.invariant.1.event ∙ c.requires.bare
+scrub_one-requires-clause-bare c = record {
+  set = ap (λ s. s.view.setting) c.loop-buffer.invariant.1.event
+      ∙ (c.requires.bare.set ∙ sym (ap (λ (b : TheBoard). b.setting) c.loop-buffer.invariant.0));
+  hands = ap (λ s. s.inside.hands) c.loop-buffer.invariant.1.event ∙ c.requires.bare.hands;
+}
 
-pub scrub_one-requires-clause-quiet : goal.scrub_one-requires-clause-quiet
-scrub_one-requires-clause-quiet c = ap (λ s. s.view.quiet) c.loop-buffer.invariant.1.event ∙ c.requires.quiet
-
-pub scrub_one-requires-clause-lent : goal.scrub_one-requires-clause-lent
-scrub_one-requires-clause-lent c = ap (λ s. s.view.loans) c.loop-buffer.invariant.1.event ∙ c.requires.lent
-
-pub scrub_one-requires-clause-counted : goal.scrub_one-requires-clause-counted
-scrub_one-requires-clause-counted c = ap (λ s. s.view.scrubbed) c.loop-buffer.invariant.1.event
-    ∙ not-eqb c.loop-buffer.buffer (total c.args.app.now.board.setting.layout) (λ e. absurd (omega (arith, e, c.loop-buffer-test.true, c.requires.all)))
+pub scrub_one-requires-clause-at : goal.scrub_one-requires-clause-at
+scrub_one-requires-clause-at c =
+    let is = c.loop-buffer.invariant.1.event in
+    let can = c.requires.begins.can in
+    record {
+      within = omega (arith, c.loop-buffer-test.true, c.requires.all, ap (λ (b : TheBoard). total b.setting.layout) c.loop-buffer.invariant.0);
+      next = ap (λ s. s.inside.scrub_mark) is;
+      can = record {
+        quiet = ap (λ s. s.view.quiet) is ∙ can.quiet;
+        loans = ap (λ s. s.view.loans) is ∙ can.loans;
+        counted = ap (λ s. s.view.scrubbed) is
+            ∙ not-eqb c.loop-buffer.buffer (total c.args.app.now.board.setting.layout) (λ e. absurd (omega (arith, e, c.loop-buffer-test.true, c.requires.all)));
+      };
+    }
 
 pub scrub_one-requires-clause-lists : goal.scrub_one-requires-clause-lists
 scrub_one-requires-clause-lists c =
@@ -42,7 +45,7 @@ scrub_one-requires-clause-clear c = c.loop-buffer.invariant.1.clear c.loop-buffe
 pub loop-buffer-preserved : goal.loop-buffer-preserved
 loop-buffer-preserved c = (
   c.scrub_one.ensures.board ∙ c.loop-buffer.invariant.0,
-  IsScrubbedBelow-more _ _ _ _ c.loop-buffer.buffer c.requires.set
+  IsScrubbedBelow-more _ _ _ _ c.loop-buffer.buffer c.requires.bare.set
       (omega (arith, c.loop-buffer-test.true, c.requires.all)) c.loop-buffer.invariant.1 c.scrub_one.ensures.event,
 )
 
@@ -54,5 +57,5 @@ returns-clause-event c =
       c.loop-buffer.auto.buffer-end,
       c.requires.all,
     ) in
-    IsScrubbedBelow-all c.args.app.now.board.setting _ _ c.requires.set
+    IsScrubbedBelow-all c.args.app.now.board.setting _ _ c.requires.bare.set
     (subst (IsScrubbedBelow c.args.app.now.board.setting c.args.app.now.side c.loop-buffer.app.side) whole c.loop-buffer.invariant.1)

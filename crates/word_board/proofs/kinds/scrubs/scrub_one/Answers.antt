@@ -10,5 +10,5 @@ returns-else-n-gt0-clause-event c =
     let is : c.scrub_user-n.new.app.side ≡ side_user_taken mine c.args.buffer n = ap (λ (me : TheApp). me.side) c.scrub_user-n.ensures in
     record {
       took = 0;
-      event = is ∙ took-nothing _ mine c.args.buffer n (omega (arith, c.if-n-gt0.false)) c.requires.lists c.requires.within c.requires.clear;
+      event = is ∙ took-nothing _ mine c.args.buffer n (omega (arith, c.if-n-gt0.false)) c.requires.lists c.requires.at.within c.requires.clear;
     }

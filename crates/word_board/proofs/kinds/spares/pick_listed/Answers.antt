@@ -1,5 +1,5 @@
 use Rattle.std.proofs.Common.{refl, ap, sym, ◌∙◌, arith, subst}
-use Rattle.area_layout.specs.Layout.{pool_buffers}
+use Rattle.area_layout.specs.Layout.{IsLayout, pool_buffers}
 use Rattle.board_face.specs.{AppCalls.{MaySpare}, Used.{PicksAreGiven}, AppEvents.{app_gist}}
 use Rattle.word_board.{specs.{Board.{TheApp, TheBoard}, Told.{SawWithout, IsLowestSeen}}, proofs.Searching.{IsSearching-more, seen-more}}
 use Rattle.word_board.proofs.kinds.spares.pick_listed.Goals as goal
@@ -11,11 +11,15 @@ loop-word-init c = (
   λ j small. absurd (omega (arith, small)),
 )
 
-pub pick_in_word-requires-clause-due : goal.pick_in_word-requires-clause-due
-pick_in_word-requires-clause-due c = subst (λ x. MaySpare x.view) (sym c.loop-word.invariant.1.event) c.requires.due
-
-pub pick_in_word-requires-clause-given : goal.pick_in_word-requires-clause-given
-pick_in_word-requires-clause-given c = subst PicksAreGiven (sym c.loop-word.invariant.1.event) c.requires.given
+pub pick_in_word-requires-clause-may : goal.pick_in_word-requires-clause-may
+pick_in_word-requires-clause-may c =
+    let is = sym c.loop-word.invariant.1.event in
+    let may = c.requires.may in
+    record {
+      sound = subst (λ (b : TheBoard). IsLayout b.setting.layout) (sym c.loop-word.invariant.0) may.sound;
+      due = subst (λ x. MaySpare x.view) is may.due;
+      given = subst PicksAreGiven is may.given;
+    }
 
 pub loop-word-preserved : goal.loop-word-preserved
 loop-word-preserved c =

@@ -15,7 +15,7 @@ returns-clause-event c =
           ∙ ap (λ hs. record {
             view = got_spare old.view b;
             inside = record old.inside { hands = hs; words_without = []; reserve_seen_free = false };
-          }) (hands-once b old.inside.hands c.requires.bare));
+          }) (hands-once b old.inside.hands c.requires.bare.hands));
       of_pool = found.of_pool;
       apart = record { helds = apart.helds; loans = apart.loans; spares = apart.spares };
     }

@@ -11,9 +11,9 @@ take_reserve-requires-clause-searched c =
 
 pub returns-clause-told : goal.returns-clause-told
 returns-clause-told c =
-    let set = ap (λ (s : Setting). pool_buffers s.layout) c.requires.set in record {
+    let set = ap (λ (s : Setting). pool_buffers s.layout) c.requires.bare.set in record {
       word = free_words_of c.args.app.now.board.setting;
       before = c.in_default.ensures.told;
-      there = λ inside. absurd (omega (arith, inside, c.requires.own, set));
+      there = λ inside. absurd (omega (arith, inside, c.requires.reserve.own, set));
       nowhere = λ _. omega arith;
     }

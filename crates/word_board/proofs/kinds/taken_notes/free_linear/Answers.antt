@@ -11,7 +11,7 @@ step-requires-clause-may c = app-may (
     let a = mine.view.app in
     let s = takes_note_at setting mine in
     let i : ℕ = 0 in
-    let within : s < setting.places = subst (λ k. k < setting.places) c.requires.next c.requires.within in
+    let within : s < setting.places = subst (λ k. k < setting.places) c.requires.slot.next c.requires.slot.within in
     let next : ℕ → AppSide = λ n. side_took_linear mine (loaded_note mine) (loaded_bytes mine) in
     record {
       number = λ n. refl;

@@ -1,6 +1,6 @@
-use Rattle.std.proofs.{Common.{◌≡◌, ℕ, ◌+◌, ◌<◌, length, take, drop, ap, sym, ◌∙◌, arith}, lemmas.List.{length-take-le, take_all}}
+use Rattle.std.proofs.{Common.{◌≡◌, ℕ, ◌+◌, ◌<◌, length, take, drop, ap, sym, ◌∙◌, arith, refl}, lemmas.List.{length-take-le, take_all}}
 use Rattle.board_face.specs.SlotSteps.{seen_with, at_slot, side_slot_loaded}
-use Rattle.word_board.{specs.Board.{TheApp}, proofs.NoteLoaded.{still-full, still-long, one-loaded}}
+use Rattle.word_board.{specs.Board.{TheApp}, proofs.{NoteLoaded.{still-full, still-long, one-loaded}, AtHandKept.{still-takes-note}}}
 use Rattle.word_board.proofs.kinds.taken_notes.load_fields.Goals as goal
 
 pub load_slot-requires-clause-so_far : goal.load_slot-requires-clause-so_far
@@ -31,3 +31,6 @@ returns-clause-event c =
     c.loop-k.invariant.0
     ∙ ap (λ words. (record c.args.app.now { side = at_slot c.args.app.now.side (seen_with words) }))
     (take_all c.loop-k.k rest (omega (arith, c.loop-k-test.false, c.loop-k.invariant.2)))
+
+pub load_slot-requires-clause-slot : goal.load_slot-requires-clause-slot
+load_slot-requires-clause-slot c = still-takes-note c.requires.slot c.loop-k.invariant.0 refl

@@ -1,7 +1,7 @@
 use Rattle.std.proofs.Common.{◌≡◌, ℕ, ◌+◌, ◌<◌, [], ◌∷◌, ◌++◌, length, take, append_assoc, ap, sym, ◌∙◌, arith}
-use Rattle.std.proofs.lemmas.List.{length-take-le, length-append, length-set, take_more_set}
+use Rattle.std.proofs.{lemmas.List.{length-take-le, length-append, length-set, take_more_set}, Common.{refl}}
 use Rattle.board_face.specs.SlotSteps.{seen_with, at_slot, side_slot_loaded}
-use Rattle.word_board.specs.Board.{TheApp}
+use Rattle.word_board.{specs.Board.{TheApp}, proofs.AtHandKept.{still-takes-note}}
 use Rattle.word_board.proofs.kinds.taken_notes.load_payload.Goals as goal
 
 pub load_slot-requires-clause-so_far : goal.load_slot-requires-clause-so_far
@@ -27,3 +27,6 @@ loop-k-preserved c =
           (append_assoc fields (take k payload) (n ∷ []) ∙ ap (λ ws. fields ++ ws) (sym (take_more_set payload k n within)))),
       length-set payload k n ∙ c.loop-k.invariant.1,
     )
+
+pub load_slot-requires-clause-slot : goal.load_slot-requires-clause-slot
+load_slot-requires-clause-slot c = still-takes-note c.requires.slot c.loop-k.invariant.0 refl

@@ -12,7 +12,7 @@ step-requires-clause-may c = app-may (
     let a = mine.view.app in
     let s = takes_note_at setting mine in
     let i : ℕ = 1 + length mine.inside.note_slot.words in
-    let within : s < setting.places = subst (λ k. k < setting.places) c.requires.next c.requires.within in
+    let within : s < setting.places = subst (λ k. k < setting.places) c.requires.slot.next c.requires.slot.within in
     let more = subst (λ k. k < note_width) c.requires.so_far c.requires.more in
     let next : ℕ → AppSide = λ n. side_slot_loaded mine n in
     record {

@@ -15,9 +15,9 @@ step-requires-clause-may c = app-may (
       making = λ n. refl;
       step = λ ws nic apps rule here small.
           let law = c.app_keeps_the_rule.ensures setting ws nic apps mine (scrubs c.args.buffer) rule here
-          (c.requires.within, c.requires.next, c.requires.quiet, c.requires.lent, c.requires.counted) in (
-            clears-user setting ws mine.view.app c.args.buffer c.user-word.result at c.number.ensures.here c.requires.within rule
-                (of-user setting ws mine.view.app c.args.buffer c.user-word.result at c.number.ensures.here c.requires.within rule (λ n. BoardRule setting
+          (c.requires.at.within, c.requires.at.next, c.requires.at.can.quiet, c.requires.at.can.loans, c.requires.at.can.counted) in (
+            clears-user setting ws mine.view.app c.args.buffer c.user-word.result at c.number.ensures.here c.requires.at.within rule
+                (of-user setting ws mine.view.app c.args.buffer c.user-word.result at c.number.ensures.here c.requires.at.within rule (λ n. BoardRule setting
                 (with_user ws mine.view.app c.args.buffer 0) nic (set apps mine.view.app (next n))) law.rule),
             tt,
           );

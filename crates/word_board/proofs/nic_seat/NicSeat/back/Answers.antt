@@ -26,7 +26,7 @@ invariant_of-desk c =
     let card : seat.me.0 ≡ card_view mine = ap (λ me. me.0) c.card.invariant.1 ∙ ap (λ (v : TheNic). card_view v.side) c.card.view_is in
     let before : c.join_seats.new.desk.me.0 ≡ both_sides desk.seat.me.0 (card_view mine) = ap (λ me. me.0) joined.desk
     ∙ ap (both_sides desk.seat.me.0) card in
-    let view : c.look_served.new.desk.me.0 ≡ both_sides desk.seat.me.0 (card_view mine) = ap (λ me. me.0) looked.me ∙ before in
+    let view : c.look_served.new.desk.me.0 ≡ both_sides desk.seat.me.0 (card_view mine) = ap (λ me. me.0) looked.same.me ∙ before in
     let keeps = c.self.invariant.1 in
     let given = desk.nic_given ∷ map is_none desk.hands.items in
     let over : CardIsOver mine = record {
@@ -34,8 +34,8 @@ invariant_of-desk c =
       hands = keeps.rests.hands;
     } in
     let one : length (desk.seat.me.0.nics ++ mine ∷ []) ≤ 1 = subst (λ (v : View). length v.nics ≤ 1) before looked.one in (
-      looked.number ∙ (joined.number ∙ was.0),
-      ap (λ me. me.1) looked.me ∙ (ap (λ me. me.1) joined.desk ∙ was.1),
+      looked.same.number ∙ (joined.number ∙ was.0),
+      ap (λ me. me.1) looked.same.me ∙ (ap (λ me. me.1) joined.desk ∙ was.1),
       subst (HasDealt given) (sym view) (HasDealt-both given desk.seat.me.0 (card_view mine) refl was.2),
       was.3,
       was.4,
@@ -47,4 +47,4 @@ invariant_of-desk c =
     )
 
 pub returns-clause-served : goal.returns-clause-served
-returns-clause-served c = subst AreServed (sym (ap (λ me. me.0) c.look_served.ensures.me)) c.look_served.ensures.served
+returns-clause-served c = subst AreServed (sym (ap (λ me. me.0) c.look_served.ensures.same.me)) c.look_served.ensures.served

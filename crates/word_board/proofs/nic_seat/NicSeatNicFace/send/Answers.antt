@@ -2,17 +2,30 @@
 use Rattle.std.{proofs.Common.{◌≡◌, ◌≤◌, ◌+◌, ◌*◌, ◌%◌, [], length, get_or, set as set_at, refl, ap, sym, ◌∙◌, subst, arith}, specs.Prelude.{if◌then◌else◌, false}}
 use Rattle.board_face.specs.{NicEvents.{sent, text_at}, NotNow.{HasSentRingful}, SlotSteps.{side_sent, side_note_looked}, declared.views.nic.SentNote.{SentNote}}
 use Rattle.board_face.specs.declared.views.parts.Setting.{Setting}
-use Rattle.word_board.{specs.Board.{TheNic}, proofs.{CardKeeps.{NicKeeps-sent, note-within, few-apps, own-app}, Implied.{full-sent}, LeftKept.{KnowsLeft-sent}}}
+use Rattle.word_board.{specs.Board.{TheNic}, proofs.{CardKeeps.{NicKeeps-sent, note-within, few-apps, own-app}, Implied.{full-sent}, LeftKept.{KnowsLeft-sent, next-left}}}
 use Rattle.word_board.proofs.nic_seat.NicSeatNicFace.send.Goals as goal
 
 pub bounds-self-inside-app : goal.bounds-self-inside-app
 bounds-self-inside-app c = few-apps _ _ c.self.invariant.0 (own-app _ _ _ c.args.app c.self.invariant.1.set c.self.view_is c.requires.app)
 
-pub send_note-requires-clause-within : goal.send_note-requires-clause-within
-send_note-requires-clause-within c =
+pub send_note-requires-clause-slot : goal.send_note-requires-clause-slot
+send_note-requires-clause-slot c =
     let me = c.self.inside in
-    note-within me.card.board.setting me.card.side me.hand.cache.items me.hand.notes me.hand.entries c.self.invariant.1 c.args.app c.self.invariant.0
-    (own-app _ _ _ c.args.app c.self.invariant.1.set c.self.view_is c.requires.app)
+    let here = own-app _ _ _ c.args.app c.self.invariant.1.set c.self.view_is c.requires.app in
+    record {
+      here = here;
+      within = note-within me.card.board.setting me.card.side me.hand.cache.items me.hand.notes me.hand.entries c.self.invariant.1 c.args.app
+          c.self.invariant.0 here;
+      next = c.self.invariant.1.next_notes c.args.app here;
+    }
+
+pub send_note-requires-clause-left : goal.send_note-requires-clause-left
+send_note-requires-clause-left c =
+    let me = c.self.inside in
+    let here = own-app _ _ _ c.args.app c.self.invariant.1.set c.self.view_is c.requires.app in
+    let left = next-left me.card.board.setting me.card.side me.hand.filled.counts c.self.invariant.2 c.args.app here c.self.invariant.0.places in
+    let is = c.of-left.ensures ∙ ap (λ n. get_or me.hand.filled.counts (256 * c.args.app + n) 0) (c.self.invariant.1.next_notes c.args.app here) in
+    record { unstored = c.self.invariant.2.unstored c.args.app; few = rw is left.0; blank = rw is left.1 }
 
 pub bounds-self-inside-app-2 : goal.bounds-self-inside-app-2
 bounds-self-inside-app-2 c = few-apps _ _ c.self.invariant.0 (own-app _ _ _ c.args.app c.self.invariant.1.set c.self.view_is c.requires.app)

@@ -20,3 +20,6 @@ invariant_of-self c =
           c.cache_if.new.cache.items (free ∙ ap (λ p. last && nat_lt own.buffer p) pool) c.cache_if.ensures,
       c.self.invariant.2,
     )
+
+pub shut_buffer-last-requires-clause-bare : goal.shut_buffer-last-requires-clause-bare
+shut_buffer-last-requires-clause-bare c = record { set = c.self.invariant.1.set; hands = c.self.invariant.1.rests.hands }

@@ -10,8 +10,8 @@ returns-in_default-take_turn-clause-again g c =
 pub returns-in_default-take_turn-clause-same : goal.returns-in_default-take_turn-clause-same
 returns-in_default-take_turn-clause-same g c =
     rw (c.yield_now.ensures.pending, ← c.in-Some.ensures.value) (λ came ends. (
-      ends.0 ∙ c.take_turn.ensures.beside,
+      ends.0 ∙ c.take_turn.ensures.seat.board,
       λ first losses stands.
-          subst (λ app. IsLastTurn first losses (g.C.Carrier.got came.2) (g.C.Carrier.counts came.2) app (g.F.AppFace.seen came.1) came.0) c.take_turn.ensures.same
+          subst (λ app. IsLastTurn first losses (g.C.Carrier.got came.2) (g.C.Carrier.counts came.2) app (g.F.AppFace.seen came.1) came.0) c.take_turn.ensures.seat.app
           (ends.1 first losses (c.in_default-take_turn.ensures.gives first losses stands)),
     ))

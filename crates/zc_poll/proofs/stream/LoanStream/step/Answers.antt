@@ -2,31 +2,16 @@ use Rattle.std.proofs.Common.{◌≡◌, ◌+◌, ◌-◌, refl, sym, subst, ◌
 use Rattle.zc_poll.{specs.Standing.{NoneInOrder}, proofs.Passing.{passed-then, passed-still, stepped-then}}
 use Rattle.zc_poll.proofs.stream.LoanStream.step.Goals as goal
 
-pub returns-in-Some-take_note-clause-steps : goal.returns-in-Some-take_note-clause-steps
-returns-in-Some-take_note-clause-steps g c =
+pub returns-in-Some-take_note-clause-stepped : goal.returns-in-Some-take_note-clause-stepped
+returns-in-Some-take_note-clause-stepped g c =
     let takes = c.in-Some-take_note.ensures.takes in
-    let stepped = stepped-then _ _ _ _ _ _ _ c.loop-left.invariant.0 c.in-Some-take_note.step takes.1 takes.0 in
-    stepped.steps
+    stepped-then _ _ _ _ _ _ _ c.loop-left.invariant.0 c.in-Some-take_note.step takes.1 takes.0
 
-pub returns-in-Some-take_note-clause-only : goal.returns-in-Some-take_note-clause-only
-returns-in-Some-take_note-clause-only g c =
-    let takes = c.in-Some-take_note.ensures.takes in
-    let stepped = stepped-then _ _ _ _ _ _ _ c.loop-left.invariant.0 c.in-Some-take_note.step takes.1 takes.0 in
-    stepped.only
-
-pub returns-in-Some-offer-clause-steps : goal.returns-in-Some-offer-clause-steps
-returns-in-Some-offer-clause-steps g c =
+pub returns-in-Some-offer-clause-stepped : goal.returns-in-Some-offer-clause-stepped
+returns-in-Some-offer-clause-stepped g c =
     let offers = c.in-Some-offer.ensures.offers in
     let passed = passed-then _ _ _ _ _ _ _ _ _ refl c.loop-left.invariant.0 c.in_default-take_note.ensures.takes in
-    let stepped = stepped-then _ _ _ _ _ _ _ passed c.in-Some-offer.step offers.1 offers.0 in
-    stepped.steps
-
-pub returns-in-Some-offer-clause-only : goal.returns-in-Some-offer-clause-only
-returns-in-Some-offer-clause-only g c =
-    let offers = c.in-Some-offer.ensures.offers in
-    let passed = passed-then _ _ _ _ _ _ _ _ _ refl c.loop-left.invariant.0 c.in_default-take_note.ensures.takes in
-    let stepped = stepped-then _ _ _ _ _ _ _ passed c.in-Some-offer.step offers.1 offers.0 in
-    stepped.only
+    stepped-then _ _ _ _ _ _ _ passed c.in-Some-offer.step offers.1 offers.0
 
 pub loop-left-preserved : goal.loop-left-preserved
 loop-left-preserved g c =
