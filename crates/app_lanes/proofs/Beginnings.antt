@@ -1,7 +1,7 @@
 -- An application that has taken no turn: its part of the run begins.
 use Rattle.std.proofs.Common.{◌≡◌, ℕ, List, Option, ap, subst}
 use Rattle.board_face.specs.{Opened.{new_app}, declared.views.{app.AppSide.{AppSide}, parts.Setting.{Setting}}}
-use Rattle.card_feed.specs.{Plan.{TakesTurns, how_of}, declared.plan.Plan.{Plan}}
+use Rattle.card_feed.specs.{Plan.{TakesTurns}, declared.plan.Plan.{Plan}}
 use Rattle.run_account.{specs.{Behind.{begins}, Running.{IsNew, WorkerRuns}}, proofs.{Leaving.{behaves-so}, NewWorkers.{new-fits, new-runs}}}
 use Rattle.app_lanes.specs.{declared.seated.Turning.{Turning}, Seated.{Begins}}
 use Rattle.app_lanes.specs.declared.seated.Seated.TheVariants as seated

@@ -56,16 +56,19 @@ pub record GaveSeats (old new : TheDesk) (board : TheBoard) : Type 0 where
   pub nics : new.view.nics ≡ old.view.nics
   pub apps : new.view.apps ≡ old.view.apps
 
--- No application's seat is back. What is back is of its board, and the card was served by all that are.
-pub record AwaitsApps (desk : TheDesk) : Type 0 where
-  pub apps : desk.view.apps ≡ []
+-- What is back is of its board, and the card was served by all that are.
+pub record IsInOrder (desk : TheDesk) : Type 0 where
   pub served : AreServed desk.view
   pub known : AreOfBoard desk.board.setting desk.view
 
--- The seats of these applications are back, and else it is as it was. What is back is of its board, and the card was served by all that are.
+-- No application's seat is back.
+pub record AwaitsApps (desk : TheDesk) : Type 0 where
+  pub apps : desk.view.apps ≡ []
+  pub order : IsInOrder desk
+
+-- The seats of these applications are back, and else it is as it was.
 pub record TookApps (old new : TheDesk) (sides : List AppSide) : Type 0 where
   pub board : new.board ≡ old.board
   pub nics : new.view.nics ≡ old.view.nics
   pub apps : new.view.apps ≡ sides
-  pub served : AreServed new.view
-  pub known : AreOfBoard new.board.setting new.view
+  pub order : IsInOrder new

@@ -76,11 +76,11 @@ pub record Front : Type 0 where
   pub most : ℕ
   pub flow : ℕ
 
-abbrev pub first_bytes : Lending → ℕ → ℕ → Front
-first_bytes lending most flow = record { lending = lending; most = most; flow = flow }
+abbrev pub as_front : Lending → ℕ → ℕ → Front
+as_front lending most flow = record { lending = lending; most = most; flow = flow }
 
 -- Nothing happened but that bytes were read, and at `Ok` each of these was.
-pub record ReadsFront {T E : Type 0} (old new : AppView) (front : Front) (result : Result T E) : Type 0 where
+pub record ReadsThrough {T E : Type 0} (old new : AppView) (front : Front) (result : Result T E) : Type 0 where
   pub only : OnlyReads old new
   pub through : OnOk result (IsReadUpTo new.reads (lent_piece old.taken front.lending) front.most)
 

@@ -2,7 +2,7 @@
 ghost use Rattle.std.specs.Prelude.{◌≡◌, ◌≢◌, ℕ, ◌≤◌, [], ◌∷◌, ◌++◌, length, ◌||◌, ◌==◌};
 ghost use Rattle.completion_ring.specs.Ring.{ring};
 ghost use Rattle.board_face.specs.{AppCalls.{HasPlace}, AppEvents.{app_gist, reserve_of}, declared.views.app.HeldPiece.{HeldPiece}};
-ghost use Rattle.flow_queues.specs.{Core.{total, over_kept}, Lent.{CanLend, IsBacked}};
+ghost use Rattle.flow_queues.specs.{Core.{total, over_kept}, Lent.{MayLendNext, IsBacked}};
 ghost use Rattle.app_worker.specs.Steps.{Delivered, IsSoOfDelivery, completion_of};
 ghost use Rattle.zr_kinds.specs.Limits.{longest_payload};
 
@@ -50,7 +50,7 @@ pub fn deliver<F: AppFace>(
     copied: &mut u64,
     flush: &mut bool,
 ) -> Delivery
-    requires can { CanLend (F.seen face.old) }
+    requires can { MayLendNext (F.seen face.old) }
     requires out { (f : HeldPiece → ℕ)
         → over_kept f own.old.queue ≤ total f (F.seen face.old).helds }
     requires backed { IsBacked (F.seen face.old) own.old.queue }

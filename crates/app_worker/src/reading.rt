@@ -4,7 +4,7 @@ ghost use Rattle.area_layout.specs.Layout.{judged};
 ghost use Rattle.zr_io.specs.Moved.{HasCause, raised_by};
 ghost use Rattle.board_face.specs.{AppCalls.{IsHere, IsLive, AppOnlySaw}, AppEvents.{app_gist, pushed_raw}, declared.views.app.AppLook.TheVariants.{RefillInUse}};
 ghost use Rattle.flow_queues.specs.Core.{LieApart, IsIn, lent_piece};
-ghost use Rattle.app_worker.specs.Steps.{MayRead, first_bytes, ReadsFront, CountsFront, AppendsFront, Given, KeptDue, NotKept, MayPush, Pushes};
+ghost use Rattle.app_worker.specs.Steps.{MayRead, as_front, ReadsThrough, CountsFront, AppendsFront, Given, KeptDue, NotKept, MayPush, Pushes};
 
 use crate::stack::Stray;
 use board_face::AppFace;
@@ -30,11 +30,11 @@ pub fn read_loan<F: AppFace, T: Shelf>(
     requires may { MayRead (F.seen face.old) lending.now }
     requires part { most ≤ lending.now.loan.len }
     requires room { bytes.old + most < 2 ^ 64 }
-    ensures reads { ReadsFront (F.seen face.old) (F.seen face.new)
-        (first_bytes lending.now most flow) result }
+    ensures reads { ReadsThrough (F.seen face.old) (F.seen face.new)
+        (as_front lending.now most flow) result }
     ensures counted { CountsFront most bytes.old bytes.new result }
     ensures kept { AppendsFront (F.seen face.old) (F.seen face.new) (T.kept shelf.old)
-        (T.kept shelf.new) (first_bytes lending.now most flow) (bytes.new - bytes.old) result }
+        (T.kept shelf.new) (as_front lending.now most flow) (bytes.new - bytes.old) result }
     ensures cause { HasCause (T.counts shelf.old).faults (T.counts shelf.new).faults result }
     ensures appended { (T.counts shelf.new).appended
         ≡ raised_by (T.counts shelf.old).appended (bytes.new - bytes.old) }

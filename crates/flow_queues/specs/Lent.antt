@@ -13,7 +13,7 @@ is_short (InArea p) = false
 is_short (Copied s) = true
 
 -- it has neither left nor scrubbed, what it holds lies apart, and it owns no buffer that it hasn't lent
-pub record CanLend (v : AppView) : Type 0 where
+pub record MayLendNext (v : AppView) : Type 0 where
   pub holds : HoldsApart v
   pub counted : v.scrubbed ≡ false
   pub owns : v.owns ≡ []

@@ -2,7 +2,7 @@
 ghost use Rattle.std.specs.Prelude.{◌≡◌, true, false, ℕ, ◌≤◌, None, MatchOption};
 ghost use Rattle.board_face.specs.{AppEvents.{app_gist}, declared.views.app.{AppLook.TheVariants.{NoSpare}, HeldPiece.{HeldPiece}}};
 ghost use Rattle.flow_queues.specs.Core.{HoldsApart, total, over_kept, IsOfNote, Each, lent_piece, is_copy};
-ghost use Rattle.flow_queues.specs.Lent.{CanLend, IsBacked, IsNext, IsSoOfNext, LentNext, LendsNext, SawNoSpare};
+ghost use Rattle.flow_queues.specs.Lent.{MayLendNext, IsBacked, IsNext, IsSoOfNext, LentNext, LendsNext, SawNoSpare};
 
 use crate::queues::{FlowQueue, Lending, Short, Waiting};
 use board_face::AppFace;
@@ -53,7 +53,7 @@ fn lend_piece<F: AppFace>(face: &mut F, own: &mut FlowQueue) -> Lending
 /// Copies the bytes that are next in the stream into a spare, and lends that. `None` says that no buffer is free, and the
 /// reserve is held.
 fn lend_copy<F: AppFace>(face: &mut F, own: &mut FlowQueue) -> Option<Lending>
-    requires can { CanLend (F.seen face.old) }
+    requires can { MayLendNext (F.seen face.old) }
     requires settled { (F.seen face.old).settled ≡ true }
     requires backed { IsBacked (F.seen face.old) own.old.queue }
     requires next { IsNext true own.old.queue }
@@ -85,7 +85,7 @@ fn lend_copy<F: AppFace>(face: &mut F, own: &mut FlowQueue) -> Option<Lending>
 
 /// Lends what is next in the stream. Bytes that came with their note are copied into a spare for that.
 pub fn lend_next<F: AppFace>(face: &mut F, own: &mut FlowQueue) -> Next
-    requires can { CanLend (F.seen face.old) }
+    requires can { MayLendNext (F.seen face.old) }
     requires out { (f : HeldPiece → ℕ)
         → over_kept f own.old.queue ≤ total f (F.seen face.old).helds }
     requires backed { IsBacked (F.seen face.old) own.old.queue }

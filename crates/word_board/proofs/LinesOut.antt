@@ -205,9 +205,6 @@ module _ (first count skip room : ℕ) (lines : List (List ℕ)) (many : length 
         head-of (first + length was.behind) line was.ahead (numbered first was.behind) me.1 was.slots
         (omega (arith, was.next less, ahead-many, enough, less)) was.line_is
 
-    pub few-lines : done < room → line < first + count
-    few-lines less = omega (arith, was.line_is, was.next less, ahead-many, enough, less)
-
     pub read-on : (more : ℕ) (me' : Me (List ℕ) View) (here part into' : List ℕ) → done < room → length into ≡ room
         → more ≡ min (64 - from) (room - done) → part ≡ take more (drop from here) → into' ≡ put_mid done more into part
         → me.1 ≡ (line, here) ∷ rest me.1 → me' ≡ (me.0, rest me.1 ++ (line, here) ∷ [])

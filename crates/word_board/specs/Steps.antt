@@ -3,7 +3,7 @@ use Rattle.std.specs.Prelude.{◌≡◌, [], ℕ, ◌+◌, ◌-◌, ◌%◌, bit
 use Rattle.board_face.specs.{Sides.{IsApp}, declared.views.{parts.Setting.{Setting}, nic.NicSide.{NicSide}, app.AppSide.{AppSide}}}
 use Rattle.ref_words.specs.{declared.view.View.{View}, Words.{Words, table_of, phase_at}, Lines.{joined, HaveText}, Rule.{BoardRule}}
 use Rattle.atomic_table.specs.Table.{Me, Allows}
-use Rattle.word_board.specs.{declared.steps.Op.{Op, TheVariants.{Load, Swap, Add, Sub, Or, And}}, Board.{IsBoard, TheSeat, TheNic, TheApp}, Lines.{numbered, TookLines}}
+use Rattle.word_board.specs.{declared.steps.Op.{Op, TheVariants.{Load, Swap, Add, Sub, Or, And}}, Board.{IsBoard, TheSeat, TheApp}, Lines.{numbered, TookLines}}
 
 -- what a step makes of the number that it finds
 abbrev pub made_by : Op → ℕ → ℕ
@@ -27,14 +27,8 @@ pub record MakesWords (setting : Setting) (words : Words) (i m : ℕ) (nic : Nic
 abbrev pub word_in : Words → ℕ → ℕ
 word_in words i = slice_index (table_of words) i
 
--- The card may step on the word i, so that f of the number there stands there, its side is the next by that number, and this is told. The
--- lines that it has out stay out.
-pub record MayCard (card : TheNic) (i : ℕ) (f : ℕ → ℕ) (next : ℕ → NicSide) (told : ℕ → Type 0) : Type 0 where
-  pub making : (n : ℕ) → (next n).inside.making ≡ card.side.inside.making
-  pub step : (words : Words) (apps : List AppSide) → BoardRule card.board.setting words card.side apps → word_in words i < 2 ^ 64
-      → MakesWords card.board.setting words i (f (word_in words i)) (next (word_in words i)) apps × told (word_in words i)
-
--- So may an application, which stays the one that it is.
+-- An application may step on the word i, so that f of the number there stands there, its side is the next by that number, and this is
+-- told. It stays the one that it is, and the lines that it has out stay out.
 pub record MayApp (app : TheApp) (i : ℕ) (f : ℕ → ℕ) (next : ℕ → AppSide) (told : ℕ → Type 0) : Type 0 where
   pub number : (n : ℕ) → (next n).view.app ≡ app.side.view.app
   pub making : (n : ℕ) → (next n).inside.making ≡ app.side.inside.making
@@ -42,7 +36,7 @@ pub record MayApp (app : TheApp) (i : ℕ) (f : ℕ → ℕ) (next : ℕ → App
       → word_in words i < 2 ^ 64
       → MakesWords app.board.setting words i (f (word_in words i)) nic (slice_set apps app.side.view.app (next (word_in words i))) × told (word_in words i)
 
--- And so the table allows the step to a seat of the role that has this side, and what the seat knows of its side stays so.
+-- The table allows a step to a seat of the role that has this side, and what the seat knows of its side stays so.
 pub record MayStep {Side : Type 0} (view_of : Side → View) (Stays : Side → Side → Type 0) (seat : TheSeat Side) (i : ℕ) (f : ℕ → ℕ) (next : ℕ → Side)
     (told : ℕ → Type 0) : Type 0 where
   pub stays : (n : ℕ) → Stays seat.side (next n)

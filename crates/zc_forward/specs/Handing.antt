@@ -3,7 +3,7 @@ use Rattle.std.specs.Prelude.{◌≡◌, ◌<◌, ℕ, ◌+◌, false, length, N
 use Rattle.zr_kinds.specs.declared.place.Place.{Place}
 use Rattle.board_face.specs.declared.views.app.{LentPiece.{LentPiece}, AppView.{AppView}}
 use Rattle.flow_queues.specs.Core.{total}
-use Rattle.zc_poll.specs.{Counting.{HasRoom}, Standing.{Desk, HoldsLoan}}
+use Rattle.zc_poll.specs.{Counting.{HasRoomForFlows}, Standing.{Desk, HoldsLoan}}
 use Rattle.zc_forward.specs.{Tags.{Tags}, Sending.{OutboxState, most_out, of_sent, tags_of}}
 
 -- the stream hasn't ended, no loan is due, and more may go out
@@ -20,4 +20,4 @@ pub record CanHand (w : OutboxState) (st : Desk) (tags : Tags) (v : AppView) (lo
   pub due : w.tally.due ≡ None
   pub carried : w.uncarried ≡ None
   pub few : length w.out < most_out
-  pub counted : HasRoom w.tally
+  pub counted : HasRoomForFlows w.tally

@@ -30,8 +30,8 @@ abbrev pub MayTurn : Sight → Type 0
 MayTurn at = (first : ℕ → Option (List ℕ)) × (losses : ShelfCounts) × StandsSince first losses at
 
 -- this is told at its end
-abbrev pub TellsOf : Sight → Poured → Type 0
-TellsOf at = Tells at.work at.desk at.carrier.tags at.carrier.got at.carrier.counts at.view
+abbrev pub TellsAt : Sight → Poured → Type 0
+TellsAt at = Tells at.work at.desk at.carrier.tags at.carrier.got at.carrier.counts at.view
 
 -- What a turn makes of it.
 pub record ForwardMakes (is_so : AppLook → Type 0) (was now : Sight) (ran : PollTurn) : Type 0 where

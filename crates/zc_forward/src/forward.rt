@@ -5,7 +5,7 @@ ghost use Rattle.board_face.specs.AppEvents.{app_gist};
 ghost use Rattle.zc_poll.specs.{Fresh.{HasDoneNothing, new_desk}, Standing.{StreamStands}};
 ghost use Rattle.zc_poll.specs.{Polls.{AsksAgain}, PourTurns.{pour_end}, Stops.{HasStopped, quit_by}, declared.to_shelf.Poured.{Poured as Told}};
 ghost use Rattle.zc_forward.specs.{GivenUp.{Halts}, Seats.{SameSeat, streaming}, Carrying.{Cancels, carrying}, Sending.{new_outbox}, Turns.{Asks}};
-ghost use Rattle.zc_forward.specs.Sights.{MayTurn, ForwardMakes, PollMakes, StandsSince, TellsOf, sight_of, stage_at};
+ghost use Rattle.zc_forward.specs.Sights.{MayTurn, ForwardMakes, PollMakes, StandsSince, TellsAt, sight_of, stage_at};
 ghost use Rattle.zr_io.specs.Moved.{ShelfCounts};
 
 use crate::asking::{ask, poll_ask};
@@ -156,16 +156,16 @@ impl<F: AppFace + Drop, C: Carrier + Drop> Future for Forward<F, C> {
     ghost needs = { λ _ _. ⊤ };
 
     /// What a last turn gives and does.
-    ghost gives = { λ s. TellsOf (sight_of F.seen (carrying C.got C.tags C.counts C.pace) s) };
+    ghost gives = { λ s. TellsAt (sight_of F.seen (carrying C.got C.tags C.counts C.pace) s) };
 
     /// One turn, which asks for a notice by `poll_notice`.
     fn poll(&mut self, cx: &mut Context<'_>) -> Poll<Poured>
         requires { let at = sight_of F.seen (carrying C.got C.tags C.counts C.pace) in
             MayTurn (at self.old) }
         ensures value { let at = sight_of F.seen (carrying C.got C.tags C.counts C.pace) in
-            IfReady result (TellsOf (at self.old)) }
+            IfReady result (TellsAt (at self.old)) }
         ensures same { let at = sight_of F.seen (carrying C.got C.tags C.counts C.pace) in
-            OnPending result ((x : Told) → TellsOf (at self.new) x → TellsOf (at self.old) x) }
+            OnPending result ((x : Told) → TellsAt (at self.new) x → TellsAt (at self.old) x) }
         ensures again { let at = sight_of F.seen (carrying C.got C.tags C.counts C.pace) in
             OnPending result (MayTurn (at self.new)) }
         ensures wakes { AsksAgain cx.old cx.new result }

@@ -8,7 +8,7 @@ use Rattle.zr_kinds.specs.CopyingReceiver.{Placed, nothing_placed, values_from}
 use Rattle.tcp_reorder.{specs.{Queue.{IsSound, next_of}, Values.{Holds}}, proofs.Holding.{IsPopped, Holds-popped}}
 use Rattle.flow_queues.specs.{declared.queues.{Lending.{Lending}, FlowQueue.{FlowQueue}}, Marks.{Mark, FramesStandTogether, marks_of}}
 use Rattle.flow_queues.specs.Core.{total, Each, many, IsIn, lent_piece, is_copy, one_copy, origin_in, over_waiting, held_len, short_len, over_kept, over_read, short_bytes, unsplit_len, own_notes, BeginAt, received_notes, placed_of, marks_of_waiting, marks_of_loan, IsOfNote, FlowStands, Stands}
-use Rattle.flow_queues.specs.{Lent.{CanLend, IsBacked, LentNext, SawNoSpare, spares_of}, declared.queues.Waiting.{Waiting, TheVariants.{InArea, Copied}}}
+use Rattle.flow_queues.specs.{Lent.{MayLendNext, IsBacked, LentNext, SawNoSpare, spares_of}, declared.queues.Waiting.{Waiting, TheVariants.{InArea, Copied}}}
 use Rattle.flow_queues.proofs.{Tokens.{total-append, in-contains, that-loan, is_that_loan, is-lent-there, loan-some}, Lends.{over-first, short-first, each-first}}
 use Rattle.flow_queues.proofs.{Entering.{marks-length}, Placing.{values-length, values-split}, NotesStay.{note-there}}
 use Rattle.flow_queues.proofs.Standing.{At, split-at, flow-out, each-right, each-changed, is_number, number-is, total-changed, many-same}
@@ -328,7 +328,7 @@ module _ (was : Desk) (v : AppView) (stands : StreamStands was v) (on : was.stop
   going-now : Going was v
   going-now = stands.going on more
 
-  pub next-can : CanLend v
+  pub next-can : MayLendNext v
   next-can = record {
     holds = record { here = stands.common.here; apart = stands.common.apart };
     counted = going-now.stands.counted;

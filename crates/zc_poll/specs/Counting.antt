@@ -23,7 +23,7 @@ abbrev pub new_tally : ℕ → TallyState
 new_tally room = record { due = None; written = 0; loans = 0; copied = 0; stopped = stop.No; counts = []; flows = []; room = room }
 
 -- the list of flows is empty, and has room for each flow of which bytes are counted
-pub record HasRoom (w : TallyState) : Type 0 where
+pub record HasRoomForFlows (w : TallyState) : Type 0 where
   pub room : length w.counts ≤ w.room
   pub empty : w.flows ≡ []
 

@@ -1,7 +1,7 @@
 //! What pouring keeps beside its stream and its shelf.
 ghost use Rattle.std.specs.{Prelude.{◌≡◌, ◌+◌, ◌-◌, ◌^◌, ◌<◌, min, length, OnOk, OnErr, IsSome}, Ordering.{nat_cmp}, BTreeMap.{get}};
 ghost use Rattle.flow_queues.specs.Ends.{bytes_in};
-ghost use Rattle.zc_poll.specs.{Counting.{AddsTo, HasRoom, item_counted}, TallyOf.{tally_of}};
+ghost use Rattle.zc_poll.specs.{Counting.{AddsTo, HasRoomForFlows, item_counted}, TallyOf.{tally_of}};
 
 use board_face::Loan;
 use std::alloc::AllocError;
@@ -25,12 +25,12 @@ pub struct PourTally {
 
 /// Asks for what the count of a flow takes, where there is none yet.
 pub fn make_room(work: &mut PourTally, flow: u32) -> Result<(), AllocError>
-    requires room { HasRoom (tally_of work.old) }
+    requires room { HasRoomForFlows (tally_of work.old) }
     ensures same { work.new ≡ record work.old { counts = work.new.counts; flows = work.new.flows } }
     ensures none { AddsTo flow 0 work.old.counts.entries work.new.counts.entries }
     ensures there { OnOk result (IsSome (get nat_cmp work.new.counts flow)) }
     ensures stays { OnErr result (work.new.counts.entries ≡ work.old.counts.entries) }
-    ensures room { HasRoom (tally_of work.new) }
+    ensures room { HasRoomForFlows (tally_of work.new) }
 {
     if work.counts.contains_key(&flow) {
         return Ok(());

@@ -3,7 +3,7 @@ ghost use Rattle.std.specs.{Prelude.{◌≡◌, ◌≢◌, ℕ, ◌<◌, List, [
 ghost use Rattle.zr_io.specs.Moved.{Gained, ShelfCounts};
 ghost use Rattle.board_face.specs.{AppEvents.{abandoned}, declared.views.app.AppView.{AppView}};
 ghost use Rattle.flow_queues.specs.{declared.queues.Lending.{Lending}, Core.{IsIn, lent_piece, OnlyReads, IsReadOf}};
-ghost use Rattle.zc_poll.specs.{Standing.{Desk, StreamStands, HoldsLoan, StaysAt, stopped_with}, Items.{Given, HasGiven}, Steps.{IsItem, OnlySteps}, Counting.{HasRoom}, Pouring.{CountsAppends, PourStands}, PourTurns.{IsRead}, TallyOf.{tally_of}};
+ghost use Rattle.zc_poll.specs.{Standing.{Desk, StreamStands, HoldsLoan, StaysAt, stopped_with}, Items.{Given, HasGiven}, Steps.{IsItem, OnlySteps}, Counting.{HasRoomForFlows}, Pouring.{CountsAppends, PourStands}, PourTurns.{IsRead}, TallyOf.{tally_of}};
 
 use crate::counting::{PourTally, count, count_item, make_room};
 use crate::step::Lent;
@@ -80,7 +80,7 @@ pub fn pour<F: AppFace, T: Shelf>(
 ) -> Option<Loan>
     requires holds { HoldsLoan stream.old.desk (F.seen stream.old.face) lent.loan }
     requires none { work.old.due ≡ None }
-    requires room { HasRoom (tally_of work.old) }
+    requires room { HasRoomForFlows (tally_of work.old) }
     ensures pours { (first : ℕ → Option (List ℕ)) (losses : ShelfCounts) (st : Desk) (v : AppView)
         → PourStands first losses (tally_of work.old) st (T.kept shelf.old) (T.counts shelf.old) v
         → IsItem st stream.old.desk v (F.seen stream.old.face) lent

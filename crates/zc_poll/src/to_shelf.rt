@@ -3,7 +3,7 @@ ghost use Rattle.std.specs.{Prelude.{◌≡◌, ◌≢◌, ◌<◌, ℕ, List, [
 ghost use Rattle.board_face.specs.{AppCalls.{HasLoan}, AppEvents.{app_gist}, declared.views.app.AppView.{AppView}};
 ghost use Rattle.flow_queues.specs.Core.{Each};
 ghost use Rattle.zr_kinds.specs.declared.{behaviour.Stopped.TheVariants.{No}, place.Place.{Place}};
-ghost use Rattle.zc_poll.specs.{Counting.{HasRoom, new_tally}, Standing.{Desk, StreamStands, HoldsLoan, StaysAt, MayLeave}, Fresh.{HasDoneNothing, new_desk}, Pouring.{CanTurn, PourStands}, PourTurns.{HadItem, IsTold, PourGives, PourStage, ScrubsFirst, ScrubsIfQuiet, StepDoes, TurnDoes, PollPours, PollDoes, pour_stage}, Steps.{IsItem, OnlySteps}, TallyOf.{tally_of}};
+ghost use Rattle.zc_poll.specs.{Counting.{HasRoomForFlows, new_tally}, Standing.{Desk, StreamStands, HoldsLoan, StaysAt, MayLeave}, Fresh.{HasDoneNothing, new_desk}, Pouring.{CanTurn, PourStands}, PourTurns.{HadItem, IsTold, PourGives, PourStage, ScrubsFirst, ScrubsIfQuiet, StepDoes, TurnDoes, PollPours, PollDoes, pour_stage}, Steps.{IsItem, OnlySteps}, TallyOf.{tally_of}};
 ghost use Rattle.zc_poll.specs.{Polls.{AsksAgain, Tells}, PourTurns.{TellsCounts, pour_end}, Stops.{HasStopped, IsStill, quit_by, without_due}, declared.to_shelf.Poured.{Poured as Told}};
 ghost use Rattle.futures.specs.Poll.{IfReady, OnPending};
 ghost use Rattle.zr_io.specs.Moved.{ShelfCounts};
@@ -58,7 +58,7 @@ pub enum PollTurn {
 
 /// What was written, once nothing comes any more.
 pub fn told(work: &mut PourTally, alloc: Global) -> Poured
-    requires room { HasRoom (tally_of work.old) }
+    requires room { HasRoomForFlows (tally_of work.old) }
     ensures tells { TellsCounts (tally_of work.old) result }
     ensures some { Each (λ f. 0 < f.1) result.flows.items }
     ensures ascending { IsStrictlySortedBy nat_cmp (keys_of result.flows.items) }
@@ -109,7 +109,7 @@ fn give_back<F: AppFace>(stream: &mut LoanStream<F>, work: &mut PourTally, loan:
 fn close<F: AppFace>(stream: &mut LoanStream<F>, work: &mut PourTally) -> PollTurn
     requires may { MayLeave stream.old.desk (F.seen stream.old.face) }
     requires due { work.old.due ≡ None }
-    requires room { HasRoom (tally_of work.old) }
+    requires room { HasRoomForFlows (tally_of work.old) }
     ensures gives { (first kept : ℕ → Option (List ℕ)) (losses now : ShelfCounts)
         → PourStands first losses (tally_of work.old) stream.old.desk kept now
         (F.seen stream.old.face)
@@ -166,7 +166,7 @@ fn pour_item<F: AppFace, T: Shelf>(
 )
     requires holds { HoldsLoan stream.old.desk (F.seen stream.old.face) lent.loan }
     requires none { work.old.due ≡ None }
-    requires room { HasRoom (tally_of work.old) }
+    requires room { HasRoomForFlows (tally_of work.old) }
     ensures pours { (first : ℕ → Option (List ℕ)) (losses : ShelfCounts) (st : Desk) (v : AppView)
         → PourStands first losses (tally_of work.old) st (T.kept shelf.old) (T.counts shelf.old) v
         → IsItem st stream.old.desk v (F.seen stream.old.face) lent
@@ -194,7 +194,7 @@ fn take_step<F: AppFace, T: Shelf>(
     requires stands { StreamStands stream.old.desk (F.seen stream.old.face) }
     requires more { stream.old.desk.ended ≡ false }
     requires none { work.old.due ≡ None }
-    requires room { HasRoom (tally_of work.old) }
+    requires room { HasRoomForFlows (tally_of work.old) }
     ensures gives { (first : ℕ → Option (List ℕ)) (losses : ShelfCounts)
         → PourStands first losses (tally_of work.old) stream.old.desk (T.kept shelf.old)
         (T.counts shelf.old) (F.seen stream.old.face)

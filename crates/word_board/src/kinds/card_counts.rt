@@ -1,4 +1,4 @@
-ghost use Rattle.std.specs.Prelude.{◌≡◌, ◌+◌, ◌<◌, ◌≤◌, [], ◌∷◌, ◌++◌, None, Some};
+ghost use Rattle.std.specs.Prelude.{◌≡◌, ◌+◌, ◌<◌, [], ◌∷◌, ◌++◌, Some};
 ghost use Rattle.area_layout.specs.Layout.{total};
 ghost use Rattle.board_face.specs.{NicCalls.{IsOpen, HasOwn, HasNothingIn}, NicEvents.{took}, Sides.{nic_at}, Steps.{side_shut, side_both_lowered}, declared.views.nic.Judged.TheVariants.{UserLowered}};
 

@@ -1,7 +1,7 @@
 -- At first nothing was taken. Each turn keeps the board and the number of the application, so that at the end both seats are back.
 use Rattle.std.proofs.Common.{◌≡◌, refl, sym, ap, ◌∙◌}
 use Rattle.area_layout.specs.Layout.{Shape}
-use Rattle.board_face.specs.{NicCalls.{apps_of}, Opened.{new_nic, new_app}, declared.views.parts.Setting.{Setting}}
+use Rattle.board_face.specs.{NicCalls.{apps_of}, Opened.{new_nic, new_app}}
 use Rattle.word_board.specs.Board.{gave_role, new_desk}
 use Rattle.app_runs.proofs.{Seats.{all-back}, forward.forwards.Goals.{After-new-work, in-Did, in-Idle}}
 use Rattle.app_runs.proofs.forward.forwards.Goals as goal

@@ -1,6 +1,6 @@
 use Rattle.std.proofs.Common.{rules, ◌≡◌, subst}
 use Rattle.board_face.specs.{AppEvents.{came_to_rest}, declared.views.app.AppView.{AppView}}
-use Rattle.flow_queues.{specs.{Core.{HoldsApart, LieApart, lent_piece, is_copy}, Lent.{CanLend, IsBacked, LentNext}}, proofs.Copying.{from-rest}}
+use Rattle.flow_queues.{specs.{Core.{HoldsApart, LieApart, lent_piece, is_copy}, Lent.{MayLendNext, IsBacked, LentNext}}, proofs.Copying.{from-rest}}
 use Rattle.flow_queues.proofs.lending.lend_next.Goals as goal
 
 pub returns-then-not-is_short-clause-lends : goal.returns-then-not-is_short-clause-lends
@@ -28,7 +28,7 @@ returns-in-Some-lend_copy-clause-lends g c =
 pub lend_copy-requires-clause-can : goal.lend_copy-requires-clause-can
 lend_copy-requires-clause-can g c =
     let view : g.F.AppFace.seen c.settle.new.self ≡ came_to_rest (g.F.AppFace.seen c.args.face.now) = search rules in
-    let can : CanLend (g.F.AppFace.seen c.args.face.now) = c.requires.can in
+    let can : MayLendNext (g.F.AppFace.seen c.args.face.now) = c.requires.can in
     let apart : LieApart (g.F.AppFace.seen c.args.face.now) = can.holds.apart in
     rw view (record {
       holds = record { here = can.holds.here; apart = record { once = apart.once; some = apart.some } };

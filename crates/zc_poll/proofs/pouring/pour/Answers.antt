@@ -1,11 +1,11 @@
 use Rattle.std.{specs.Prelude.{None, Option}, proofs.Common.{rules, ◌≡◌, ◌<◌, Bool, vec_capacity, Some, refl, sym, ap, subst, ◌∙◌}}
 use Rattle.zr_kinds.specs.declared.place.Place.{Place}
-use Rattle.zc_poll.specs.{Standing.{Desk, StreamStands}, Items.{HasGiven}, Pouring.{PourStands}, Counting.{TallyState, AddsTo, HasRoom, item_counted}, TallyOf.{tally_of}}
+use Rattle.zc_poll.specs.{Standing.{Desk, StreamStands}, Items.{HasGiven}, Pouring.{PourStands}, Counting.{TallyState, AddsTo, HasRoomForFlows, item_counted}, TallyOf.{tally_of}}
 use Rattle.zc_poll.{specs.declared.counting.PourTally.{PourTally as Kept}, proofs.{ItemPoured.{Roomy}, Pours.{wants, fails, wrote}, PourTurns.{only-reads-none}}}
 use Rattle.zc_poll.proofs.pouring.pour.Goals as goal
 
 is-roomy : (u v w : Kept) (copied : Bool) → tally_of v ≡ item_counted (tally_of u) copied → w ≡ record v { counts = w.counts; flows = w.flows }
-    → HasRoom (tally_of w) → Roomy (item_counted (tally_of u) copied) (tally_of w)
+    → HasRoomForFlows (tally_of w) → Roomy (item_counted (tally_of u) copied) (tally_of w)
 is-roomy u v w copied counted same roomy = record {
   same = ap tally_of same ∙ ap (λ (t : TallyState). record t { counts = w.counts.entries; flows = w.flows.items; room = vec_capacity w.flows }) counted;
   room = roomy.room;
