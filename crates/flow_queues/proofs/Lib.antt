@@ -22,3 +22,6 @@ pub mod Bridge
 pub mod WholeFrames
 pub mod Fronts
 pub mod ReadLemmas
+pub mod Done
+pub mod NoteTaken
+pub mod LentNow

@@ -6,6 +6,10 @@ pub mod Lent
 pub mod Taking
 pub mod Totals
 pub mod Shelves
+pub mod Kept
+pub mod KeptOf
+pub mod Noting
+pub mod Active
 pub mod Streams
 pub mod Ends
 pub mod Entries

@@ -1,9 +1,11 @@
 //! What is next in a stream is lent: a piece that lies in the area, or a copy of bytes that came with their note.
-ghost use Rattle.std.specs.Prelude.{◌≡◌, true, false, ℕ, ◌≤◌, None, MatchOption};
-ghost use Rattle.board_face.specs.{AppEvents.{app_gist}, declared.views.app.{AppLook.TheVariants.{NoSpare}, HeldPiece.{HeldPiece}}};
+ghost use Rattle.std.specs.Prelude.{◌≡◌, true, false, ℕ, ◌≤◌, [], None, MatchOption};
+ghost use Rattle.board_face.specs.{AppCalls.{IsHere}, AppEvents.{app_gist}, declared.views.app.{AppLook.TheVariants.{NoSpare}, HeldPiece.{HeldPiece}}};
 ghost use Rattle.flow_queues.specs.Core.{HoldsApart, total, over_kept, IsOfNote, Each, lent_piece, is_copy};
+ghost use Rattle.flow_queues.specs.{Active.{LendsActive}, Kept.{LoansOut, QueuesStand}, KeptOf.{queue_state}};
 ghost use Rattle.flow_queues.specs.Lent.{MayLendNext, IsBacked, IsNext, IsSoOfNext, LentNext, LendsNext, SawNoSpare};
 
+use crate::kept::Queues;
 use crate::queues::{FlowQueue, Lending, Short, Waiting};
 use board_face::AppFace;
 
@@ -84,7 +86,7 @@ fn lend_copy<F: AppFace>(face: &mut F, own: &mut FlowQueue) -> Option<Lending>
 }
 
 /// Lends what is next in the stream. Bytes that came with their note are copied into a spare for that.
-pub fn lend_next<F: AppFace>(face: &mut F, own: &mut FlowQueue) -> Next
+fn lend_next<F: AppFace>(face: &mut F, own: &mut FlowQueue) -> Next
     requires can { MayLendNext (F.seen face.old) }
     requires out { (f : HeldPiece → ℕ)
         → over_kept f own.old.queue ≤ total f (F.seen face.old).helds }
@@ -108,4 +110,22 @@ pub fn lend_next<F: AppFace>(face: &mut F, own: &mut FlowQueue) -> Next
         Some(lending) => Next::LentCopy(lending),
         None => Next::ReserveHeld,
     }
+}
+
+/// Lends what is next in the stream of the active flow.
+pub fn lend<F: AppFace>(face: &mut F, st: &mut Queues) -> Next
+    requires here { IsHere (F.seen face.old) }
+    requires stand { (out : LoansOut) × QueuesStand (queue_state st.old) out (F.seen face.old) }
+    requires owns { (F.seen face.old).owns ≡ [] }
+    ensures lends { LendsActive (queue_state st.old) (queue_state st.new) (F.seen face.old)
+        (F.seen face.new) result }
+    ensures told { IsSoOfNext (λ look.
+        F.tells look (app_gist (F.seen face.new)) (F.beside face.new)) result }
+    ensures beside { F.beside face.new ≡ F.beside face.old }
+{
+    if st.active >= st.flows.len() {
+        return Next::NoneInOrder;
+    }
+    let own = &mut st.flows[st.active];
+    lend_next(face, own)
 }

@@ -2,15 +2,18 @@
 //! Nothing here knows who reads a loan, and when it goes back.
 #![tactic(auto)]
 
+mod kept;
 mod lending;
 mod letting;
+mod noting;
 mod places;
 mod queues;
 mod short;
 mod taking;
 
-pub use lending::{Next, lend_next};
+pub use kept::Queues;
+pub use lending::{Next, lend};
 pub use letting::release_all;
+pub use noting::{Taken, pass_note, take_note};
 pub use places::find;
 pub use queues::{FlowQueue, Lending, NotePiece, Short, Waiting, Wanting};
-pub use taking::{take_payload, take_piece};
