@@ -1,6 +1,6 @@
 -- The marks of what is done with, by flow.
 use Rattle.std.proofs.Common.{◌≡◌, ◌≢◌, ℕ, ◌+◌, ◌<◌, ◌≤◌, true, false, List, [], ◌∷◌, ◌++◌, Option, Some, None, IsSome, refl, sym, ap, subst, ◌∙◌, arith, inl, inr, ⊎_elim, append-nil, append_assoc}
-use Rattle.std.{specs.{Prelude.{◌==◌, Bool, if◌then◌else◌}, Io.KnownBytes.{QueuesStand}}, proofs.lemmas.Bool.{cases_eq, eq-eqb, ne_eqb}}
+use Rattle.std.{specs.{Prelude.{◌==◌, Bool, if◌then◌else◌}, Io.KnownBytes.{Keeps}}, proofs.lemmas.Bool.{cases_eq, eq-eqb, ne_eqb}}
 use Rattle.zr_kinds.specs.CopyingReceiver.{Placed, values_from}
 use Rattle.zr_io.{specs.Moved.{Gained}, proofs.Moved.{Gained-weaker}}
 use Rattle.tcp_reorder.specs.Queue.{Queue}
@@ -141,13 +141,13 @@ each-done P n taken (f ∷ fs) few each none = ⊎_elim
 
 -- ---- what a shelf has
 
-pub gained-nothing : (a b : Option (List ℕ)) (P : List ℕ → Type 0) → P [] → QueuesStand a b → Gained a b P
+pub gained-nothing : (a b : Option (List ℕ)) (P : List ℕ → Type 0) → P [] → Keeps a b → Gained a b P
 gained-nothing None b P none keeps = tt
 gained-nothing (Some xs) None P none keeps = absurd keeps
 gained-nothing (Some xs) (Some ys) P none keeps = ([], keeps ∙ sym (append-nil xs), none)
 
 keeps-nothing : (taken : List TakenNote) (reads : List Reading) (a b : Option (List ℕ)) → Gained a b (λ bytes. AreReadAt taken reads [] bytes)
-    → QueuesStand a b
+    → Keeps a b
 keeps-nothing taken reads None b gained = tt
 keeps-nothing taken reads (Some xs) None gained = absurd gained
 keeps-nothing taken reads (Some xs) (Some ys) ([], is, are) = is ∙ append-nil xs

@@ -10,6 +10,7 @@ pub mod Kept
 pub mod KeptOf
 pub mod Noting
 pub mod Active
+pub mod Leaving
 pub mod Streams
 pub mod Ends
 pub mod Entries

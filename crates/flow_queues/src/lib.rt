@@ -3,6 +3,7 @@
 #![tactic(auto)]
 
 mod kept;
+mod leaving;
 mod lending;
 mod letting;
 mod noting;
@@ -12,6 +13,7 @@ mod short;
 mod taking;
 
 pub use kept::Queues;
+pub use leaving::{leave, scrub};
 pub use lending::{Next, lend};
 pub use letting::release_all;
 pub use noting::{Taken, pass_note, take_note};

@@ -3,6 +3,7 @@ use Rattle.std.proofs.Common.{rules, ◌≡◌, ◌+◌, false}
 use Rattle.board_face.specs.{AppCalls.{TookNote}, declared.views.app.AppView.{AppView}}
 use Rattle.flow_queues.specs.{Core.{held_piece}, Pieces.{whole_piece}, KeptOf.{queue_state}}
 use Rattle.flow_queues.proofs.{Tokens.{in-contains}, Took.{Took}, NoteTaken.{took-it, piece-released, piece-lost, piece-entered}}
+use Rattle.flow_queues.proofs.noting.take_note.Goals.{In-Note}
 use Rattle.flow_queues.proofs.noting.take_note.Goals as goal
 
 pub returns-in-Linear-clause-takes : goal.returns-in-Linear-clause-takes
@@ -10,14 +11,14 @@ returns-in-Linear-clause-takes g c = c.take_short.ensures.takes (g.F.AppFace.see
     c.in-Linear.ensures.view c.requires.stand.1 c.requires.rest
 
 -- the piece came
-took : (g : _) (c : goal.After-in-Note g) → Took (g.F.AppFace.seen c.args.face.now) (g.F.AppFace.seen c.poll.new.self) c.in-Note.note c.args.st.now.notes c.in-Note.held
+took : (g : _) (c : In-Note g) → Took (g.F.AppFace.seen c.args.face.now) (g.F.AppFace.seen c.poll.new.self) c.in-Note.note c.args.st.now.notes c.in-Note.held
 took g c = took-it (queue_state c.args.st.now) c.requires.stand.0 (g.F.AppFace.seen c.args.face.now) (g.F.AppFace.seen c.poll.new.self) c.in-Note.note
     c.in-Note.held c.in-Note.ensures.view c.requires.stand.1
 
 pub release-requires-clause-out : goal.release-requires-clause-out
 release-requires-clause-out g c =
     in-contains (λ h. h.place) (held_piece (whole_piece c.args.st.now.notes c.in-Note.held)) (g.F.AppFace.seen c.poll.new.self).helds
-    (took g (goal.at.release-requires-clause-out g c).After-in-Note).out
+    (took g (goal.at.release-requires-clause-out g c).In-Note).out
 
 pub returns-in_default-clause-takes : goal.returns-in_default-clause-takes
 returns-in_default-clause-takes g c =
@@ -27,7 +28,7 @@ returns-in_default-clause-takes g c =
 pub take_piece-taken-requires-clause-holds : goal.take_piece-taken-requires-clause-holds
 take_piece-taken-requires-clause-holds g c =
     let here : (g.F.AppFace.seen c.poll.new.self).left ≡ false = search rules in
-    record { here = here; apart = (took g (goal.at.take_piece-taken-requires-clause-holds g c).After-in-Note).apart }
+    record { here = here; apart = (took g (goal.at.take_piece-taken-requires-clause-holds g c).In-Note).apart }
 
 pub take_piece-taken-requires-clause-came : goal.take_piece-taken-requires-clause-came
 take_piece-taken-requires-clause-came g c =
@@ -35,7 +36,7 @@ take_piece-taken-requires-clause-came g c =
     record {
       fields = note.fields;
       place = note.place;
-      out = (took g (goal.at.take_piece-taken-requires-clause-came g c).After-in-Note).out;
+      out = (took g (goal.at.take_piece-taken-requires-clause-came g c).In-Note).out;
     }
 
 pub returns-in_default-taken-clause-takes : goal.returns-in_default-taken-clause-takes
