@@ -39,8 +39,12 @@ module _ (was : QueueState) (own : FlowQueue) (within : was.active < length was.
     own-out = flow-out was.notes at-own.before at-own.after own out.unread out.read v own-stands
 
     pub own-spare : v.spares + short_bytes own.queue ≤ total unsplit_len v.taken
-    own-spare = omega (arith, stand.bounded.spares, ap (total (λ f. short_bytes f.queue)) at-own.is,
-        total-append (λ f. short_bytes f.queue) at-own.before (own ∷ at-own.after))
+    own-spare = omega (
+      arith,
+      stand.bounded.spares,
+      ap (total (λ f. short_bytes f.queue)) at-own.is,
+      total-append (λ f. short_bytes f.queue) at-own.before (own ∷ at-own.after),
+    )
 
     pub at-rest : own.queue.popped ≡ next_of own.queue → Each IsAtRest was.flows
     at-rest is = rest-too was.active was.flows own within stand.rest (sym value) is
@@ -51,8 +55,13 @@ module _ (was : QueueState) (own : FlowQueue) (within : was.active < length was.
   lent-stands old new now loan step out told number stand =
       let taken : new.taken ≡ old.taken = ap (λ (v : AppView). v.taken) step.view in
       let shorts : total (λ f. short_bytes f.queue) (set was.flows was.active now) + short_len step.piece ≡ total (λ f. short_bytes f.queue) was.flows =
-      omega (arith, ap (total (λ f. short_bytes f.queue)) (at-own.set_is now), ap (total (λ f. short_bytes f.queue)) at-own.is,
-          total-changed at-own.before at-own.after own now (λ f. short_bytes f.queue), short-first own.queue now.queue step.piece step.span step.loses) in
+      omega (
+        arith,
+        ap (total (λ f. short_bytes f.queue)) (at-own.set_is now),
+        ap (total (λ f. short_bytes f.queue)) at-own.is,
+        total-changed at-own.before at-own.after own now (λ f. short_bytes f.queue),
+        short-first own.queue now.queue step.piece step.span step.loses,
+      ) in
       let there = is-lent-there (lent_piece old.taken loan) new.loans
       (omega (arith, step.loans (is_that_loan (lent_piece old.taken loan)), that-loan (lent_piece old.taken loan))) in
       let long : 0 < loan.loan.len = loan-some new step.apart (lent_piece old.taken loan) there in
@@ -63,8 +72,19 @@ module _ (was : QueueState) (own : FlowQueue) (within : was.active < length was.
         index = index-set was.index was.flows was.active own now within value (ap (λ (f : FlowQueue). f.number) step.flow) stand.index;
         bounded = record {
           spares = omega (arith, step.spares, stand.bounded.spares, ap (total unsplit_len) taken, shorts, spare-few step.piece loan.loan.len long step.len);
-          loans = omega (arith, step.loans (λ _. 1), total-one new.loans, total-one old.loans, ap (λ (v : AppView). length v.returned) step.view,
-              step.helds held_len, shorts, step.len, long, stand.bounded.loans, ap (total taken_len) taken);
+          loans = omega (
+            arith,
+            step.loans (λ _. 1),
+            total-one new.loans,
+            total-one old.loans,
+            ap (λ (v : AppView). length v.returned) step.view,
+            step.helds held_len,
+            shorts,
+            step.len,
+            long,
+            stand.bounded.loans,
+            ap (total taken_len) taken,
+          );
         };
       }
 

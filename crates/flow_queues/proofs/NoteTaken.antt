@@ -38,10 +38,23 @@ module _ (was : QueueState) (out : LoansOut) (old new : AppView) (t : TakenNote)
       ≤ total held_len old.helds + total (λ f. short_bytes f.queue) was.flows + taken_len t
       → total (λ f. short_bytes f.queue) flows ≤ total (λ f. short_bytes f.queue) was.flows + unsplit_len t → IsBounded flows new
   bounded-noted flows few short = record {
-    spares = omega (arith, short, stand.bounded.spares, ap (λ (v : AppView). v.spares) view, ap (total unsplit_len) taken-is,
-        total-append unsplit_len old.taken (t ∷ []));
-    loans = omega (arith, few, stand.bounded.loans, ap (λ (v : AppView). length v.loans) view, ap (λ (v : AppView). length v.returned) view,
-        ap (total taken_len) taken-is, total-append taken_len old.taken (t ∷ []));
+    spares = omega (
+      arith,
+      short,
+      stand.bounded.spares,
+      ap (λ (v : AppView). v.spares) view,
+      ap (total unsplit_len) taken-is,
+      total-append unsplit_len old.taken (t ∷ []),
+    );
+    loans = omega (
+      arith,
+      few,
+      stand.bounded.loans,
+      ap (λ (v : AppView). length v.loans) view,
+      ap (λ (v : AppView). length v.returned) view,
+      ap (total taken_len) taken-is,
+      total-append taken_len old.taken (t ∷ []),
+    );
   }
 
   -- nothing of it is kept
@@ -73,8 +86,11 @@ module _ (was : QueueState) (out : LoansOut) (old new : AppView) (t : TakenNote)
 
     shorts : total (λ f. short_bytes f.queue) flows + short_bytes change.own.queue
         ≡ total (λ f. short_bytes f.queue) was.flows + short_bytes change.queue
-    shorts = omega (arith, ap (total (λ f. short_bytes f.queue)) change.is,
-        total-noted was.flows t.note change.own (λ x. set change.flows i x) change.queue change.base (λ f. short_bytes f.queue) put-in refl)
+    shorts = omega (
+      arith,
+      ap (total (λ f. short_bytes f.queue)) change.is,
+      total-noted was.flows t.note change.own (λ x. set change.flows i x) change.queue change.base (λ f. short_bytes f.queue) put-in refl,
+    )
 
     -- some of it entered
     pub noted-in : (notes active : ℕ) → ((o : LoansOut) → QueuesStand was o old → HasTokens flows o.unread o.read new)
@@ -85,8 +101,12 @@ module _ (was : QueueState) (out : LoansOut) (old new : AppView) (t : TakenNote)
       tokens = tokens;
       done = λ n. ap (λ fs. marks_done n fs new.taken) change.is ∙ ap (marks_done n now_flows) taken-is
           ∙ done-noted n old.taken t was.flows change.own (λ x. set change.flows i x) change.queue change.base ends-before put-in;
-      bytes = λ n. omega (arith, ap (bytes_of n) change.is, total-noted was.flows t.note change.own (λ x. set change.flows i x) change.queue
-          change.base (bytes_if n) put-in (none-yet (t.note.flow == n) 0));
+      bytes = λ n. omega (
+        arith,
+        ap (bytes_of n) change.is,
+        total-noted was.flows t.note change.own (λ x. set change.flows i x) change.queue
+            change.base (bytes_if n) put-in (none-yet (t.note.flow == n) 0),
+      );
       sum = ap (total (λ f. f.bytes)) change.is
           ∙ bytes-noted was.flows t.note change.own (λ x. set change.flows i x) change.queue change.base put-in;
       sound = record {
@@ -214,7 +234,12 @@ module _ (old mid : AppView) (note : Note) (held : Place) (took : TookNote old m
   piece-past new none e =
       let gone = is-released mid past-it.apart (held_piece (whole_piece (length old.taken) held)) past-it.out in
       let size : total (λ (h : HeldPiece). 1) new.helds ≡ 0 =
-      omega (arith, ap (λ (v : AppView). total (λ (h : HeldPiece). 1) v.helds) e, gone.moved (λ h. 1), past-it.moved (λ h. 1),
-          ap (total (λ (h : HeldPiece). 1)) none) in
+      omega (
+        arith,
+        ap (λ (v : AppView). total (λ (h : HeldPiece). 1) v.helds) e,
+        gone.moved (λ h. 1),
+        past-it.moved (λ h. 1),
+        ap (total (λ (h : HeldPiece). 1)) none,
+      ) in
       e ∙ ap (λ (v : AppView). released v held) took.event ∙ ap (λ hs. record old { taken = old.taken ++ taken_note note ∷ []; helds = hs })
       (sym (ap (λ (v : AppView). v.helds) (e ∙ ap (λ (v : AppView). released v held) took.event)) ∙ none-held new.helds size ∙ sym none)

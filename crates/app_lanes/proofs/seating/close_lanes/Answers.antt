@@ -73,5 +73,5 @@ returns-clause-took g c =
       board = was.board;
       nics = was.nics;
       apps = sym (append-nil c.loop-lane.desk.view.apps) ∙ all;
-      order = record { served = was.served; known = was.known; };
+      order = record { served = was.served; known = was.known };
     }
