@@ -1,22 +1,20 @@
--- The piece that is next in the stream of a flow is an item.
-use Rattle.std.proofs.Common.{◌≡◌, ◌≢◌, ℕ, ◌+◌, ◌-◌, ◌^◌, ◌<◌, ◌≤◌, Bool, true, false, List, [], ◌∷◌, ◌++◌, IsSome, Some, Option, length, set, get_or, take, drop, refl, sym, ap, subst, ◌∙◌, arith, ⊎_elim, append_assoc, append-nil}
-use Rattle.std.{specs.Prelude.{◌==◌, not, if◌then◌else◌, slice_get}, proofs.lemmas.Bool.{eq-eqb}}
+-- What was lent is an item, which counts its bytes.
+use Rattle.std.proofs.Common.{◌≡◌, ◌≢◌, ℕ, ◌+◌, ◌-◌, ◌^◌, ◌<◌, Bool, true, false, List, [], ◌∷◌, ◌++◌, Option, length, map, set, get_or, take, drop, pos, refl, sym, ap, subst, ◌∙◌, arith, ⊎_elim, append_assoc, append-nil}
+use Rattle.std.{specs.Prelude.{◌==◌, not, if◌then◌else◌}, proofs.lemmas.{Bool.{eq-eqb}, List.{get_or-set_same}}}
+use Rattle.zr_kinds.specs.{declared.ring.Completion.{Completion}, CopyingReceiver.{values_from}}
+use Rattle.tcp_reorder.specs.Queue.{IsSound}
 use Rattle.board_face.{proofs.ListLemmas.{not-eqb}, specs.{AppEvents.{app_saw, came_to_rest}, declared.views.app.AppLook.TheVariants.{NoSpare as no_spare}}}
-use Rattle.board_face.specs.declared.views.app.{Origin.TheVariants.{Note as of_note, Copied as of_copy}, HeldPiece.{HeldPiece}, LentPiece.{LentPiece}}
-use Rattle.board_face.specs.declared.views.app.{TakenNote.{TakenNote}, AppView.{AppView}}
-use Rattle.zr_kinds.specs.CopyingReceiver.{Placed, nothing_placed, values_from}
-use Rattle.tcp_reorder.{specs.{Queue.{IsSound, next_of}, Values.{Holds}}, proofs.Holding.{IsPopped, Holds-popped}}
-use Rattle.flow_queues.specs.{declared.queues.{Lending.{Lending}, FlowQueue.{FlowQueue}}, Marks.{Mark, FramesStandTogether, marks_of}}
-use Rattle.flow_queues.specs.Core.{total, Each, many, IsIn, lent_piece, is_copy, one_copy, origin_in, over_waiting, held_len, short_len, over_kept, over_read, short_bytes, unsplit_len, own_notes, BeginAt, received_notes, placed_of, marks_of_waiting, marks_of_loan, IsOfNote, FlowStands, Stands}
-use Rattle.flow_queues.specs.{Lent.{MayLendNext, IsBacked, LentNext, SawNoSpare, spares_of}, declared.queues.Waiting.{Waiting, TheVariants.{InArea, Copied}}}
-use Rattle.flow_queues.proofs.{Tokens.{total-append, in-contains, that-loan, is_that_loan, is-lent-there, loan-some}, Lends.{over-first, short-first, each-first}}
-use Rattle.flow_queues.proofs.{Entering.{marks-length}, Placing.{values-length, values-split}, NotesStay.{note-there}}
-use Rattle.flow_queues.proofs.Standing.{At, split-at, flow-out, each-right, each-changed, is_number, number-is, total-changed, many-same}
-use Rattle.flow_queues.{proofs.{Resting.{rest-none, rest-set, rest-too}, Indexing.{index-set}, Fronts.{front-of-flow}}, specs.Totals.{taken_len}}
+use Rattle.board_face.specs.declared.views.app.{Origin.TheVariants.{Note as of_note, Copied as of_copy}, LentPiece.{LentPiece}, TakenNote.{TakenNote}, AppView.{AppView}}
+use Rattle.flow_queues.specs.{declared.queues.{Lending.{Lending}, FlowQueue.{FlowQueue}}, Marks.{Mark, FramesStandTogether, marks_of}, Flows.{facts_of}}
+use Rattle.flow_queues.specs.Core.{total, Each, many, IsIn, lent_piece, is_copy, one_copy, origin_in, over_kept, short_bytes, placed_of, marks_of_loan, FlowStands, Stands}
+use Rattle.flow_queues.specs.{Lent.{LentNext, SawNoSpare}, Kept.{QueueState, QueuesStand}, Active.{LentOne, with_unread}}
+use Rattle.flow_queues.proofs.{Tokens.{total-append, in-contains, that-loan, is_that_loan, is-lent-there}, Entering.{marks-length}, Placing.{values-length, values-split}}
+use Rattle.flow_queues.proofs.{Standing.{At, split-at, each-right, each-changed, is_number, number-is, total-changed, many-same}, Releasing.{map-set, length-set-same}}
+use Rattle.flow_queues.proofs.{NotesStay.{note-there}, Resting.{rest-set}, Indexing.{index-set}, Fronts.{front-of-flow}, NoteTaken.{ends-of}}
 use Rattle.zc_poll.specs.declared.step.{Lent.{Lent}, Step.TheVariants.{Item, Waiting as waiting}, Waits.TheVariants.{ReserveHeld}}
-use Rattle.zc_poll.specs.{Standing.{Desk, Common, Going, StreamStands, NoneInOrder}, Items.{Given, HasGiven, marks_given, IsAt}, Steps.{Stepped, counted_on}}
-use Rattle.zc_poll.proofs.{Marking.{IsGivenOf, given-push}, Noted.{found-of}, Released.{all-popped}, Views.{is-with, only-saw, total-one}, Keeping.{saw-stands}}
-use Rattle.zc_poll.proofs.Passing.{unlent-none}
+use Rattle.zc_poll.specs.{Standing.{Desk, Common, Going, StreamStands}, Items.{Given, HasGiven, marks_given, IsAt}, Steps.{Stepped, counted_on}}
+use Rattle.zc_poll.proofs.{FlowsKept.{queues_of, with_queues, all_read, stand-of, going-of}, Marking.{IsGivenOf, given-push, items-released}, Views.{is-with}}
+use Rattle.zc_poll.proofs.Passing.{saw-stepped}
 
 copied-is : (split b : Bool) (note at : ℕ) (bytes : List ℕ) → one_copy (if split then of_note note at else of_copy bytes) ≡ (if b then 1 else 0)
     → b ≡ not split
@@ -25,366 +23,287 @@ copied-is true false note at bytes is = refl
 copied-is false true note at bytes is = refl
 copied-is false false note at bytes is = absurd (omega (arith, is))
 
--- a piece that takes a spare has a byte
-spare-few : (piece : Waiting) (len : ℕ) → 0 < len → len ≡ over_waiting held_len piece + short_len piece → spares_of piece ≤ short_len piece
-spare-few (InArea p) len some is = omega arith
-spare-few (Copied s) len some is = omega (arith, is)
+-- what tells of a loan of this flow
+abbrev told_of : FlowQueue → Completion
+told_of own = record { user_data = own.number; res = pos 0; flags = 0; off = 0 }
 
--- of one flow
-module _ (taken : List TakenNote) (own now : FlowQueue) (lending : Lending) (old new : AppView) (taken-is : old.taken ≡ taken)
-    (step : LentNext old new own now lending) (stands : FlowStands taken [] own) (sound : IsSound now.queue) where
+-- the flow, once the loan's bytes are counted
+abbrev counting : FlowQueue → Lending → FlowQueue
+counting own loan = record own { bytes = counted_on own.bytes loan.loan.len }
+
+abbrev counted_in : QueueState → FlowQueue → Lending → QueueState
+counted_in mid own loan = record mid { flows = set mid.flows mid.active (counting own loan) }
+
+abbrev given_of : FlowQueue → Lending → Given
+given_of own loan = record { flow = own.number; lending = loan }
+
+-- it was lent, as a copy or not
+abbrev pub LentAs : QueueState → QueueState → AppView → AppView → Lending × Bool → Type 0
+LentAs was now old new lent = LentOne was now old new lent.0 × (is_copy (lent_piece old.taken lent.0) ≡ (if lent.1 then 1 else 0))
+
+-- ---- of one flow, of which this loan alone waits to be counted
+
+module _ (taken : List TakenNote) (own : FlowQueue) (loan : Lending) (stands : FlowStands taken ((told_of own, loan) ∷ []) own)
+    (sound : IsSound own.queue) where
   abbrev at : ℕ → Option Mark
   at = (placed_of own taken).at
 
-  popped-is : own.bytes ≡ own.queue.popped
-  popped-is = all-popped taken own stands
+  own-number : (own.number == own.number) ≡ true
+  own-number = eq-eqb own.number own.number refl
 
-  after-it : IsPopped marks_of_waiting now.queue (placed_of own taken) step.piece own.queue.popped step.span.len
-  after-it = Holds-popped marks_of_waiting own.queue now.queue (placed_of own taken) step.piece step.span stands.holds step.loses step.begins
+  all-marks : marks_of_loan loan ≡ values_from at (own.queue.popped - own.bytes) own.bytes
+  all-marks = sym (ap (λ b. (if b then marks_of_loan loan else []) ++ []) own-number ∙ append-nil (marks_of_loan loan)) ∙ stands.lent
 
-  now-popped : now.queue.popped ≡ own.bytes + step.span.len
-  now-popped = step.loses.popped ∙ omega (arith, step.begins, popped-is)
+  len-is : own.bytes + loan.loan.len ≡ own.queue.popped
+  len-is = omega (
+    arith,
+    stands.counted,
+    marks-length loan.note loan.at loan.loan.len,
+    ap length all-marks,
+    values-length at (own.queue.popped - own.bytes) own.bytes (λ p from until. stands.holds.popped p (omega (arith, until, stands.counted))),
+  )
 
-  below : (p : ℕ) → p < own.bytes + step.span.len → IsSome (at p)
-  below p under = after-it.holds.popped p (omega (arith, under, now-popped))
+  fits : own.bytes + loan.loan.len < 2 ^ 64
+  fits = omega (arith, len-is, sound.popped)
 
-  marks-are : marks_of_loan lending ≡ values_from at step.span.len own.bytes
-  marks-are = step.marks ∙ after-it.values_are ∙ ap (values_from at step.span.len) (sym popped-is)
+  counted-is : counted_on own.bytes loan.loan.len ≡ own.queue.popped
+  counted-is = omega (arith, len-is, sound.popped)
 
-  len-is : lending.loan.len ≡ step.span.len
-  len-is = sym (marks-length lending.note lending.at lending.loan.len) ∙ ap length marks-are
-      ∙ values-length at step.span.len own.bytes (λ p from until. below p until)
-
-  number-same : now.number ≡ own.number
-  number-same = ap (λ (f : FlowQueue). f.number) step.flow
-
-  counted-is : counted_on now.bytes lending.loan.len ≡ own.bytes + lending.loan.len
-  counted-is =
-      let same : now.bytes ≡ own.bytes = ap (λ (f : FlowQueue). f.bytes) step.flow in
-      omega (arith, same, len-is, now-popped, sound.popped)
-
-  fits : own.bytes + lending.loan.len < 2 ^ 64
-  fits = omega (arith, len-is, now-popped, sound.popped)
-
-  -- the flow, once its bytes are counted
-  abbrev gone : FlowQueue
-  gone = record now { bytes = counted_on now.bytes lending.loan.len }
-
-  placed-same : placed_of own taken ≡ placed_of gone taken
-  placed-same = ap (λ n. received_notes own.queue.base nothing_placed (own_notes n taken)) (sym number-same)
-      ∙ ap (λ b. received_notes b nothing_placed (own_notes now.number taken)) (sym step.loses.base)
-
-  flow-stands : FlowStands taken [] gone
-  flow-stands =
-      let none : now.queue.popped - counted_on now.bytes lending.loan.len ≡ 0 = omega (arith, counted-is, now-popped, len-is) in
+  counting-stands : FlowStands taken [] (counting own loan)
+  counting-stands =
+      let none : own.queue.popped - counted_on own.bytes loan.loan.len ≡ 0 = omega (arith, counted-is) in
       record {
-        begun = subst (λ n. BeginAt now.queue.base (own_notes n taken)) (sym number-same)
-            (subst (λ b. BeginAt b (own_notes own.number taken)) (sym step.loses.base) stands.begun);
-        holds = subst (Holds marks_of_waiting now.queue) placed-same after-it.holds;
-        notes = (each-first (IsOfNote taken) own.queue now.queue step.piece step.span step.loses stands.notes).1;
-        counted = omega (arith, counted-is, now-popped, len-is);
-        lent = sym (ap (λ k. values_from (placed_of gone taken).at k (counted_on now.bytes lending.loan.len)) none);
+        begun = stands.begun;
+        holds = stands.holds;
+        notes = stands.notes;
+        counted = omega (arith, counted-is);
+        lent = sym (ap (λ k. values_from at k (counted_on own.bytes loan.loan.len)) none);
       }
 
-  first-marks : values_from at (own.bytes + step.span.len) 0 ≡ values_from at own.bytes 0 ++ marks_of_loan lending
-  first-marks = values-split at own.bytes step.span.len 0 (λ p from until. below p (omega (arith, until)))
-      ∙ ap (λ p. values_from at own.bytes 0 ++ values_from at step.span.len p) (omega arith)
-      ∙ ap (λ ms. values_from at own.bytes 0 ++ ms) (sym marks-are)
+  first-marks : values_from at own.queue.popped 0 ≡ values_from at own.bytes 0 ++ marks_of_loan loan
+  first-marks =
+      let more : ℕ = own.queue.popped - own.bytes in
+      let parts : own.queue.popped ≡ own.bytes + more = omega (arith, stands.counted) in
+      ap (λ k. values_from at k 0) parts
+      ∙ values-split at own.bytes more 0 (λ p from until. stands.holds.popped p (omega (arith, until, stands.counted)))
+      ∙ ap (λ p. values_from at own.bytes 0 ++ values_from at more p) (omega arith) ∙ ap (λ ms. values_from at own.bytes 0 ++ ms) (sym all-marks)
 
   bytes-long : length (values_from at own.bytes 0) ≡ own.bytes
-  bytes-long = values-length at own.bytes 0 (λ p from until. below p (omega (arith, until)))
+  bytes-long = values-length at own.bytes 0 (λ p from until. stands.holds.popped p (omega (arith, until, stands.counted)))
 
   -- they stand there among the flow's
-  stands-there : FramesStandTogether taken → IsAt (marks_of own.number taken) own.bytes (marks_of_loan lending)
+  stands-there : FramesStandTogether taken → IsAt (marks_of own.number taken) own.bytes (marks_of_loan loan)
   stands-there whole =
-      let (rest, parts) = front-of-flow own taken (own.bytes + step.span.len) stands.begun below whole in
+      let (rest, parts) = front-of-flow own taken own.queue.popped stands.begun stands.holds.popped whole in
       record {
         before = values_from at own.bytes 0;
         behind = rest;
-        parts = parts ∙ ap (λ ms. ms ++ rest) first-marks ∙ append_assoc (values_from at own.bytes 0) (marks_of_loan lending) rest;
+        parts = parts ∙ ap (λ ms. ms ++ rest) first-marks ∙ append_assoc (values_from at own.bytes 0) (marks_of_loan loan) rest;
         at = bytes-long;
       }
 
-  given-here : (items : List Given) → IsGivenOf items taken own
-      → IsGivenOf (items ++ record { flow = own.number; lending = lending } ∷ []) taken gone
+  given-here : (items : List Given) → IsGivenOf items taken own → IsGivenOf (items ++ given_of own loan ∷ []) taken (counting own loan)
   given-here items given =
-      let yes : (own.number == now.number) ≡ true = eq-eqb own.number now.number (sym number-same) in
-      let counted : own.bytes + step.span.len ≡ counted_on now.bytes lending.loan.len = omega (arith, counted-is, len-is) in
-      given-push now.number items (record { flow = own.number; lending = lending })
-      ∙ ap (λ b. marks_given now.number items ++ (if b then marks_of_loan lending else [])) yes
-      ∙ ap (λ n. marks_given n items ++ marks_of_loan lending) number-same
-      ∙ ap (λ ms. ms ++ marks_of_loan lending) given ∙ sym first-marks
-      ∙ ap (λ k. values_from at k 0) counted
-      ∙ ap (λ (p : Placed Mark). values_from p.at (counted_on now.bytes lending.loan.len) 0) placed-same
+      given-push own.number items (given_of own loan)
+      ∙ ap (λ b. marks_given own.number items ++ (if b then marks_of_loan loan else [])) own-number
+      ∙ ap (λ ms. ms ++ marks_of_loan loan) given ∙ sym first-marks ∙ ap (λ k. values_from at k 0) (sym counted-is)
+
+flow-other : (taken : List TakenNote) (own : FlowQueue) (loan : Lending) (f : FlowQueue) → f.number ≢ own.number
+    → FlowStands taken ((told_of own, loan) ∷ []) f → FlowStands taken [] f
+flow-other taken own loan f other stands =
+    let no : (own.number == f.number) ≡ false = not-eqb own.number f.number (λ e. other (sym e)) in
+    record {
+      begun = stands.begun;
+      holds = stands.holds;
+      notes = stands.notes;
+      counted = stands.counted;
+      lent = sym (ap (λ b. (if b then marks_of_loan loan else []) ++ []) no) ∙ stands.lent;
+    }
 
 given-other : (flow : ℕ) (items : List Given) (g : Given) → g.flow ≢ flow → marks_given flow (items ++ g ∷ []) ≡ marks_given flow items
 given-other flow items g other =
     let no : (g.flow == flow) ≡ false = not-eqb g.flow flow other in
     given-push flow items g ∙ ap (λ b. marks_given flow items ++ (if b then marks_of_loan g.lending else [])) no ∙ append-nil (marks_given flow items)
 
--- of all
-module _ (was : Desk) (old new : AppView) (own now : FlowQueue) (lending : Lending) (copied : Bool) (stands : StreamStands was old)
-    (on : was.stopped ≡ false) (more : was.ended ≡ false) (within : was.active < length was.flows) (value : own ≡ get_or was.flows was.active own)
-    (step : LentNext old new own now lending) (copy : is_copy (lent_piece old.taken lending) ≡ (if copied then 1 else 0)) (sound : IsSound now.queue) where
-  going : Going was old
-  going = stands.going on more
+-- ---- of all flows
 
-  there : At was.flows was.active own
-  there = split-at was.flows was.active own within value
-
-  before-it : Stands was.notes (there.before ++ own ∷ there.after) [] going.out old
-  before-it = subst (λ (fs : List FlowQueue). Stands was.notes fs [] going.out old) there.is going.stands
-
-  own-stands : FlowStands old.taken [] own
-  own-stands = (each-right (FlowStands old.taken []) there.before (own ∷ there.after) before-it.flows).0
-
-  taken-kept : old.taken ≡ new.taken
-  taken-kept = sym (ap (λ (v : AppView). v.taken) step.view)
-
+module _ (mid : QueueState) (own : FlowQueue) (loan : Lending) (out : List Lending) (v : AppView) (within : mid.active < length mid.flows)
+    (value : own ≡ get_or mid.flows mid.active own) (sound : IsSound own.queue)
+    (stand : QueuesStand mid (with_unread (all_read out) (told_of own) loan) v) where
   abbrev x : FlowQueue
-  x = record now { bytes = counted_on now.bytes lending.loan.len }
+  x = counting own loan
 
-  abbrev later : Desk
-  later = record was { flows = set was.flows was.active x }
+  there : At mid.flows mid.active own
+  there = split-at mid.flows mid.active own within value
 
-  number-x : x.number ≡ own.number
-  number-x = ap (λ (f : FlowQueue). f.number) step.flow
+  before-it : Stands mid.notes (there.before ++ own ∷ there.after) ((told_of own, loan) ∷ []) out v
+  before-it = subst (λ (fs : List FlowQueue). Stands mid.notes fs ((told_of own, loan) ∷ []) out v) there.is stand.stands
+
+  own-stands : FlowStands v.taken ((told_of own, loan) ∷ []) own
+  own-stands = (each-right (FlowStands v.taken ((told_of own, loan) ∷ [])) there.before (own ∷ there.after) before-it.flows).0
 
   many-x : (n : ℕ) → many n (there.before ++ x ∷ there.after) ≡ many n (there.before ++ own ∷ there.after)
-  many-x = many-same there.before there.after own x number-x
+  many-x = many-same there.before there.after own x refl
 
-  flows-x : set was.flows was.active x ≡ there.before ++ x ∷ there.after
-  flows-x = there.set_is x
-
-  loans-x : (f : LentPiece → ℕ) → total f new.loans ≡ total f old.loans + f (lent_piece new.taken lending)
-  loans-x f = step.loans f ∙ ap (λ ts. total f old.loans + f (lent_piece ts lending)) taken-kept
-
-  later-stands : Stands was.notes (there.before ++ x ∷ there.after) [] (lending ∷ going.out) new
-  later-stands = record {
+  counted-stands : Stands mid.notes (there.before ++ x ∷ there.after) [] (loan ∷ out) v
+  counted-stands = record {
     tokens = record {
-      apart = step.apart;
-      helds = λ f. omega (
-        arith,
-        step.helds f,
-        before-it.tokens.helds f,
-        total-changed there.before there.after own x (λ flow. over_kept f flow.queue),
-        over-first f own.queue now.queue step.piece step.span step.loses,
-      );
-      loans = λ f. omega (arith, loans-x f, before-it.tokens.loans f, ap (λ ts. over_read ts f going.out) taken-kept);
+      apart = before-it.tokens.apart;
+      helds = λ f. omega (arith, before-it.tokens.helds f, total-changed there.before there.after own x (λ flow. over_kept f flow.queue));
+      loans = λ f. omega (arith, before-it.tokens.loans f);
     };
-    notes = before-it.notes ∙ ap length taken-kept;
+    notes = before-it.notes;
     distinct = λ n. omega (arith, many-x n, before-it.distinct n);
-    flows = subst (λ (ts : List TakenNote). Each (FlowStands ts []) (there.before ++ x ∷ there.after)) taken-kept
-        (each-changed (FlowStands old.taken []) (FlowStands old.taken []) there.before there.after own x (before-it.distinct own.number) before-it.flows
-        (λ f other is. is) (flow-stands old.taken own now lending old new refl step own-stands sound));
-    known = λ n none. ap (own_notes n) (sym taken-kept) ∙ before-it.known n (sym (many-x n) ∙ none);
+    flows = each-changed (FlowStands v.taken ((told_of own, loan) ∷ [])) (FlowStands v.taken []) there.before there.after own x
+        (before-it.distinct own.number) before-it.flows (flow-other v.taken own loan) (counting-stands v.taken own loan own-stands sound);
+    known = λ n none. before-it.known n (sym (many-x n) ∙ none);
     posted = tt;
     lent = tt;
-    due_lent = subst (λ ts. Each (λ (l : Lending). l.note < length ts) (lending ∷ going.out)) taken-kept (step.of_note, before-it.due_lent);
-    counted = ap (λ (v : AppView). v.scrubbed) step.view ∙ before-it.counted;
+    due_lent = (before-it.lent.0, before-it.due_lent);
+    counted = before-it.counted;
   }
 
-  set-stands : Stands was.notes (set was.flows was.active x) [] (lending ∷ going.out) new
-  set-stands = subst (λ (fs : List FlowQueue). Stands was.notes fs [] (lending ∷ going.out) new) (sym flows-x) later-stands
-
-  loan-out : IsIn (lent_piece new.taken lending) new.loans
-  loan-out = is-lent-there (lent_piece new.taken lending) new.loans
-      (omega (arith, loans-x (is_that_loan (lent_piece new.taken lending)), that-loan (lent_piece new.taken lending)))
-
-  loan-long : 0 < lending.loan.len
-  loan-long = loan-some new step.apart (lent_piece new.taken lending) loan-out
-
-  shorts-x : total (λ f. short_bytes f.queue) (set was.flows was.active x) + short_len step.piece ≡ total (λ f. short_bytes f.queue) was.flows
+  shorts-x : total (λ f. short_bytes f.queue) (set mid.flows mid.active x) ≡ total (λ f. short_bytes f.queue) mid.flows
   shorts-x = omega (
     arith,
-    ap (total (λ f. short_bytes f.queue)) flows-x,
+    ap (total (λ f. short_bytes f.queue)) (there.set_is x),
     ap (total (λ f. short_bytes f.queue)) there.is,
     total-changed there.before there.after own x (λ f. short_bytes f.queue),
-    short-first own.queue now.queue step.piece step.span step.loses,
   )
 
-  later-bound : length new.loans + length new.returned + total held_len new.helds + total (λ f. short_bytes f.queue) (set was.flows was.active x)
-      ≤ total taken_len new.taken
-  later-bound = omega (
-    arith,
-    step.loans (λ _. 1),
-    total-one new.loans,
-    total-one old.loans,
-    ap (λ (v : AppView). length v.returned) step.view,
-    step.helds held_len,
-    shorts-x,
-    step.len,
-    loan-long,
-    going.bound,
-    ap (total taken_len) taken-kept,
-  )
-
-  later-common : Common later new
-  later-common =
-      let common : Common was old = stands.common in
-      record {
-        here = ap (λ (v : AppView). v.left) step.view ∙ common.here;
-        settled = ap (λ (v : AppView). v.settled) step.view;
-        counted = ap (λ (v : AppView). v.scrubbed) step.view ∙ common.counted;
-        bare = λ is. (let clash : true ≡ false = sym (common.bare is).0 ∙ on in absurd (cc));
-        owns = ap (λ (v : AppView). v.owns) step.view ∙ common.owns;
-        app = ap (λ (v : AppView). v.app) step.view ∙ common.app;
-        ended = ap (λ (v : AppView). v.ended) step.view ∙ common.ended;
-        apart = step.apart;
-        found = found-of new.taken (set was.flows was.active x) set-stands.flows;
-        distinct = set-stands.distinct;
-        few = omega (arith, later-bound);
-      }
-
-  item-items : (items : List Given) → HasGiven items was.flows old.taken
-      → (own.bytes ≡ length (marks_given own.number items))
-      × HasGiven (items ++ record { flow = own.number; lending = lending } ∷ []) (set was.flows was.active x) new.taken
-  item-items items given =
-      let g : Given = record { flow = own.number; lending = lending } in
-      let each : Each (IsGivenOf items old.taken) (there.before ++ own ∷ there.after) = subst (Each (IsGivenOf items old.taken)) there.is given.flows in
-      let here : IsGivenOf items old.taken own = (each-right (IsGivenOf items old.taken) there.before (own ∷ there.after) each).0 in
-      let one : many own.number (there.before ++ own ∷ there.after) ≡ 1 =
-      omega (arith, before-it.distinct own.number, total-append (is_number own.number) there.before (own ∷ there.after), number-is own.number own refl) in
-      let now-each : Each (IsGivenOf (items ++ g ∷ []) old.taken) (there.before ++ x ∷ there.after) =
-      each-changed (IsGivenOf items old.taken) (IsGivenOf (items ++ g ∷ []) old.taken) there.before there.after own x (before-it.distinct own.number) each
-      (λ f other is. given-other f.number items g (λ e. other (sym e)) ∙ is)
-      (given-here old.taken own now lending old new refl step own-stands sound items here) in (
-        sym (ap length here ∙ bytes-long old.taken own now lending old new refl step own-stands sound),
-        subst (λ fs. HasGiven (items ++ g ∷ []) fs new.taken) (sym flows-x) (subst (HasGiven (items ++ g ∷ []) (there.before ++ x ∷ there.after)) taken-kept
-            (record {
-              flows = now-each;
-              others = λ n none.
-                  let gone : many n (there.before ++ own ∷ there.after) ≡ 0 = sym (many-x n) ∙ none in
-                  given-other n items g (λ e. absurd (omega (arith, ap (λ k. many k (there.before ++ own ∷ there.after)) e, one, gone)))
-                  ∙ given.others n (ap (many n) there.is ∙ gone);
-            })),
-      )
-
-  pub item-stepped : Stepped was later old new (Item (record { flow = own.number; position = own.bytes; loan = lending.loan; copied = copied }))
-  item-stepped =
-      let (t, is) = note-there old.taken lending.note step.of_note in
-      record {
-        stands = record {
-          common = later-common;
-          going = λ _ _. record {
-            out = lending ∷ going.out;
-            stands = set-stands;
-            rest = rest-set was.active was.flows x going.rest;
-            index = index-set was.index was.flows was.active own x within value number-x going.index;
-            spares = omega (
-              arith,
-              step.spares,
-              step.copy,
-              copy,
-              going.spares,
-              ap (total unsplit_len) taken-kept,
-              shorts-x,
-              spare-few step.piece lending.loan.len loan-long step.len,
-            );
-            bound = later-bound;
-          };
-          released = ⊎_elim (λ (is : was.stopped ≡ true). absurd (cc)) (λ (is : was.ended ≡ true). absurd (cc));
-          whole = λ is _. absurd (cc);
-        };
-        only = record {
-          view = is-with old new _ step.view refl;
-          more = [];
-          taken = sym taken-kept ∙ sym (append-nil old.taken);
-          looks = step.looks;
-        };
-        steps = record {
-          lending = lending;
-          loan = refl;
-          held = in-contains (λ (l : LentPiece). l.place) (lent_piece new.taken lending) new.loans loan-out;
-          out = loan-out;
-          lends = loans-x;
-          note = t;
-          is = subst (λ ts. slice_get ts lending.note ≡ Some t) taken-kept is;
-          copied = copied-is t.note.split copied lending.note lending.at (take lending.loan.len (drop lending.at t.bytes))
-              (sym (ap (λ (found : Option TakenNote). one_copy (origin_in found lending.note lending.at lending.loan.len)) is) ∙ copy);
-          spares = omega (arith, step.spares, step.copy, copy);
-          fits = fits old.taken own now lending old new refl step own-stands sound;
-          place = λ whole. subst (λ ts. IsAt (marks_of own.number ts) own.bytes (marks_of_loan lending)) taken-kept
-              (stands-there old.taken own now lending old new refl step own-stands sound (subst FramesStandTogether (sym taken-kept) whole));
-          items = item-items;
-          going = (on, on);
-          more = more;
-        };
-      }
-
-  abbrev the_lent : ℕ → ℕ → Lent
-  the_lent flow position = record { flow = flow; position = position; loan = lending.loan; copied = copied }
-
-  pub item-is : (lent : Lent) (put : FlowQueue) → lent ≡ the_lent now.number now.bytes → put ≡ x
-      → Stepped was (record was { flows = set was.flows was.active put }) old new (Item lent)
-  item-is lent put is put_is =
-      let same : lent ≡ the_lent own.number own.bytes = is ∙ ap (λ (f : FlowQueue). the_lent f.number f.bytes) step.flow in
-      subst (λ (f : FlowQueue). Stepped was (record was { flows = set was.flows was.active f }) old new (Item lent)) (sym put_is)
-      (subst (λ (l : Lent). Stepped was later old new (Item l)) (sym same) item-stepped)
-
--- ---- what lending asks for
-
-module _ (was : Desk) (v : AppView) (stands : StreamStands was v) (on : was.stopped ≡ false) (more : was.ended ≡ false) where
-  going-now : Going was v
-  going-now = stands.going on more
-
-  pub next-can : MayLendNext v
-  next-can = record {
-    holds = record { here = stands.common.here; apart = stands.common.apart };
-    counted = going-now.stands.counted;
-    owns = stands.common.owns;
+  counted-stand : QueuesStand (counted_in mid own loan) (all_read (loan ∷ out)) v
+  counted-stand = record {
+    stands = subst (λ (fs : List FlowQueue). Stands mid.notes fs [] (loan ∷ out) v) (sym (there.set_is x)) counted-stands;
+    rest = rest-set mid.active mid.flows x stand.rest;
+    index = index-set mid.index mid.flows mid.active own x within value refl stand.index;
+    bounded = record { spares = omega (arith, shorts-x, stand.bounded.spares); loans = omega (arith, shorts-x, stand.bounded.loans) };
   }
 
-  pub none-active : length was.flows ≤ was.active → NoneInOrder was
-  none-active past = λ _. rest-none was.active was.flows past going-now.rest
+  items-counted : (items : List Given) → HasGiven items mid.flows v.taken
+      → (own.bytes ≡ length (marks_given own.number items)) × HasGiven (items ++ given_of own loan ∷ []) (counted_in mid own loan).flows v.taken
+  items-counted items given =
+      let g : Given = given_of own loan in
+      let each : Each (IsGivenOf items v.taken) (there.before ++ own ∷ there.after) = subst (Each (IsGivenOf items v.taken)) there.is given.flows in
+      let here : IsGivenOf items v.taken own = (each-right (IsGivenOf items v.taken) there.before (own ∷ there.after) each).0 in
+      let one : many own.number (there.before ++ own ∷ there.after) ≡ 1 =
+      omega (arith, before-it.distinct own.number, total-append (is_number own.number) there.before (own ∷ there.after), number-is own.number own refl) in (
+        sym (ap length here ∙ bytes-long v.taken own loan own-stands sound),
+        subst (λ fs. HasGiven (items ++ g ∷ []) fs v.taken) (sym (there.set_is x)) (record {
+          flows = each-changed (IsGivenOf items v.taken) (IsGivenOf (items ++ g ∷ []) v.taken) there.before there.after own x (before-it.distinct own.number)
+              each (λ f other is. given-other f.number items g (λ e. other (sym e)) ∙ is) (given-here v.taken own loan own-stands sound items here);
+          others = λ n none.
+              let gone : many n (there.before ++ own ∷ there.after) ≡ 0 = sym (many-x n) ∙ none in
+              given-other n items g (λ e. absurd (omega (arith, ap (λ k. many k (there.before ++ own ∷ there.after)) e, one, gone)))
+              ∙ given.others n (ap (many n) there.is ∙ gone);
+        }),
+      )
 
-  module _ (own : FlowQueue) (within : was.active < length was.flows) (value : own ≡ get_or was.flows was.active own) where
-    there-now : At was.flows was.active own
-    there-now = split-at was.flows was.active own within value
+-- ---- of the stream
 
-    stands-now : Stands was.notes (there-now.before ++ own ∷ there-now.after) [] going-now.out v
-    stands-now = subst (λ (fs : List FlowQueue). Stands was.notes fs [] going-now.out v) there-now.is going-now.stands
+module _ (was : Desk) (old new : AppView) (stands : StreamStands was old) (more : was.ended ≡ false) where
+  -- the reserve was held
+  pub held-stepped : (now : Desk) → now ≡ was → SawNoSpare old new → Stepped was now old new (waiting ReserveHeld)
+  held-stepped now same saw =
+      let rested : came_to_rest old ≡ old = ap (λ b. record old { settled = b }) (sym stands.common.settled) in
+      saw-stepped was now old new no_spare ReserveHeld stands more same (saw.event ∙ ap (λ (w : AppView). app_saw w no_spare) rested) saw.rose
 
-    flow-now : FlowStands v.taken [] own
-    flow-now = (each-right (FlowStands v.taken []) there-now.before (own ∷ there-now.after) stands-now.flows).0
+  module _ (on : was.stopped ≡ false) (mid : QueueState) (loan : Lending) (copied : Bool) (lends : LentAs (queues_of was) mid old new (loan, copied))
+      (own : FlowQueue) (value : own ≡ get_or mid.flows mid.active own) (sound : IsSound own.queue) where
+    abbrev one : LentOne (queues_of was) mid old new loan
+    one = lends.0
 
-    pub next-out : (f : HeldPiece → ℕ) → over_kept f own.queue ≤ total f v.helds
-    next-out = flow-out was.notes there-now.before there-now.after own [] going-now.out v stands-now
+    abbrev lent : LentNext old new one.own one.after loan
+    lent = one.lent
 
-    pub next-backed : IsBacked v own.queue
-    next-backed = record {
-      notes = flow-now.notes;
-      sized = flow-now.holds.sized;
-      spare = omega (
-        arith,
-        going-now.spares,
-        ap (total (λ f. short_bytes f.queue)) there-now.is,
-        total-append (λ f. short_bytes f.queue) there-now.before (own ∷ there-now.after),
-      );
-    }
+    going : Going was old
+    going = stands.going on more
 
-    put-back : (put : FlowQueue) → put ≡ own → set was.flows was.active put ≡ was.flows
-    put-back put is = ap (set was.flows was.active) is ∙ there-now.set_is own ∙ sym there-now.is
+    within-now : mid.active < length mid.flows
+    within-now = subst (λ (q : QueueState). q.active < length q.flows) (sym one.is) (omega (arith, one.within, length-set-same was.flows was.active one.after))
 
-    pub desk-back : (put : FlowQueue) → put ≡ own → record was { flows = set was.flows was.active put } ≡ was
-    desk-back put is = ap (λ (fs : List FlowQueue). record was { flows = fs }) (put-back put is)
+    own-is : own ≡ one.after
+    own-is = value ∙ ap (λ (q : QueueState). get_or q.flows q.active own) one.is ∙ get_or-set_same was.flows was.active one.after own one.within
 
-    pub none-next : own.queue.popped ≡ next_of own.queue → NoneInOrder was
-    none-next is = λ _. rest-too was.active was.flows own within going-now.rest (sym value) is
+    taken-kept : old.taken ≡ new.taken
+    taken-kept = sym (ap (λ (v : AppView). v.taken) lent.view)
 
-    -- the reserve was held
-    pub held-stepped : (new : AppView) (put : FlowQueue) → put ≡ own → SawNoSpare v new
-        → Stepped was (record was { flows = set was.flows was.active put }) v new (waiting ReserveHeld)
-    held-stepped new put is saw =
-        let rested : came_to_rest v ≡ v = ap (λ b. record v { settled = b }) (sym stands.common.settled) in
-        let event : new ≡ app_saw v no_spare = saw.event ∙ ap (λ (w : AppView). app_saw w no_spare) rested in
-        subst (λ (d : Desk). Stepped was d v new (waiting ReserveHeld)) (sym (desk-back put is)) (record {
-          stands = saw-stands was v new no_spare event stands;
-          only = only-saw v new no_spare event;
-          steps = (
-            unlent-none was v new (ap (λ (w : AppView). w.loans) event) (ap (λ (w : AppView). w.spares) event) (ap (λ (w : AppView). w.taken) event),
-            saw.rose,
-            refl,
-            more,
-          );
-        })
+    facts-kept : map facts_of mid.flows ≡ map facts_of was.flows
+    facts-kept = ap (λ (q : QueueState). map facts_of q.flows) one.is ∙ map-set facts_of was.flows was.active one.own one.after one.within one.active
+        (ap facts_of lent.flow ∙ ap (λ b. record { number = one.own.number; base = b; bytes = one.own.bytes }) lent.loses.base)
+
+    loans-more : (f : LentPiece → ℕ) → total f new.loans ≡ total f old.loans + f (lent_piece new.taken loan)
+    loans-more f = lent.loans f ∙ ap (λ ts. total f old.loans + f (lent_piece ts loan)) taken-kept
+
+    loan-out : IsIn (lent_piece new.taken loan) new.loans
+    loan-out = is-lent-there (lent_piece new.taken loan) new.loans
+        (omega (arith, loans-more (is_that_loan (lent_piece new.taken loan)), that-loan (lent_piece new.taken loan)))
+
+    lent-stand : QueuesStand mid (with_unread (all_read going.out) (told_of own) loan) new
+    lent-stand = one.stands (all_read going.out) (told_of own) (ap (λ (f : FlowQueue). f.number) (own-is ∙ lent.flow)) (stand-of was old going)
+
+    later-stand : QueuesStand (counted_in mid own loan) (all_read (loan ∷ going.out)) new
+    later-stand = counted-stand mid own loan going.out new within-now value sound lent-stand
+
+    abbrev later : Desk
+    later = with_queues was (counted_in mid own loan)
+
+    later-common : Common later new
+    later-common =
+        let common : Common was old = stands.common in
+        record {
+          here = ap (λ (v : AppView). v.left) lent.view ∙ common.here;
+          settled = ap (λ (v : AppView). v.settled) lent.view;
+          counted = ap (λ (v : AppView). v.scrubbed) lent.view ∙ common.counted;
+          bare = λ is. (let clash : true ≡ false = sym (common.bare is).0 ∙ on in absurd (cc));
+          owns = ap (λ (v : AppView). v.owns) lent.view ∙ common.owns;
+          app = ap (λ (v : AppView). v.app) lent.view ∙ common.app;
+          ended = ap (λ (v : AppView). v.ended) lent.view ∙ common.ended;
+          apart = lent.apart;
+          found = ends-of (counted_in mid own loan) (all_read (loan ∷ going.out)) new later-stand;
+          distinct = later-stand.stands.distinct;
+          few = omega (arith, later-stand.bounded.loans);
+        }
+
+    item-stepped : Stepped was later old new (Item (record { flow = own.number; position = own.bytes; loan = loan.loan; copied = copied }))
+    item-stepped =
+        let flow-stands = own-stands mid own loan going.out new within-now value sound lent-stand in
+        let (t, is) = note-there new.taken loan.note lent-stand.stands.lent.0 in
+        record {
+          stands = record {
+            common = later-common;
+            going = λ _ _. going-of was (counted_in mid own loan) (loan ∷ going.out) new later-stand;
+            released = ⊎_elim (λ (is : was.stopped ≡ true). absurd (cc)) (λ (is : was.ended ≡ true). absurd (cc));
+            whole = λ is _. absurd (cc);
+          };
+          only = record {
+            view = is-with old new _ lent.view refl;
+            more = [];
+            taken = sym taken-kept ∙ sym (append-nil old.taken);
+            looks = lent.looks;
+          };
+          steps = record {
+            lending = loan;
+            loan = refl;
+            held = in-contains (λ (l : LentPiece). l.place) (lent_piece new.taken loan) new.loans loan-out;
+            out = loan-out;
+            lends = loans-more;
+            note = t;
+            is = is;
+            copied = copied-is t.note.split copied loan.note loan.at (take loan.loan.len (drop loan.at t.bytes))
+                (sym (ap (λ (found : Option TakenNote). one_copy (origin_in found loan.note loan.at loan.loan.len)) is)
+                ∙ ap (λ ts. is_copy (lent_piece ts loan)) (sym taken-kept) ∙ lends.1);
+            spares = omega (arith, lent.spares, lent.copy, lends.1);
+            fits = fits new.taken own loan flow-stands sound;
+            place = stands-there new.taken own loan flow-stands sound;
+            items = λ items given. items-counted mid own loan going.out new within-now value sound lent-stand items
+                (subst (HasGiven items mid.flows) taken-kept (items-released was.flows mid.flows old.taken facts-kept items given));
+            going = (on, on);
+            more = more;
+          };
+        }
+
+    pub item-is : (item : Lent) (put : FlowQueue) → item ≡ record { flow = own.number; position = own.bytes; loan = loan.loan; copied = copied }
+        → put ≡ counting own loan → Stepped was (with_queues was (record mid { flows = set mid.flows mid.active put })) old new (Item item)
+    item-is item put is put_is =
+        subst (λ (f : FlowQueue). Stepped was (with_queues was (record mid { flows = set mid.flows mid.active f })) old new (Item item)) (sym put_is)
+        (subst (λ (l : Lent). Stepped was later old new (Item l)) (sym is) item-stepped)

@@ -1,5 +1,6 @@
 pub mod Marking
 pub mod Views
+pub mod FlowsKept
 pub mod Noted
 pub mod Keeping
 pub mod Released

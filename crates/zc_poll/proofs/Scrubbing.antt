@@ -1,14 +1,14 @@
 -- The user counts of a stopped stream are scrubbed, or a refill slot was seen in use.
 use Rattle.std.specs.Prelude.{MatchBool}
-use Rattle.std.proofs.Common.{◌≡◌, ℕ, Bool, true, false, List, [], ◌∷◌, length, Option, Some, None, refl, sym, ap, subst, ◌∙◌, inl, inr, ⊎_elim, arith, append-nil}
+use Rattle.std.proofs.Common.{◌≡◌, ℕ, Bool, true, false, List, [], Option, None, refl, sym, ap, subst, ◌∙◌, inl, inr, ⊎_elim, arith, append-nil}
 use Rattle.zr_kinds.specs.declared.place.Place.{Place}
 use Rattle.zr_kinds.specs.declared.behaviour.Stopped.TheVariants as stop
 use Rattle.board_face.specs.{Looks.{AppRose}, declared.views.app.{AppLook.TheVariants.{NotQuiet as not_quiet}, AppView.{AppView}}}
 use Rattle.flow_queues.specs.{Core.{total}}
 use Rattle.zc_poll.specs.{Counting.{TallyState}, Standing.{Desk, StreamStands}, Items.{HasGiven}, Steps.{OnlySteps, Scrubs}}
-use Rattle.zc_poll.specs.{Pouring.{OnlyDue, PourStands}, PourTurns.{PourStage, ScrubsFirst, ScrubsIfQuiet, TookStep, TurnDoes, pour_stage}}
+use Rattle.zc_poll.specs.{Pouring.{PourStands}, PourTurns.{PourStage, ScrubsFirst, ScrubsIfQuiet, TookStep, TurnDoes, pour_stage}}
 use Rattle.zc_poll.specs.declared.to_shelf.{PollTurn.{PollTurn, TheVariants.{Did, Idle, Ended}}, Rests.TheVariants.{Stream, RefillFull, NotQuiet, NoNotice}}
-use Rattle.zc_poll.proofs.{EntriesFirst.{first-same}, ItemPoured.{poured-moved}, PourTurns.{same-counts}, Pours.{is-no}}
+use Rattle.zc_poll.proofs.{EntriesFirst.{first-same}, ItemPoured.{poured-moved}, PourTurns.{same-counts}}
 use Rattle.zr_io.specs.Moved.{ShelfCounts}
 
 -- the view but for what a look for quiet slots and a scrub change
@@ -57,14 +57,6 @@ module _ (first kept : ℕ → Option (List ℕ)) (losses losses_now : ShelfCoun
     still = before.still;
     appended = before.appended;
   })
-
--- no loan is due once it was stopped
-pub due-going : (first kept : ℕ → Option (List ℕ)) (losses now : ShelfCounts) (u : TallyState) (st : Desk) (v : AppView) (loan : Place)
-    → PourStands first losses u st kept now v → u.due ≡ Some loan → u.stopped ≡ stop.No
-due-going first kept losses now u st v loan before due = ⊎_elim (λ is. is)
-    (λ stopped. (let (piece, one, place) = subst (λ d. OnlyDue d v.loans) due before.due in
-    let e : piece ∷ [] ≡ [] = sym one ∙ (before.over stopped).1 in let n : 1 ≡ 0 = ap length e in absurd (omega (arith, n))))
-    (is-no u.stopped)
 
 -- and it is what comes before a step
 pub scrubs-first : (due : Option Place) (was now : Desk) (old new : AppView) (done : Bool) → was.stopped ≡ true → Scrubs was now old new done

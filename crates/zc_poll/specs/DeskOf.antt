@@ -1,14 +1,14 @@
 -- What a stream keeps beside its face, as plain data.
-use Rattle.zc_poll.specs.{declared.queues.Queues.{Queues}, Standing.{Desk}}
+use Rattle.zc_poll.specs.{declared.state.StreamState.{StreamState}, Standing.{Desk}}
 
-abbrev pub desk_of : Queues → Desk
-desk_of q = record {
-  app = q.app;
-  notes = q.notes;
-  flows = q.flows.items;
-  index = q.index.entries;
-  active = q.active;
-  stopped = q.stopped;
-  ended = q.ended;
-  scrubbed = q.scrubbed;
+abbrev pub desk_of : StreamState → Desk
+desk_of s = record {
+  app = s.app;
+  notes = s.queues.notes;
+  flows = s.queues.flows.items;
+  index = s.queues.index.entries;
+  active = s.queues.active;
+  stopped = s.stopped;
+  ended = s.ended;
+  scrubbed = s.scrubbed;
 }

@@ -7,7 +7,7 @@ use Rattle.board_face.specs.declared.views.app.{AppLook.TheVariants.{NoNote as n
 use Rattle.board_face.specs.declared.views.app.{TakenNote.{TakenNote}, AppView.{AppView}, AppLook.{AppLook}}
 use Rattle.flow_queues.specs.{declared.queues.Lending.{Lending}, Marks.{FramesStandTogether, marks_of}, Core.{total, IsIn, lent_piece, marks_of_loan}}
 use Rattle.zc_poll.specs.declared.step.{Lent.{Lent}, Waits.{Waits, TheVariants.{NoNote, ReserveHeld, Enough}}, Step.{Step, TheVariants.{Item, Waiting, Memory, Ended}}}
-use Rattle.zc_poll.specs.declared.taking.Taken.{Taken, TheVariants.{Did as took_one, NoNote as saw_none, Ended as told_end, Memory as had_no_memory}}
+use Rattle.flow_queues.specs.declared.noting.Taken.{Taken, TheVariants.{Did as took_one, NoNote as saw_none, Ended as told_end, Memory as had_no_memory}}
 use Rattle.zc_poll.specs.{Standing.{Desk, Common, StreamStands, NoneInOrder, CanStop}, Items.{Given, HasGiven, marks_given, IsAt}, Fresh.{has_scrubbed}}
 
 -- a count of bytes, with so many more: it stays at 2^64 - 1

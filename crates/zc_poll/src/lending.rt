@@ -4,10 +4,10 @@ ghost use Rattle.tcp_reorder.specs.Queue.{IsSound};
 ghost use Rattle.board_face.specs.{AppEvents.{app_gist}, declared.views.app.AppLook.TheVariants.{NoSpare}};
 ghost use Rattle.zc_poll.specs.{Standing.{StreamStands}, Steps.{Offers, counted_on}, DeskOf.{desk_of}, declared.step.{Step.TheVariants.{Waiting}, Waits.TheVariants.{NoNote, ReserveHeld}}};
 
-use crate::queues::Queues;
+use crate::state::StreamState;
 use crate::step::{Lent, Step, Waits};
 use board_face::AppFace;
-use flow_queues::{FlowQueue, Lending, Next, lend_next};
+use flow_queues::{FlowQueue, Lending, Next, lend};
 
 /// The item that a loan is, which counts its bytes.
 fn item(own: &mut FlowQueue, lending: Lending, copied: bool) -> Lent
@@ -32,7 +32,7 @@ fn item(own: &mut FlowQueue, lending: Lending, copied: bool) -> Lent
 }
 
 /// Lends the piece that is next in the stream of the active flow. `None` says that no piece is in order.
-pub fn offer<F: AppFace>(face: &mut F, st: &mut Queues) -> Option<Step>
+pub fn offer<F: AppFace>(face: &mut F, st: &mut StreamState) -> Option<Step>
     requires stands { StreamStands (desk_of st.old) (F.seen face.old) }
     requires more { st.old.ended ≡ false }
     ensures offers { Offers (desk_of st.old) (desk_of st.new) (F.seen face.old) (F.seen face.new)
@@ -45,16 +45,14 @@ pub fn offer<F: AppFace>(face: &mut F, st: &mut Queues) -> Option<Step>
     if st.stopped {
         return None;
     }
-    if st.active >= st.flows.len() {
-        return None;
-    }
-    let own = &mut st.flows[st.active];
-    match lend_next(face, own) {
-        Next::Lent(lending) => Some(Step::Item(item(own, lending, false))),
-        Next::LentCopy(lending) => Some(Step::Item(item(own, lending, true))),
-        Next::NoneInOrder => None,
-        Next::ReserveHeld => Some(Step::Waiting(Waits::ReserveHeld)),
+    let (lending, copied) = match lend(face, &mut st.queues) {
+        Next::Lent(lending) => (lending, false),
+        Next::LentCopy(lending) => (lending, true),
+        Next::NoneInOrder => return None,
+        Next::ReserveHeld => return Some(Step::Waiting(Waits::ReserveHeld)),
         // Nothing was pushed raw, so this is never reached.
         Next::Unsettled => unreachable!(),
-    }
+    };
+    let own = &mut st.queues.flows[st.queues.active];
+    Some(Step::Item(item(own, lending, copied)))
 }

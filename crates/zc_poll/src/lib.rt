@@ -8,7 +8,7 @@ mod laws;
 mod leaving;
 mod lending;
 mod pouring;
-mod queues;
+mod state;
 mod step;
 mod stream;
 mod taking;

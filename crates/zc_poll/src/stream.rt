@@ -5,21 +5,21 @@ ghost use Rattle.flow_queues.specs.{declared.queues.Lending.{Lending}, Marks.{ma
 ghost use Rattle.zc_poll.specs.{Standing.{StreamStands, HoldsLoan, StaysAt, MayLeave, stopped_with}, Items.{Given, HasGiven}, Steps.{Stepped, OnlySteps, PollGives, Scrubs, IsHeldUp, IsStepTold}, Fresh.{HasDoneNothing, new_desk, has_left}, Polls.{AsksAgain, Yields}, Stops.{IsStill}, declared.step.Step.TheVariants.{Ended}};
 
 use crate::lending::offer;
-use crate::queues::{Queues, scrub, stop};
+use crate::state::{StreamState, scrub, stop};
 use crate::step::{Lent, Step, Waits};
 use crate::taking::take_note;
 use board_face::{AppFace, Loan};
+use flow_queues::Queues;
 use futures::Stream;
 use futures::task::{Context, Poll};
 use std::alloc::{AllocError, Global};
-use std::collections::BTreeMap;
 use std::marker::Model;
 
 /// The loans of an application, one after another.
 #[derive(Drop)]
 pub struct LoanStream<F> {
     face: F,
-    queues: Queues,
+    state: StreamState,
 }
 
 impl<F> Model for LoanStream<F> {
@@ -27,7 +27,7 @@ impl<F> Model for LoanStream<F> {
 
     ghost Value = { Streaming F };
 
-    ghost view = { λ s. record { face = s.face; desk = desk_of s.queues } };
+    ghost view = { λ s. record { face = s.face; desk = desk_of s.state } };
 }
 
 impl<F: AppFace> LoanStream<F> {
@@ -40,13 +40,9 @@ impl<F: AppFace> LoanStream<F> {
     {
         LoanStream {
             face,
-            queues: Queues {
-                alloc,
+            state: StreamState {
                 app,
-                notes: 0,
-                flows: Vec::new(alloc),
-                index: BTreeMap::new(alloc),
-                active: 0,
+                queues: Queues::new(alloc),
                 stopped: false,
                 ended: false,
                 scrubbed: false,
@@ -66,18 +62,18 @@ impl<F: AppFace> LoanStream<F> {
             F.tells look (app_gist (F.seen self.new.face)) (F.beside self.new.face)) result }
         ensures beside { F.beside self.new.face ≡ F.beside self.old.face }
     {
-        if self.queues.ended {
+        if self.state.ended {
             return Step::Ended;
         }
-        if let Some(step) = offer(&mut self.face, &mut self.queues) {
+        if let Some(step) = offer(&mut self.face, &mut self.state) {
             return step;
         }
         let mut left = self.face.places();
         while left > 0 {
-            if let Some(step) = take_note(&mut self.face, &mut self.queues) {
+            if let Some(step) = take_note(&mut self.face, &mut self.state) {
                 return step;
             }
-            if let Some(step) = offer(&mut self.face, &mut self.queues) {
+            if let Some(step) = offer(&mut self.face, &mut self.state) {
                 return step;
             }
             left -= 1;
@@ -142,7 +138,7 @@ impl<F: AppFace> LoanStream<F> {
             → HasGiven items self.new.desk.flows (F.seen self.new.face).taken }
         ensures beside { F.beside self.new.face ≡ F.beside self.old.face }
     {
-        stop(&mut self.face, &mut self.queues);
+        stop(&mut self.face, &mut self.state);
     }
 
     /// Scrubs the user counts of a stream that was stopped, once no loan is out, also while notes still come: whether it is done.
@@ -158,10 +154,10 @@ impl<F: AppFace> LoanStream<F> {
             (F.seen self.old.face) (F.seen self.new.face) }
         ensures beside { F.beside self.new.face ≡ F.beside self.old.face }
     {
-        if !scrub(&mut self.face, self.queues.scrubbed) {
+        if !scrub(&mut self.face, self.state.scrubbed) {
             return false;
         }
-        self.queues.scrubbed = true;
+        self.state.scrubbed = true;
         true
     }
 
@@ -199,7 +195,7 @@ impl<F: AppFace> LoanStream<F> {
             (F.seen self.old.face) (F.seen self.new.face) }
         ensures beside { F.beside self.new.face ≡ F.beside self.old.face }
     {
-        if !scrub(&mut self.face, self.queues.scrubbed) {
+        if !scrub(&mut self.face, self.state.scrubbed) {
             return false;
         }
         self.face.leave();
@@ -210,12 +206,12 @@ impl<F: AppFace> LoanStream<F> {
     pub fn has_ended(&self) -> bool
         ensures { result ≡ self.now.desk.ended }
     {
-        self.queues.ended
+        self.state.ended
     }
 
     /// What the queues are made of.
     pub fn alloc(&self) -> Global {
-        self.queues.alloc
+        self.state.queues.alloc
     }
 }
 
@@ -224,7 +220,7 @@ impl<F> LoanStream<F> {
     pub fn into_face(self) -> F
         ensures { result ≡ self.face }
     {
-        let LoanStream { face, queues: _ } = self;
+        let LoanStream { face, state: _ } = self;
         face
     }
 }

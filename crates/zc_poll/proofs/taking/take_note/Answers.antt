@@ -1,12 +1,13 @@
 use Rattle.std.proofs.Common.{◌∙◌, ap, map, true}
 use Rattle.flow_queues.specs.Flows.{facts_of}
-use Rattle.zc_poll.{specs.{Standing.{Desk}, DeskOf.{desk_of}}, proofs.{Passing.{none-stepped}, Released.{may-end, memory-stepped, ended-stepped}}}
+use Rattle.board_face.specs.declared.views.app.AppLook.TheVariants.{NoNote as no_note}
+use Rattle.zc_poll.{specs.{Standing.{Desk}, DeskOf.{desk_of}, declared.step.Waits.TheVariants.{NoNote}}, proofs.{Passing.{saw-stepped}, Released.{may-end, memory-stepped, ended-stepped}}}
 use Rattle.zc_poll.proofs.taking.take_note.Goals as goal
 
 pub returns-in-NoNote-clause-takes : goal.returns-in-NoNote-clause-takes
 returns-in-NoNote-clause-takes g c = (
-  none-stepped (desk_of c.args.st.now) (desk_of c.look.new.st) (g.F.AppFace.seen c.args.face.now) (g.F.AppFace.seen c.look.new.face) c.requires.stands
-      c.requires.rest c.requires.more c.in-NoNote.ensures.looks.0 c.in-NoNote.ensures.looks.1,
+  saw-stepped (desk_of c.args.st.now) (desk_of c.look.new.st) (g.F.AppFace.seen c.args.face.now) (g.F.AppFace.seen c.look.new.face) no_note NoNote
+      c.requires.stands c.requires.more c.in-NoNote.ensures.looks.0 c.in-NoNote.ensures.looks.1.event (c.in-NoNote.ensures.looks.1.rose, c.requires.rest),
   tt,
 )
 
@@ -27,7 +28,8 @@ returns-in-Ended-clause-takes g c =
     let released = c.release.ensures.released in (
       ended-stepped (desk_of c.args.st.now) _ (g.F.AppFace.seen c.args.face.now) (g.F.AppFace.seen c.look.new.face) (g.F.AppFace.seen c.release.new.face)
           c.requires.stands c.requires.rest c.requires.more looks.1 released.view
-          (ap (λ (d : Desk). record d { ended = true }) released.same ∙ ap (λ (d : Desk). record d { flows = c.release.new.st.flows.items; ended = true }) looks.0)
+          (ap (λ (d : Desk). record d { ended = true }) released.same
+          ∙ ap (λ (d : Desk). record d { flows = c.release.new.st.queues.flows.items; ended = true }) looks.0)
           (released.facts ∙ ap (λ (d : Desk). map facts_of d.flows) looks.0),
       tt,
     )

@@ -7,7 +7,7 @@ returns-clause-stays g c =
     let stands = rw (← c.self.view_is) at c.requires.holds.stands in
     let out = rw (← c.self.view_is) at c.requires.holds.out in
     rw (← c.self.view_is) (record {
-      stands = stands-abandoned (desk_of c.self.inside.queues) (g.F.AppFace.seen c.self.inside.face) c.args.loan stands out
+      stands = stands-abandoned (desk_of c.self.inside.state) (g.F.AppFace.seen c.self.inside.face) c.args.loan stands out
           (g.F.AppFace.seen c.abandon.new.self) c.abandon.ensures.view;
       desk = refl;
     })

@@ -14,7 +14,7 @@ returns-clause-stays g c =
     let stands = rw (← c.self.view_is) at c.requires.holds.stands in
     let out = rw (← c.self.view_is) at c.requires.holds.out in
     rw (← c.self.view_is) (record {
-      stands = by-answer (desk_of c.self.inside.queues) (g.F.AppFace.seen c.self.inside.face) (g.F.AppFace.seen c.give.new.self) c.args.loan c.give.result
+      stands = by-answer (desk_of c.self.inside.state) (g.F.AppFace.seen c.self.inside.face) (g.F.AppFace.seen c.give.new.self) c.args.loan c.give.result
           stands out c.give.ensures.view;
       desk = refl;
     })

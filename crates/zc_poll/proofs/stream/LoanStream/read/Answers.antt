@@ -7,7 +7,7 @@ pub returns-clause-stays : goal.returns-clause-stays
 returns-clause-stays g c =
     let stands = rw (← c.self.view_is) at c.requires.holds.stands in
     rw (← c.self.view_is) (record {
-      stands = read-stands (desk_of c.self.inside.queues) (g.F.AppFace.seen c.self.inside.face) (g.F.AppFace.seen c.read.new.self) _ c.read.ensures.view stands;
+      stands = read-stands (desk_of c.self.inside.state) (g.F.AppFace.seen c.self.inside.face) (g.F.AppFace.seen c.read.new.self) _ c.read.ensures.view stands;
       desk = refl;
     })
 

@@ -5,9 +5,9 @@ use Rattle.zc_poll.proofs.stream.LoanStream.step.Given as goal
 
 abbrev pub invariant-loop-left : goal.invariant-loop-left
 invariant-loop-left g l =
-    Passed ((g.F.AppFace.seen l.fn.self.face).setting.places - l.left) l.fn.self.desk (desk_of l.self-inside.queues) (g.F.AppFace.seen l.fn.self.face)
+    Passed ((g.F.AppFace.seen l.fn.self.face).setting.places - l.left) l.fn.self.desk (desk_of l.self-inside.state) (g.F.AppFace.seen l.fn.self.face)
     (g.F.AppFace.seen l.self-inside.face)
-    × NoneInOrder (desk_of l.self-inside.queues)
+    × NoneInOrder (desk_of l.self-inside.state)
     × (l.left ≤ (g.F.AppFace.seen l.fn.self.face).setting.places)
     × (l.fn.self.desk.ended ≡ false)
     × (g.F.AppFace.beside l.self-inside.face ≡ g.F.AppFace.beside l.fn.self.face)

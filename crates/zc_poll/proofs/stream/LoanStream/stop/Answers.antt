@@ -4,12 +4,12 @@ use Rattle.zc_poll.proofs.stream.LoanStream.stop.Goals as goal
 pub returns-clause-stands : goal.returns-clause-stands
 returns-clause-stands g c =
     let stands = rw (← c.self.view_is) at c.requires.stands in
-    stopped-stands (desk_of c.self.inside.queues) (desk_of c.stop.new.st) (g.F.AppFace.seen c.self.inside.face) (g.F.AppFace.seen c.stop.new.face)
+    stopped-stands (desk_of c.self.inside.state) (desk_of c.stop.new.st) (g.F.AppFace.seen c.self.inside.face) (g.F.AppFace.seen c.stop.new.face)
     c.stop.ensures.stopped stands.common
 
 pub returns-clause-items : goal.returns-clause-items
 returns-clause-items g c =
-    let unlent : Unlent (desk_of c.self.inside.queues) (desk_of c.stop.new.st) (g.F.AppFace.seen c.self.inside.face) (g.F.AppFace.seen c.stop.new.face) =
-    stopped-unlent (desk_of c.self.inside.queues) (desk_of c.stop.new.st) (g.F.AppFace.seen c.self.inside.face) (g.F.AppFace.seen c.stop.new.face)
+    let unlent : Unlent (desk_of c.self.inside.state) (desk_of c.stop.new.st) (g.F.AppFace.seen c.self.inside.face) (g.F.AppFace.seen c.stop.new.face) =
+    stopped-unlent (desk_of c.self.inside.state) (desk_of c.stop.new.st) (g.F.AppFace.seen c.self.inside.face) (g.F.AppFace.seen c.stop.new.face)
     c.stop.ensures.stopped in
     rw (← c.self.view_is) unlent.items
