@@ -1,15 +1,15 @@
 -- What stands between two steps stands behind the calls that take none.
 use Rattle.std.proofs.Common.{◌≡◌, ℕ, zero, suc, ◌+◌, ◌<◌, ◌≤◌, List, [], ◌∷◌, ◌++◌, length, map, get_or, length-append, refl, sym, ap, subst, ◌∙◌, arith, inl, inr, ⊎_elim, true, false}
-use Rattle.std.proofs.lemmas.Bool.{cases_lt}
+use Rattle.std.{specs.Prelude.{Bool, MatchBool}, proofs.lemmas.Bool.{cases_lt}}
 use Rattle.zr_kinds.specs.{declared.place.Place.{Place}, CopyingReceiver.{next_missing}}
-use Rattle.board_face.specs.{AppCalls.{HasLoan, ShowsCopy}, AppEvents.{app_saw, abandoned, gave, has_read, loan_origin}, declared.views.app.AppLook.{AppLook}}
+use Rattle.board_face.specs.{AppCalls.{AppOnlySaw, HasLoan, ShowsCopy}, AppEvents.{app_saw, abandoned, gave, has_read, left_board, loan_origin}, declared.views.app.AppLook.{AppLook, TheVariants.{NotQuiet}}}
+use Rattle.flow_queues.specs.{Leaving.{HasScrubbed, ScrubsOnce, Leaves}, declared.queues.Lending.{Lending}}
 use Rattle.board_face.specs.declared.views.app.{Reading.{Reading}, LentPiece.{LentPiece}, TakenNote.{TakenNote}, AppView.{AppView}}
-use Rattle.flow_queues.specs.declared.queues.Lending.{Lending}
 use Rattle.flow_queues.specs.Core.{total, Each, IsIn, LieApart, lent_piece, over_read, own_notes, placed_of, held_len, unsplit_len, AreReadAt, FlowStands, Stands}
 use Rattle.flow_queues.{specs.Marks.{marks_from}, proofs.Reading.{read-there}}
 use Rattle.flow_queues.proofs.Tokens.{total-append, in-total, is_that_loan, that-loan, is-lent-there, is-given, TokenGiven}
 use Rattle.flow_queues.{proofs.Standing.{each-left, each-right, each-join}, specs.{Totals.{taken_len}, Shelves.{FlowEnds}}}
-use Rattle.zc_poll.{specs.{Standing.{Desk, Common, Going, IsWhole, StreamStands}, Fresh.{has_scrubbed}}, proofs.Views.{total-one}}
+use Rattle.zc_poll.{specs.{Standing.{Desk, Common, Going, IsWhole, StreamStands}, Fresh.{has_scrubbed, has_left}, Steps.{Scrubs}}, proofs.Views.{total-one}}
 
 -- these are the loans that are out
 pub record AreLoansOut (taken : List TakenNote) (loans : List LentPiece) (out : List Lending) : Type 0 where
@@ -219,3 +219,32 @@ scrubbed-stands st v new stands stopped none e = subst (StreamStands (record st 
   released = stands.released;
   whole = λ _ on. (let clash : true ≡ false = sym stopped ∙ on in absurd (cc));
 })
+
+-- ---- scrubbing and leaving
+
+-- each refill slot was seen free now, or stays free since the user counts were scrubbed
+quiet-then : (st : Desk) (v new : AppView) → StreamStands st v → HasScrubbed v new → new ≡ has_scrubbed v
+quiet-then st v new stands is = is.view ∙ ap (λ q. record v { scrubbed = true; quiet = q }) (quiet-now v.scrubbed refl)
+  where
+    quiet-now : (b : Bool) → v.scrubbed ≡ b → new.quiet ≡ true
+    quiet-now true was = let (on, loans, quiet) = stands.common.bare (sym stands.common.counted ∙ was) in is.same was ∙ quiet
+    quiet-now false was = is.seen was
+
+module _ (st : Desk) (v new : AppView) (stands : StreamStands st v) (done : Bool) where
+  abbrev now : Desk
+  now = record st { scrubbed = done }
+
+  pub scrubs-of : (result : Bool) → ScrubsOnce st.scrubbed done v new result → Scrubs st now v new result
+  scrubs-of true (is, scrubbed) = (ap (λ b. record st { scrubbed = b }) is, quiet-then st v new stands scrubbed)
+  scrubs-of false (is, saw) = (ap (λ b. record st { scrubbed = b }) is, saw)
+
+  pub stands-scrubbed : st.stopped ≡ true → v.loans ≡ [] → (result : Bool) → ScrubsOnce st.scrubbed done v new result → StreamStands now new
+  stands-scrubbed stopped none true (is, scrubbed) = subst (λ b. StreamStands (record st { scrubbed = b }) new) (sym is)
+      (scrubbed-stands st v new stands stopped none (quiet-then st v new stands scrubbed))
+  stands-scrubbed stopped none false (is, saw) = subst (λ b. StreamStands (record st { scrubbed = b }) new) (sym is)
+      (saw-stands st v new NotQuiet saw.event stands)
+
+  pub left-of : (result : Bool) → Leaves st.scrubbed done v new result
+      → MatchBool result (new ≡ has_left v) (StreamStands st new × AppOnlySaw NotQuiet v new)
+  left-of true (is, (mid, scrubbed, left)) = left ∙ ap left_board (quiet-then st v mid stands scrubbed)
+  left-of false (is, saw) = (saw-stands st v new NotQuiet saw.event stands, saw)

@@ -4,7 +4,9 @@ use Rattle.zr_kinds.specs.declared.place.Place.{Place}
 use Rattle.zr_kinds.specs.declared.behaviour.Stopped.TheVariants as stop
 use Rattle.zr_io.specs.Moved.{Gained, Rose, ShelfCounts, raised_by}
 use Rattle.board_face.specs.declared.views.app.{LentPiece.{LentPiece}, AppView.{AppView}}
-use Rattle.flow_queues.specs.{Marks.{Mark}, Core.{total, AreReadAt, most_at_once}, Totals.{capped, lent_len, loan_entries, raw_entries}}
+use Rattle.std.specs.Io.KnownBytes.{Keeps}
+use Rattle.flow_queues.specs.declared.queues.Lending.{Lending}
+use Rattle.flow_queues.specs.{Marks.{Mark}, Core.{total, AreReadAt, IsIn, IsReadOf, lent_piece, most_at_once}, Totals.{capped, lent_len, loan_entries, raw_entries}}
 use Rattle.flow_queues.specs.{Shelves.{AreOfOneLoan, kept_loans}, Entries.{Gives}, Ends.{bytes_in, times}}
 use Rattle.zc_poll.specs.{Counting.{TallyState}, Standing.{Desk, StreamStands}, Items.{Given, HasGiven, marks_given}}
 
@@ -50,6 +52,12 @@ pub record HasPoured (Failed : Type 0) (first : ℕ → Option (List ℕ)) (w : 
   pub room : length w.counts ≤ w.room
   pub empty : w.flows ≡ []
   pub shelved : (n : ℕ) → Gained (first n) (kept n) (IsPoured (Failed × (n ≡ torn)) v (marks_given n items) (bytes_in n w.counts))
+
+-- The shelf gained the first bytes of a loan for a flow, as they were read, at least as many as are counted. No other flow gained any.
+pub record GainsLoan (old new : AppView) (loan : Place) (flow count : ℕ) (kept kept_now : ℕ → Option (List ℕ)) : Type 0 where
+  pub gained : (lending : Lending) → lending.loan ≡ loan → lending.note < length old.taken → IsIn (lent_piece old.taken lending) old.loans
+      → Gained (kept flow) (kept_now flow) (IsReadOf old.taken new.reads lending count loan.len)
+  pub others : (other : ℕ) → other ≢ flow → Keeps (kept other) (kept_now other)
 
 -- How a shelf's counts changed while so many bytes of these were appended by calls that went well. Where these are fewer, one failed.
 pub record CountsAppends (len done : ℕ) (old new : ShelfCounts) : Type 0 where

@@ -76,7 +76,7 @@ pub record StaysAt (was now : Desk) (v : AppView) : Type 0 where
   pub desk : now ≡ was
 
 -- it stands, no note comes any more, and no loan is out
-pub record MayLeave (st : Desk) (v : AppView) : Type 0 where
+pub record MayClose (st : Desk) (v : AppView) : Type 0 where
   pub stands : StreamStands st v
   pub ended : st.ended ≡ true
   pub none : v.loans ≡ []
@@ -84,6 +84,12 @@ pub record MayLeave (st : Desk) (v : AppView) : Type 0 where
 -- no piece is in order
 abbrev pub NoneInOrder : Desk → Type 0
 NoneInOrder st = st.stopped ≡ false → Each IsAtRest st.flows
+
+-- it stands, notes may come, and no piece is in order: it may look for one
+pub record MayLook (st : Desk) (v : AppView) : Type 0 where
+  pub stands : StreamStands st v
+  pub more : st.ended ≡ false
+  pub rest : NoneInOrder st
 
 -- ---- all pieces are given up
 

@@ -1,11 +1,12 @@
 -- What a step does.
 use Rattle.std.specs.Prelude.{◌≡◌, ℕ, ◌+◌, ◌-◌, ◌^◌, ◌<◌, min, true, false, not, if◌then◌else◌, List, [], ◌∷◌, ◌++◌, length, Option, Some, None, slice_get, Result, Ok, Err, Bool}
 use Rattle.std.specs.declared.alloc.AllocError.{AllocError}
+use Rattle.zr_kinds.specs.declared.place.Place.{Place}
 use Rattle.futures.specs.declared.task.Poll.{Poll, TheVariants.{Ready, Pending}}
-use Rattle.board_face.specs.{AppCalls.{AppOnlySaw, HasLoan, ToldEnd}, Looks.{AppRose, AppTold, AppLooksStay}, NotNow.{HasWritten}}
+use Rattle.board_face.specs.{AppCalls.{AppOnlySaw, HasLoan, ShowsCopy, ToldEnd}, AppEvents.{has_read, loan_origin}, Looks.{AppRose, AppLooksStay}}
 use Rattle.board_face.specs.declared.views.app.{AppLook.TheVariants.{NoNote as no_note, NoSpare as no_spare, NotQuiet as not_quiet}, LentPiece.{LentPiece}}
 use Rattle.board_face.specs.declared.views.app.{TakenNote.{TakenNote}, AppView.{AppView}, AppLook.{AppLook}}
-use Rattle.flow_queues.specs.{declared.queues.Lending.{Lending}, Marks.{FramesStandTogether, marks_of}, Core.{total, IsIn, lent_piece, marks_of_loan}}
+use Rattle.flow_queues.specs.{declared.queues.Lending.{Lending}, Marks.{FramesStandTogether, marks_from, marks_of}, Core.{total, AreReadAt, IsIn, lent_piece, marks_of_loan}}
 use Rattle.zc_poll.specs.declared.step.{Lent.{Lent}, Waits.{Waits, TheVariants.{NoNote, ReserveHeld, Enough}}, Step.{Step, TheVariants.{Item, Waiting, Memory, Ended}}}
 use Rattle.flow_queues.specs.declared.noting.Taken.{Taken, TheVariants.{Did as took_one, NoNote as saw_none, Ended as told_end, Memory as had_no_memory}}
 use Rattle.zc_poll.specs.{Standing.{Desk, Common, StreamStands, NoneInOrder, CanStop}, Items.{Given, HasGiven, marks_given, IsAt}, Fresh.{has_scrubbed}}
@@ -93,6 +94,15 @@ PollGives is_so was now old new (Ready (Some (Err failed))) = Steps was now old 
 PollGives is_so was now old new (Ready None) = Steps was now old new Ended
 PollGives is_so was now old new Pending = (why : Waits) × Steps was now old new (Waiting why) × IsSoWaiting is_so why
 
+-- ---- a loan
+
+-- Bytes of a loan were read, from one of them on: those at the loan's marks.
+pub record ReadsLoan (old new : AppView) (loan : Place) (from : ℕ) (bytes : List ℕ) : Type 0 where
+  pub view : new ≡ has_read old loan from bytes
+  pub copied : ShowsCopy (loan_origin old loan) from bytes
+  pub text : (lending : Lending) → lending.loan ≡ loan → lending.note < length old.taken → IsIn (lent_piece old.taken lending) old.loans
+      → AreReadAt new.taken new.reads (marks_from lending.note (lending.at + from) (length bytes)) bytes
+
 -- ---- parts of a step
 
 -- so many notes were taken, and nothing was lent
@@ -137,11 +147,6 @@ LooksFor was now old new took_one = Passed 1 was now old new
 LooksFor was now old new saw_none = (now ≡ was) × AppOnlySaw no_note old new
 LooksFor was now old new told_end = (now ≡ was) × ToldEnd old new
 LooksFor was now old new had_no_memory = Wants was now old new
-
--- A refill slot in use holds it up: an entry was written, and the board says of each look that was made that it is so.
-pub record IsHeldUp (is_so : AppLook → Type 0) (old new : AppView) : Type 0 where
-  pub some : HasWritten old
-  pub told : AppTold is_so old new
 
 -- The user counts are scrubbed: they were before, or each refill slot was seen free. Or one was in use.
 abbrev pub Scrubs : Desk → Desk → AppView → AppView → Bool → Type 0

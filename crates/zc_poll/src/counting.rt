@@ -1,5 +1,5 @@
 //! What pouring keeps beside its stream and its shelf.
-ghost use Rattle.std.specs.{Prelude.{◌≡◌, ◌+◌, ◌-◌, ◌^◌, ◌<◌, min, length, OnOk, OnErr, IsSome}, Ordering.{nat_cmp}, BTreeMap.{get}};
+ghost use Rattle.std.specs.{Prelude.{◌≡◌, ◌+◌, ◌-◌, ◌^◌, ◌<◌, min, length, IsSome, MatchResult}, Ordering.{nat_cmp}, BTreeMap.{get}};
 ghost use Rattle.flow_queues.specs.Ends.{bytes_in};
 ghost use Rattle.zc_poll.specs.{Counting.{AddsTo, HasRoomForFlows, item_counted}, TallyOf.{tally_of}};
 
@@ -28,8 +28,8 @@ pub fn make_room(work: &mut PourTally, flow: u32) -> Result<(), AllocError>
     requires room { HasRoomForFlows (tally_of work.old) }
     ensures same { work.new ≡ record work.old { counts = work.new.counts; flows = work.new.flows } }
     ensures none { AddsTo flow 0 work.old.counts.entries work.new.counts.entries }
-    ensures there { OnOk result (IsSome (get nat_cmp work.new.counts flow)) }
-    ensures stays { OnErr result (work.new.counts.entries ≡ work.old.counts.entries) }
+    ensures there { MatchResult result (λ _. IsSome (get nat_cmp work.new.counts flow))
+        (λ _. work.new.counts.entries ≡ work.old.counts.entries) }
     ensures room { HasRoomForFlows (tally_of work.new) }
 {
     if work.counts.contains_key(&flow) {

@@ -1,8 +1,8 @@
 //! What is next in the stream of a flow is an item.
-ghost use Rattle.std.specs.Prelude.{◌≡◌, ◌≢◌, false, Some, None, Option};
+ghost use Rattle.std.specs.Prelude.{◌≡◌, false, IfSome};
 ghost use Rattle.tcp_reorder.specs.Queue.{IsSound};
-ghost use Rattle.board_face.specs.{AppEvents.{app_gist}, declared.views.app.AppLook.TheVariants.{NoSpare}};
-ghost use Rattle.zc_poll.specs.{Standing.{StreamStands}, Steps.{Offers, counted_on}, DeskOf.{desk_of}, declared.step.{Step.TheVariants.{Waiting}, Waits.TheVariants.{NoNote, ReserveHeld}}};
+ghost use Rattle.board_face.specs.AppEvents.{app_gist};
+ghost use Rattle.zc_poll.specs.{Standing.{StreamStands}, Steps.{IsStepTold, Offers, counted_on}, DeskOf.{desk_of}};
 
 use crate::state::StreamState;
 use crate::step::{Lent, Step, Waits};
@@ -37,9 +37,8 @@ pub fn offer<F: AppFace>(face: &mut F, st: &mut StreamState) -> Option<Step>
     requires more { st.old.ended ≡ false }
     ensures offers { Offers (desk_of st.old) (desk_of st.new) (F.seen face.old) (F.seen face.new)
         result }
-    ensures kind { result ≢ Some (Waiting NoNote) }
-    ensures told { result ≡ Some (Waiting ReserveHeld)
-        → F.tells NoSpare (app_gist (F.seen face.new)) (F.beside face.new) }
+    ensures told { IfSome result (IsStepTold (λ look.
+        F.tells look (app_gist (F.seen face.new)) (F.beside face.new))) }
     ensures beside { F.beside face.new ≡ F.beside face.old }
 {
     if st.stopped {

@@ -1,9 +1,9 @@
 //! An item's loan is read and appended to a flow of a shelf, and counted.
-ghost use Rattle.std.specs.{Prelude.{◌≡◌, ◌≢◌, ℕ, ◌<◌, List, [], length, Option, None}, Io.KnownBytes.{Keeps}};
-ghost use Rattle.zr_io.specs.Moved.{Gained, ShelfCounts};
+ghost use Rattle.std.specs.Prelude.{◌≡◌, ℕ, List, [], Option, None};
+ghost use Rattle.zr_io.specs.Moved.{ShelfCounts};
 ghost use Rattle.board_face.specs.{AppEvents.{abandoned}, declared.views.app.AppView.{AppView}};
-ghost use Rattle.flow_queues.specs.{declared.queues.Lending.{Lending}, Core.{IsIn, lent_piece, OnlyReads, IsReadOf}};
-ghost use Rattle.zc_poll.specs.{Standing.{Desk, StreamStands, HoldsLoan, StaysAt, stopped_with}, Items.{Given, HasGiven}, Steps.{IsItem, OnlySteps}, Counting.{HasRoomForFlows}, Pouring.{CountsAppends, PourStands}, PourTurns.{IsRead}, TallyOf.{tally_of}};
+ghost use Rattle.flow_queues.specs.Core.{OnlyReads};
+ghost use Rattle.zc_poll.specs.{Standing.{Desk, StreamStands, HoldsLoan, StaysAt, stopped_with}, Items.{Given, HasGiven}, Steps.{IsItem, OnlySteps}, Counting.{HasRoomForFlows}, Pouring.{CountsAppends, GainsLoan, PourStands}, PourTurns.{IsRead}, TallyOf.{tally_of}};
 
 use crate::counting::{PourTally, count, count_item, make_room};
 use crate::step::Lent;
@@ -27,14 +27,8 @@ pub fn append_loan<F: AppFace, T: Shelf>(
     ensures stays { StaysAt stream.old.desk stream.new.desk (F.seen stream.new.face) }
     ensures only { OnlyReads (F.seen stream.old.face) (F.seen stream.new.face) }
     ensures appends { CountsAppends loan.now.len result (T.counts shelf.old) (T.counts shelf.new) }
-    ensures gained { (lending : Lending) → lending.loan ≡ loan.now
-        → lending.note < length (F.seen stream.old.face).taken
-        → IsIn (lent_piece (F.seen stream.old.face).taken lending) (F.seen stream.old.face).loans
-        → Gained (T.kept shelf.old flow) (T.kept shelf.new flow)
-        (λ (read : List ℕ). IsReadOf (F.seen stream.old.face).taken (F.seen stream.new.face).reads
-        lending result loan.now.len read) }
-    ensures others { (other : ℕ) → other ≢ flow
-        → Keeps (T.kept shelf.old other) (T.kept shelf.new other) }
+    ensures gains { GainsLoan (F.seen stream.old.face) (F.seen stream.new.face) loan.now flow result
+        (T.kept shelf.old) (T.kept shelf.new) }
     ensures beside { F.beside stream.new.face ≡ F.beside stream.old.face }
 {
     let mut chunk = [0; CHUNK];

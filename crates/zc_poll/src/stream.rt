@@ -1,15 +1,15 @@
 ghost use Rattle.std.specs.Prelude.{◌≡◌, ◌+◌, ◌<◌, ◌≤◌, [], List, length, Some, None, true, false, IfErr, IfSome, MatchBool, MatchResult, ⊤};
 ghost use Rattle.futures.specs.{Poll.{IfReady, OnPending}, Runs.{After, Within}, declared.task.Poll.TheVariants.{Ready}};
-ghost use Rattle.board_face.specs.{Looks.{AppTold}, NotNow.{HasWrittenRingful}, AppCalls.{AppOnlySaw, ShowsCopy}, AppEvents.{app_gist, has_read, loan_origin, gave, abandoned}, declared.views.app.AppLook.TheVariants.{RefillInUse, NotQuiet}};
-ghost use Rattle.flow_queues.specs.{declared.queues.Lending.{Lending}, Marks.{marks_from}, Core.{IsIn, lent_piece, AreReadAt}};
-ghost use Rattle.zc_poll.specs.{Standing.{StreamStands, HoldsLoan, StaysAt, MayLeave, stopped_with}, Items.{Given, HasGiven}, Steps.{Stepped, OnlySteps, PollGives, Scrubs, IsHeldUp, IsStepTold}, Fresh.{HasDoneNothing, new_desk, has_left}, Polls.{AsksAgain, Yields}, Stops.{IsStill}, declared.step.Step.TheVariants.{Ended}};
+ghost use Rattle.board_face.specs.{Looks.{AppTold}, NotNow.{HasWrittenRingful}, AppCalls.{AppOnlySaw}, AppEvents.{app_gist, gave, abandoned}, declared.views.app.AppLook.TheVariants.{RefillInUse, NotQuiet}};
+ghost use Rattle.flow_queues.specs.Leaving.{IsHeldUp};
+ghost use Rattle.zc_poll.specs.{Standing.{StreamStands, HoldsLoan, StaysAt, MayClose, stopped_with}, Items.{Given, HasGiven}, Steps.{Stepped, OnlySteps, PollGives, ReadsLoan, Scrubs, IsStepTold}, Fresh.{HasDoneNothing, new_desk, has_left}, Polls.{AsksAgain, Yields}, Stops.{IsStill}, declared.step.Step.TheVariants.{Ended}};
 
 use crate::lending::offer;
-use crate::state::{StreamState, scrub, stop};
+use crate::state::{StreamState, stop};
 use crate::step::{Lent, Step, Waits};
 use crate::taking::take_note;
 use board_face::{AppFace, Loan};
-use flow_queues::Queues;
+use flow_queues::{Queues, leave, scrub};
 use futures::Stream;
 use futures::task::{Context, Poll};
 use std::alloc::{AllocError, Global};
@@ -86,15 +86,7 @@ impl<F: AppFace> LoanStream<F> {
         requires holds { HoldsLoan self.old.desk (F.seen self.old.face) loan.now }
         requires within { from + length into.old ≤ loan.now.len }
         ensures stays { StaysAt self.old.desk self.new.desk (F.seen self.new.face) }
-        ensures view { F.seen self.new.face
-            ≡ has_read (F.seen self.old.face) loan.now from into.new }
-        ensures copied { ShowsCopy (loan_origin (F.seen self.old.face) loan.now) from into.new }
-        // The bytes are those at the loan's marks.
-        ensures text { (lending : Lending) → lending.loan ≡ loan.now
-            → lending.note < length (F.seen self.old.face).taken
-            → IsIn (lent_piece (F.seen self.old.face).taken lending) (F.seen self.old.face).loans
-            → AreReadAt (F.seen self.new.face).taken (F.seen self.new.face).reads
-            (marks_from lending.note (lending.at + from) (length into.new)) into.new }
+        ensures reads { ReadsLoan (F.seen self.old.face) (F.seen self.new.face) loan.now from into.new }
         ensures beside { F.beside self.new.face ≡ F.beside self.old.face }
     {
         self.face.read(loan, from, into);
@@ -154,16 +146,12 @@ impl<F: AppFace> LoanStream<F> {
             (F.seen self.old.face) (F.seen self.new.face) }
         ensures beside { F.beside self.new.face ≡ F.beside self.old.face }
     {
-        if !scrub(&mut self.face, self.state.scrubbed) {
-            return false;
-        }
-        self.state.scrubbed = true;
-        true
+        scrub(&mut self.face, &mut self.state.scrubbed)
     }
 
     /// Leaves, once no loan is out, and scrubs before where that wasn't done. `Err` says that a refill slot was seen in use.
     pub fn close(self) -> Result<F, LoanStream<F>>
-        requires may { MayLeave self.desk (F.seen self.face) }
+        requires may { MayClose self.desk (F.seen self.face) }
         ensures left { MatchResult result
             (λ face. F.seen face ≡ has_left (F.seen self.face))
             (λ back. (back.desk ≡ self.desk) × StreamStands back.desk (F.seen back.face)
@@ -183,7 +171,7 @@ impl<F: AppFace> LoanStream<F> {
 
     /// As `close`, and the face stays here. `false` says that a refill slot was seen in use.
     pub fn leave(&mut self) -> bool
-        requires may { MayLeave self.old.desk (F.seen self.old.face) }
+        requires may { MayClose self.old.desk (F.seen self.old.face) }
         ensures desk { self.new.desk ≡ self.old.desk }
         ensures left { MatchBool result
             (F.seen self.new.face ≡ has_left (F.seen self.old.face))
@@ -195,11 +183,8 @@ impl<F: AppFace> LoanStream<F> {
             (F.seen self.old.face) (F.seen self.new.face) }
         ensures beside { F.beside self.new.face ≡ F.beside self.old.face }
     {
-        if !scrub(&mut self.face, self.state.scrubbed) {
-            return false;
-        }
-        self.face.leave();
-        true
+        let mut scrubbed = self.state.scrubbed;
+        leave(&mut self.face, &mut scrubbed)
     }
 
     /// Whether no note comes any more, and all was given.

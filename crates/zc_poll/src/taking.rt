@@ -1,7 +1,7 @@
 //! A note is taken: into the queue of its flow, or past it where the stream is stopped.
-ghost use Rattle.std.specs.Prelude.{◌≡◌, ◌≢◌, false, Some};
+ghost use Rattle.std.specs.Prelude.{◌≡◌, IfSome};
 ghost use Rattle.board_face.specs.{AppEvents.{app_gist}, declared.views.app.AppLook.TheVariants.{NoNote as no_note}};
-ghost use Rattle.zc_poll.specs.{Standing.{StreamStands, NoneInOrder}, Steps.{Takes, LooksFor}, DeskOf.{desk_of}, declared.step.{Step.TheVariants.{Waiting}, Waits.TheVariants.{NoNote, ReserveHeld}}};
+ghost use Rattle.zc_poll.specs.{Standing.{MayLook}, Steps.{IsStepTold, Takes, LooksFor}, DeskOf.{desk_of}};
 
 use crate::state::{StreamState, release, stop};
 use crate::step::{Step, Waits};
@@ -10,9 +10,7 @@ use flow_queues::{Taken, pass_note};
 
 /// Looks for a note, which enters the queue of its flow, or goes past it where the stream is stopped.
 fn look<F: AppFace>(face: &mut F, st: &mut StreamState) -> Taken
-    requires stands { StreamStands (desk_of st.old) (F.seen face.old) }
-    requires more { st.old.ended ≡ false }
-    requires rest { NoneInOrder (desk_of st.old) }
+    requires may { MayLook (desk_of st.old) (F.seen face.old) }
     ensures looks { LooksFor (desk_of st.old) (desk_of st.new) (F.seen face.old) (F.seen face.new)
         result }
     ensures told { result ≡ Taken.NoNote
@@ -28,14 +26,11 @@ fn look<F: AppFace>(face: &mut F, st: &mut StreamState) -> Taken
 /// Takes the next note. `None` says that one was taken. Want of memory stops the stream, and where no note comes any more all
 /// pieces are given up that wait behind gaps.
 pub fn take_note<F: AppFace>(face: &mut F, st: &mut StreamState) -> Option<Step>
-    requires stands { StreamStands (desk_of st.old) (F.seen face.old) }
-    requires more { st.old.ended ≡ false }
-    requires rest { NoneInOrder (desk_of st.old) }
+    requires may { MayLook (desk_of st.old) (F.seen face.old) }
     ensures takes { Takes (desk_of st.old) (desk_of st.new) (F.seen face.old) (F.seen face.new)
         result }
-    ensures kind { result ≢ Some (Waiting ReserveHeld) }
-    ensures told { result ≡ Some (Waiting NoNote)
-        → F.tells no_note (app_gist (F.seen face.new)) (F.beside face.new) }
+    ensures told { IfSome result (IsStepTold (λ look.
+        F.tells look (app_gist (F.seen face.new)) (F.beside face.new))) }
     ensures beside { F.beside face.new ≡ F.beside face.old }
 {
     match look(face, st) {

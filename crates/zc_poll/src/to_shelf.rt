@@ -3,7 +3,7 @@ ghost use Rattle.std.specs.{Prelude.{◌≡◌, ◌≢◌, ◌<◌, ℕ, List, [
 ghost use Rattle.board_face.specs.{AppCalls.{HasLoan}, AppEvents.{app_gist}, declared.views.app.AppView.{AppView}};
 ghost use Rattle.flow_queues.specs.Core.{Each};
 ghost use Rattle.zr_kinds.specs.declared.{behaviour.Stopped.TheVariants.{No}, place.Place.{Place}};
-ghost use Rattle.zc_poll.specs.{Counting.{HasRoomForFlows, new_tally}, Standing.{Desk, StreamStands, HoldsLoan, StaysAt, MayLeave}, Fresh.{HasDoneNothing, new_desk}, Pouring.{CanTurn, PourStands}, PourTurns.{HadItem, IsTold, PourGives, PourStage, ScrubsFirst, ScrubsIfQuiet, StepDoes, TurnDoes, PollPours, PollDoes, pour_stage}, Steps.{IsItem, OnlySteps}, TallyOf.{tally_of}};
+ghost use Rattle.zc_poll.specs.{Counting.{HasRoomForFlows, new_tally}, Standing.{Desk, StreamStands, HoldsLoan, StaysAt, MayClose}, Fresh.{HasDoneNothing, new_desk}, Pouring.{CanTurn, PourStands}, PourTurns.{HadItem, IsTold, PourGives, PourStage, ScrubsFirst, ScrubsIfQuiet, StepDoes, TurnDoes, PollPours, PollDoes, pour_stage}, Steps.{IsItem, OnlySteps}, TallyOf.{tally_of}};
 ghost use Rattle.zc_poll.specs.{Polls.{AsksAgain, Tells}, PourTurns.{TellsCounts, pour_end}, Stops.{HasStopped, IsStill, quit_by, without_due}, declared.to_shelf.Poured.{Poured as Told}};
 ghost use Rattle.futures.specs.Poll.{IfReady, OnPending};
 ghost use Rattle.zr_io.specs.Moved.{ShelfCounts};
@@ -107,7 +107,7 @@ fn give_back<F: AppFace>(stream: &mut LoanStream<F>, work: &mut PourTally, loan:
 
 /// Lets the face leave, once all is given back.
 fn close<F: AppFace>(stream: &mut LoanStream<F>, work: &mut PourTally) -> PollTurn
-    requires may { MayLeave stream.old.desk (F.seen stream.old.face) }
+    requires may { MayClose stream.old.desk (F.seen stream.old.face) }
     requires due { work.old.due ≡ None }
     requires room { HasRoomForFlows (tally_of work.old) }
     ensures gives { (first kept : ℕ → Option (List ℕ)) (losses now : ShelfCounts)

@@ -2,8 +2,7 @@
 use Rattle.std.proofs.Common.{rules, ◌≡◌, ◌+◌, false}
 use Rattle.board_face.specs.{AppCalls.{TookNote}, declared.views.app.AppView.{AppView}}
 use Rattle.flow_queues.specs.{Core.{held_piece}, Pieces.{whole_piece}, KeptOf.{queue_state}}
-use Rattle.flow_queues.proofs.{Tokens.{in-contains}, Took.{Took}, NoteTaken.{took-it, piece-released, piece-lost, piece-entered}}
-use Rattle.flow_queues.proofs.noting.take_note.Goals.{In-Note}
+use Rattle.flow_queues.proofs.{Tokens.{in-contains}, Took.{Took}, NoteTaken.{took-it, piece-released, piece-lost, piece-entered}, noting.take_note.Goals.{In-Note}}
 use Rattle.flow_queues.proofs.noting.take_note.Goals as goal
 
 pub returns-in-Linear-clause-takes : goal.returns-in-Linear-clause-takes

@@ -24,11 +24,11 @@ returns-then-is_err-clause-carries g c =
     subst (λ (o : Option ℕ). IfSome o (λ flow. AddsPiece (g.C.Carrier.got c.loop-done.carrier flow) (g.C.Carrier.got c.carry.new.self flow) c.carry.result c.read.new.into)) known c.carry.ensures.bytes in
     let added : (n : ℕ) × Appends before after (take n c.read.new.into) = search rules in
     record {
-      only = read-more v0 v w c.args.sent.now.loan c.loop-done.done c.read.new.into inv.5 c.read.ensures.view;
+      only = read-more v0 v w c.args.sent.now.loan c.loop-done.done c.read.new.into inv.5 c.read.ensures.reads.view;
       counted = search rules;
       gained = λ lending same known out.
-          some-more-at v0.taken first before after v w inv.3.common.apart c.args.sent.now.loan c.loop-done.done c.read.new.into c.read.ensures.copied
-          c.read.ensures.view lending same (still-out v0 v (lent_piece v0.taken lending) inv.5 out) known (inv.6 lending same known out) added.0 fits
+          some-more-at v0.taken first before after v w inv.3.common.apart c.args.sent.now.loan c.loop-done.done c.read.new.into c.read.ensures.reads.copied
+          c.read.ensures.reads.view lending same (still-out v0 v (lent_piece v0.taken lending) inv.5 out) known (inv.6 lending same known out) added.0 fits
           (omega (arith, size, n)) added.1;
       others = search rules;
       later = search rules;
@@ -65,10 +65,10 @@ loop-done-preserved g c =
       omega (arith, length-append c.read.new.into (drop c.min-n.result c.loop-done.chunk), length-drop c.min-n.result c.loop-done.chunk, size, n, inv.2),
       search rules,
       search rules,
-      read-more v0 v w c.args.sent.now.loan c.loop-done.done c.read.new.into inv.5 c.read.ensures.view,
+      read-more v0 v w c.args.sent.now.loan c.loop-done.done c.read.new.into inv.5 c.read.ensures.reads.view,
       λ lending same known out. subst (λ k. Gained first after (IsReadTo v0.taken w.reads lending (c.loop-done.done + k))) size
-          (one-more-at v0.taken first before after v w inv.3.common.apart c.args.sent.now.loan c.loop-done.done c.read.new.into c.read.ensures.copied
-          c.read.ensures.view lending same (still-out v0 v (lent_piece v0.taken lending) inv.5 out) known (inv.6 lending same known out) fits added),
+          (one-more-at v0.taken first before after v w inv.3.common.apart c.args.sent.now.loan c.loop-done.done c.read.new.into c.read.ensures.reads.copied
+          c.read.ensures.reads.view lending same (still-out v0 v (lent_piece v0.taken lending) inv.5 out) known (inv.6 lending same known out) fits added),
       λ other away. Keeps-trans _ _ _ (inv.7 other away) (others other away),
       search rules,
       search rules,

@@ -9,10 +9,10 @@ use Rattle.zc_poll.proofs.pouring.append_loan.Goals as goal
 pub returns-then-is_err-clause-only : goal.returns-then-is_err-clause-only
 returns-then-is_err-clause-only g c =
     read-more (g.F.AppFace.seen c.args.stream.now.face) (g.F.AppFace.seen c.loop-done.stream.face) (g.F.AppFace.seen c.read.new.self.face)
-    c.args.loan.now c.loop-done.done c.read.new.into c.loop-done.invariant.5 c.read.ensures.view
+    c.args.loan.now c.loop-done.done c.read.new.into c.loop-done.invariant.5 c.read.ensures.reads.view
 
-pub returns-then-is_err-clause-gained : goal.returns-then-is_err-clause-gained
-returns-then-is_err-clause-gained g c =
+pub returns-then-is_err-clause-gains : goal.returns-then-is_err-clause-gains
+returns-then-is_err-clause-gains g c =
     let v0 : AppView = g.F.AppFace.seen c.args.stream.now.face in
     let v : AppView = g.F.AppFace.seen c.loop-done.stream.face in
     let w : AppView = g.F.AppFace.seen c.read.new.self.face in
@@ -24,10 +24,13 @@ returns-then-is_err-clause-gained g c =
     let n : c.min-n.result ≡ min (c.args.loan.now.len - c.loop-done.done) 4096 = search rules in
     let fits : c.loop-done.done + length c.read.new.into ≤ c.args.loan.now.len = omega (arith, size, n, inv.0, inv.1) in
     let added : (n : ℕ) × Appends before after (take n c.read.new.into) = search rules in
-    λ lending same known out.
-    some-more-at v0.taken first before after v w inv.3.common.apart c.args.loan.now c.loop-done.done c.read.new.into c.read.ensures.copied
-    c.read.ensures.view lending same (still-out v0 v (lent_piece v0.taken lending) inv.5 out) known (inv.6 lending same known out) added.0 fits
-    (omega (arith, size, n)) added.1
+    record {
+      gained = λ lending same known out.
+          some-more-at v0.taken first before after v w inv.3.common.apart c.args.loan.now c.loop-done.done c.read.new.into c.read.ensures.reads.copied
+          c.read.ensures.reads.view lending same (still-out v0 v (lent_piece v0.taken lending) inv.5 out) known (inv.6 lending same known out) added.0 fits
+          (omega (arith, size, n)) added.1;
+      others = λ other away. Keeps-trans _ _ _ (inv.7 other away) (c.append.ensures.others other away);
+    }
 
 pub loop-done-preserved : goal.loop-done-preserved
 loop-done-preserved g c =
@@ -49,22 +52,25 @@ loop-done-preserved g c =
       omega (arith, length-append c.read.new.into (drop c.min-n.result c.loop-done.chunk), length-drop c.min-n.result c.loop-done.chunk, size, n, inv.2),
       search rules,
       search rules,
-      read-more v0 v w c.args.loan.now c.loop-done.done c.read.new.into inv.5 c.read.ensures.view,
+      read-more v0 v w c.args.loan.now c.loop-done.done c.read.new.into inv.5 c.read.ensures.reads.view,
       λ lending same known out. subst (λ k. Gained first after (IsReadTo v0.taken w.reads lending (c.loop-done.done + k))) size
-          (one-more-at v0.taken first before after v w inv.3.common.apart c.args.loan.now c.loop-done.done c.read.new.into c.read.ensures.copied
-          c.read.ensures.view lending same (still-out v0 v (lent_piece v0.taken lending) inv.5 out) known (inv.6 lending same known out) fits added),
+          (one-more-at v0.taken first before after v w inv.3.common.apart c.args.loan.now c.loop-done.done c.read.new.into c.read.ensures.reads.copied
+          c.read.ensures.reads.view lending same (still-out v0 v (lent_piece v0.taken lending) inv.5 out) known (inv.6 lending same known out) fits added),
       λ other away. Keeps-trans _ _ _ (inv.7 other away) (c.append.ensures.others other away),
       search rules,
       search rules,
       omega (arith, counted, inv.10, size),
     )
 
-pub returns-clause-gained : goal.returns-clause-gained
-returns-clause-gained g c =
+pub returns-clause-gains : goal.returns-clause-gains
+returns-clause-gains g c =
     let v0 : AppView = g.F.AppFace.seen c.args.stream.now.face in
     let v : AppView = g.F.AppFace.seen c.loop-done.stream.face in
     let inv = c.loop-done.invariant in
-    λ lending same known out. Gained-weaker _ _ (IsReadTo v0.taken v.reads lending c.loop-done.done)
-    (IsReadOf v0.taken v.reads lending c.loop-done.done c.args.loan.now.len)
-    (λ bytes is. read-of v0.taken v.reads lending c.loop-done.done c.args.loan.now.len bytes (omega (arith, inv.0, inv.1)) is)
-    (inv.6 lending same known out)
+    record {
+      gained = λ lending same known out. Gained-weaker _ _ (IsReadTo v0.taken v.reads lending c.loop-done.done)
+          (IsReadOf v0.taken v.reads lending c.loop-done.done c.args.loan.now.len)
+          (λ bytes is. read-of v0.taken v.reads lending c.loop-done.done c.args.loan.now.len bytes (omega (arith, inv.0, inv.1)) is)
+          (inv.6 lending same known out);
+      others = inv.7;
+    }

@@ -48,7 +48,7 @@ returns-then-done-place-clause-pours g c =
     (fails first (g.T.Shelf.kept c.args.shelf.now) losses (g.T.Shelf.counts c.args.shelf.now) (tally_of c.args.work.now) st c.args.stream.now.desk v
     (g.F.AppFace.seen c.args.stream.now.face) before c.requires.none c.args.lent item only c.requires.holds.stands (tally_of c.make_room.new.work) roomy adds
     (g.T.Shelf.kept c.append_loan-done.new.shelf) (g.T.Shelf.counts c.append_loan-done.new.shelf) (g.F.AppFace.seen c.append_loan-done.new.stream.face)
-    (tally_of c.count.new.work) c.append_loan-done.result read.only read.appends.counted read.gained read.others (ap tally_of c.count.ensures.same)
+    (tally_of c.count.new.work) c.append_loan-done.result read.only read.appends.counted read.gains.gained read.gains.others (ap tally_of c.count.ensures.same)
     c.count.ensures.adds c.count.ensures.many read.stays.stands.common.apart read.appends.appended (g.F.AppFace.seen c.give_up-then-done-place.new.stream.face)
     c.give_up-then-done-place.new.stream.desk (tally_of c.give_up-then-done-place.new.work) gone.view
     (λ items given. gone.items items
@@ -75,6 +75,6 @@ returns-clause-pours g c =
     (wrote first (g.T.Shelf.kept c.args.shelf.now) losses (g.T.Shelf.counts c.args.shelf.now) (tally_of c.args.work.now) st c.args.stream.now.desk v
     (g.F.AppFace.seen c.args.stream.now.face) before c.requires.none c.args.lent item only c.requires.holds.stands (tally_of c.make_room.new.work) roomy adds
     (g.T.Shelf.kept c.append_loan-done.new.shelf) (g.T.Shelf.counts c.append_loan-done.new.shelf) (g.F.AppFace.seen c.append_loan-done.new.stream.face)
-    (tally_of c.count.new.work) c.append_loan-done.result read.only read.appends.counted read.gained read.others (ap tally_of c.count.ensures.same)
+    (tally_of c.count.new.work) c.append_loan-done.result read.only read.appends.counted read.gains.gained read.gains.others (ap tally_of c.count.ensures.same)
     c.count.ensures.adds c.count.ensures.many read.stays.stands.common.apart read.appends.appended due refl full
     (subst (λ (d : Desk). StreamStands d (g.F.AppFace.seen c.append_loan-done.new.stream.face)) read.stays.desk read.stays.stands) (read.appends.still full))

@@ -5,12 +5,12 @@ use Rattle.zc_poll.proofs.taking.look.Goals as goal
 
 pub returns-then-st-clause-looks : goal.returns-then-st-clause-looks
 returns-then-st-clause-looks g c = looks-past (desk_of c.args.st.now) (g.F.AppFace.seen c.args.face.now) (g.F.AppFace.seen c.pass_note.new.face)
-    c.requires.stands c.requires.more (search rules) c.pass_note.result c.pass_note.ensures.passes
+    c.requires.may.stands c.requires.may.more (search rules) c.pass_note.result c.pass_note.ensures.passes
 
 pub take_note-requires-clause-stand : goal.take_note-requires-clause-stand
 take_note-requires-clause-stand g c =
-    some-out (desk_of c.args.st.now) (g.F.AppFace.seen c.args.face.now) (c.requires.stands.going (search rules) c.requires.more)
+    some-out (desk_of c.args.st.now) (g.F.AppFace.seen c.args.face.now) (c.requires.may.stands.going (search rules) c.requires.may.more)
 
 pub returns-clause-looks : goal.returns-clause-looks
 returns-clause-looks g c = looks-on (desk_of c.args.st.now) (g.F.AppFace.seen c.args.face.now) (g.F.AppFace.seen c.take_note.new.face)
-    c.requires.stands c.requires.more (search rules) (queue_state c.take_note.new.st) c.take_note.result c.take_note.ensures.takes
+    c.requires.may.stands c.requires.may.more (search rules) (queue_state c.take_note.new.st) c.take_note.result c.take_note.ensures.takes

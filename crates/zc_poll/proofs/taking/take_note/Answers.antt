@@ -7,7 +7,7 @@ use Rattle.zc_poll.proofs.taking.take_note.Goals as goal
 pub returns-in-NoNote-clause-takes : goal.returns-in-NoNote-clause-takes
 returns-in-NoNote-clause-takes g c = (
   saw-stepped (desk_of c.args.st.now) (desk_of c.look.new.st) (g.F.AppFace.seen c.args.face.now) (g.F.AppFace.seen c.look.new.face) no_note NoNote
-      c.requires.stands c.requires.more c.in-NoNote.ensures.looks.0 c.in-NoNote.ensures.looks.1.event (c.in-NoNote.ensures.looks.1.rose, c.requires.rest),
+      c.requires.may.stands c.requires.may.more c.in-NoNote.ensures.looks.0 c.in-NoNote.ensures.looks.1.event (c.in-NoNote.ensures.looks.1.rose, c.requires.may.rest),
   tt,
 )
 
@@ -20,14 +20,14 @@ returns-in-Memory-clause-takes g c = (
 
 pub release-requires-clause-may : goal.release-requires-clause-may
 release-requires-clause-may g c = may-end (desk_of c.args.st.now) (desk_of c.look.new.st) (g.F.AppFace.seen c.args.face.now) (g.F.AppFace.seen c.look.new.face)
-    c.requires.stands c.in-Ended.ensures.looks.0 c.in-Ended.ensures.looks.1
+    c.requires.may.stands c.in-Ended.ensures.looks.0 c.in-Ended.ensures.looks.1
 
 pub returns-in-Ended-clause-takes : goal.returns-in-Ended-clause-takes
 returns-in-Ended-clause-takes g c =
     let looks = c.in-Ended.ensures.looks in
     let released = c.release.ensures.released in (
       ended-stepped (desk_of c.args.st.now) _ (g.F.AppFace.seen c.args.face.now) (g.F.AppFace.seen c.look.new.face) (g.F.AppFace.seen c.release.new.face)
-          c.requires.stands c.requires.rest c.requires.more looks.1 released.view
+          c.requires.may.stands c.requires.may.rest c.requires.may.more looks.1 released.view
           (ap (λ (d : Desk). record d { ended = true }) released.same
           ∙ ap (λ (d : Desk). record d { flows = c.release.new.st.queues.flows.items; ended = true }) looks.0)
           (released.facts ∙ ap (λ (d : Desk). map facts_of d.flows) looks.0),

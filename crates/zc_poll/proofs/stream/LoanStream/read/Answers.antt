@@ -11,10 +11,14 @@ returns-clause-stays g c =
       desk = refl;
     })
 
-pub returns-clause-text : goal.returns-clause-text
-returns-clause-text g c =
+pub returns-clause-reads : goal.returns-clause-reads
+returns-clause-reads g c =
     let stands = rw (← c.self.view_is) at c.requires.holds.stands in
     let within : c.args.from + length c.read.new.into ≤ c.args.loan.now.len = search rules in
     let text = λ (lending : Lending).
     read-text (g.F.AppFace.seen c.self.inside.face) (g.F.AppFace.seen c.read.new.self) stands.common.apart lending c.args.loan.now c.args.from c.read.new.into in
-    rw (← c.self.view_is) (λ lending same known out. text lending same known out c.read.ensures.copied within c.read.ensures.view)
+    rw (← c.self.view_is) (record {
+      view = c.read.ensures.view;
+      copied = c.read.ensures.copied;
+      text = λ lending same known out. text lending same known out c.read.ensures.copied within c.read.ensures.view;
+    })
