@@ -2,7 +2,7 @@
 use Rattle.std.proofs.{Common.{◌≡◌, ℕ, ◌+◌, ◌<◌, ◌≤◌, List, [], ◌∷◌, ◌++◌, length, set, get_or, slice_get, Some, refl, sym, ap, subst, ◌∙◌, arith}, lemmas.Option.{slice_get-get_or}}
 use Rattle.zr_kinds.specs.declared.ring.Completion.{Completion}
 use Rattle.tcp_reorder.specs.Queue.{next_of}
-use Rattle.board_face.specs.declared.views.app.{HeldPiece.{HeldPiece}, LentPiece.{LentPiece}, AppLook.{AppLook}, AppView.{AppView}}
+use Rattle.board_face.specs.declared.views.app.{HeldPiece.{HeldPiece}, AppView.{AppView}}
 use Rattle.flow_queues.specs.declared.{queues.{FlowQueue.{FlowQueue}, Waiting.{Waiting, TheVariants.{InArea, Copied}}}, lending.Next.{Next}}
 use Rattle.flow_queues.specs.declared.queues.Lending.{Lending as Loan}
 use Rattle.flow_queues.specs.declared.lending.Next.TheVariants.{Lent, LentCopy, NoneInOrder, Unsettled, ReserveHeld}

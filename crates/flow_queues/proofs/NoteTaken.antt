@@ -1,5 +1,5 @@
 -- A note is taken.
-use Rattle.std.proofs.Common.{◌≡◌, ℕ, ◌+◌, ◌≤◌, true, false, List, [], ◌∷◌, ◌++◌, length, set, take, refl, sym, ap, subst, ◌∙◌, arith, inl, inr, length-append}
+use Rattle.std.proofs.Common.{◌≡◌, ℕ, ◌+◌, ◌≤◌, true, false, List, [], ◌∷◌, ◌++◌, length, set, take, refl, sym, ap, subst, ◌∙◌, arith, inl, inr}
 use Rattle.std.specs.Prelude.{Bool, ◌==◌, if◌then◌else◌}
 use Rattle.zr_kinds.specs.declared.place.{Note.{Note}, Place.{Place}}
 use Rattle.board_face.specs.{AppCalls.{TookNote, TookLinear}, AppEvents.{released}, declared.views.app.{HeldPiece.{HeldPiece}, TakenNote.{TakenNote}}}
@@ -10,7 +10,7 @@ use Rattle.flow_queues.specs.{Flows.{IsAtRest, RestBut, IsIndex, fresh_flow, IsC
 use Rattle.flow_queues.specs.{Taking.{Changes, TakesPiece, LosesPiece, TakesPayload, LosesPayload}, Totals.{taken_len, bytes_of, bytes_if}}
 use Rattle.flow_queues.proofs.{Tokens.{total-append, is-released}, Standing.{each-map}, Took.{Took, is-took, taken_note, kept-tokens, set-last}, Indexing.{index-set}}
 use Rattle.flow_queues.proofs.{Resting.{rest-all, rest-set, rest-push}, Choosing.{Chosen, is-chosen, each-noted, bytes-noted, total-noted, many-noted}}
-use Rattle.flow_queues.specs.{Kept.{QueueState, LoansOut, marks_done, IsBounded, FlowsSound, QueuesStand}, Noting.{Noted, NoteEntered}}
+use Rattle.flow_queues.specs.{Kept.{QueueState, LoansOut, marks_done, IsBounded, QueuesStand}, Noting.{Noted, NoteEntered}}
 use Rattle.flow_queues.proofs.Done.{ends-note, ends-begun, done-grown, done-noted}
 
 none-yet : (b : Bool) (z : ℕ) → (if b then z else z) ≡ z

@@ -1,5 +1,5 @@
 -- Pieces that are cut, and given up in part.
-use Rattle.std.proofs.{Common.{◌≡◌, ℕ, ◌-◌, ◌<◌, false, Some, refl, arith}, lemmas.Bool.Decides.{nat_tests}}
+use Rattle.std.proofs.{Common.{◌≡◌, ℕ, ◌<◌, false, Some, refl, arith}, lemmas.Bool.Decides.{nat_tests}}
 use Rattle.zr_kinds.specs.declared.place.Place.{Place}
 use Rattle.board_face.specs.{Lists.{same_place}, Texts.{front_place, rest_place}, AppEvents.{cut, released}, declared.views.app.HeldPiece.{HeldPiece}}
 use Rattle.board_face.specs.declared.views.app.AppView.{AppView}

@@ -1,7 +1,7 @@
 -- What any application keeps of its flows, as plain data, and how that stands to what its face has seen.
-use Rattle.std.specs.Prelude.{◌≡◌, ℕ, ◌+◌, ◌≤◌, ◌==◌, if◌then◌else◌, List, [], ◌∷◌, ◌++◌, length}
+use Rattle.std.specs.Prelude.{ℕ, ◌+◌, ◌≤◌, ◌==◌, if◌then◌else◌, List, [], ◌∷◌, ◌++◌, length}
 use Rattle.zr_kinds.specs.{declared.ring.Completion.{Completion}, CopyingReceiver.{values_from}}
-use Rattle.board_face.specs.declared.views.app.{TakenNote.{TakenNote}, AppView.{AppView}}
+use Rattle.board_face.specs.{AppCalls.{IsHere}, declared.views.app.{TakenNote.{TakenNote}, AppView.{AppView}}}
 use Rattle.flow_queues.specs.{declared.queues.{FlowQueue.{FlowQueue}, Lending.{Lending}}, Marks.{Mark}}
 use Rattle.flow_queues.specs.Core.{total, many, placed_of, held_len, short_bytes, unsplit_len, Stands, Each}
 use Rattle.flow_queues.specs.{Flows.{RestBut, IsIndex}, Shelves.{FlowEnds}, Totals.{taken_len}}
@@ -47,3 +47,9 @@ pub record QueuesStand (st : QueueState) (out : LoansOut) (v : AppView) : Type 0
   pub rest : RestBut st.active st.flows
   pub index : IsIndex st.index st.flows
   pub bounded : IsBounded st.flows v
+
+-- an application that hasn't left has these loans out, whichever they are
+pub record QueuesWork (st : QueueState) (v : AppView) : Type 0 where
+  pub here : IsHere v
+  pub out : LoansOut
+  pub stand : QueuesStand st out v

@@ -1,8 +1,8 @@
 -- Pieces that wait are cut, and given up.
-use Rattle.std.specs.Prelude.{◌≡◌, ℕ, ◌+◌, ◌<◌, Option, Some, None}
+use Rattle.std.specs.Prelude.{◌≡◌, ℕ, ◌+◌, ◌<◌, List, [], map, Option, Some, None}
 use Rattle.zr_kinds.specs.declared.place.{Note.{Note}, Place.{Place}}
 use Rattle.board_face.specs.{Texts.{IsSplitNote, front_place, rest_place}, declared.views.app.{HeldPiece.{HeldPiece}, AppView.{AppView}}, AppEvents.{released}}
-use Rattle.flow_queues.specs.{declared.queues.{NotePiece.{NotePiece}, Waiting.{Waiting, TheVariants.{InArea, Copied}}}, Core.{total, IsIn, LieApart, held_piece}}
+use Rattle.flow_queues.specs.{Flows.{facts_of}, declared.queues.{FlowQueue.{FlowQueue}, NotePiece.{NotePiece}, Waiting.{Waiting, TheVariants.{InArea, Copied}}}, Core.{total, IsIn, HoldsApart, LieApart, held_piece, short_bytes}}
 
 -- the first bytes of a piece, and the others
 abbrev pub front_of_piece : NotePiece → ℕ → NotePiece
@@ -54,8 +54,15 @@ given_back v (Copied s) = v
 abbrev pub whole_piece : ℕ → Place → NotePiece
 whole_piece number place = record { note = number; at = 0; held = place }
 
--- the piece is that of which the note with this number tells, and it is out
+-- the piece is that of which the note with this number tells, and it is out, of an application that goes on
 pub record CameWith (v : AppView) (note : Note) (number : ℕ) (held : Place) : Type 0 where
+  pub holds : HoldsApart v
   pub fields : IsSplitNote note
   pub place : held ≡ note.place
   pub out : IsIn (held_piece (whole_piece number held)) v.helds
+
+-- all pieces were given up, and the flows stay known
+pub record AllReleased (old new : AppView) (was now : List FlowQueue) : Type 0 where
+  pub view : new ≡ record old { helds = [] }
+  pub facts : map facts_of now ≡ map facts_of was
+  pub short : total (λ f. short_bytes f.queue) now ≡ 0

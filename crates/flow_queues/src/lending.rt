@@ -1,8 +1,8 @@
 //! What is next in a stream is lent: a piece that lies in the area, or a copy of bytes that came with their note.
 ghost use Rattle.std.specs.Prelude.{◌≡◌, true, false, ℕ, ◌≤◌, [], None, MatchOption};
-ghost use Rattle.board_face.specs.{AppCalls.{IsHere}, AppEvents.{app_gist}, declared.views.app.{AppLook.TheVariants.{NoSpare}, HeldPiece.{HeldPiece}}};
+ghost use Rattle.board_face.specs.{AppEvents.{app_gist}, declared.views.app.{AppLook.TheVariants.{NoSpare}, HeldPiece.{HeldPiece}}};
 ghost use Rattle.flow_queues.specs.Core.{HoldsApart, total, over_kept, IsOfNote, Each, lent_piece, is_copy};
-ghost use Rattle.flow_queues.specs.{Active.{LendsActive}, Kept.{LoansOut, QueuesStand}, KeptOf.{queue_state}};
+ghost use Rattle.flow_queues.specs.{Active.{LendsActive}, Kept.{QueuesWork}, KeptOf.{queue_state}};
 ghost use Rattle.flow_queues.specs.Lent.{MayLendNext, IsBacked, IsNext, IsSoOfNext, LentNext, LendsNext, SawNoSpare};
 
 use crate::kept::Queues;
@@ -114,8 +114,7 @@ fn lend_next<F: AppFace>(face: &mut F, own: &mut FlowQueue) -> Next
 
 /// Lends what is next in the stream of the active flow.
 pub fn lend<F: AppFace>(face: &mut F, st: &mut Queues) -> Next
-    requires here { IsHere (F.seen face.old) }
-    requires stand { (out : LoansOut) × QueuesStand (queue_state st.old) out (F.seen face.old) }
+    requires work { QueuesWork (queue_state st.old) (F.seen face.old) }
     requires owns { (F.seen face.old).owns ≡ [] }
     ensures lends { LendsActive (queue_state st.old) (queue_state st.new) (F.seen face.old)
         (F.seen face.new) result }

@@ -1,7 +1,7 @@
 //! All pieces that wait are given up.
-ghost use Rattle.std.specs.Prelude.{◌≡◌, ℕ, ◌+◌, ◌<◌, ◌≤◌, [], map};
+ghost use Rattle.std.specs.Prelude.{◌≡◌, ℕ, ◌+◌, ◌<◌, ◌≤◌, []};
 ghost use Rattle.board_face.specs.declared.views.app.HeldPiece.{HeldPiece};
-ghost use Rattle.flow_queues.specs.{Core.{HoldsApart, total, over_kept, short_bytes}, Pieces.{OnlyHelds}, Flows.{facts_of}};
+ghost use Rattle.flow_queues.specs.{Core.{HoldsApart, total, over_kept}, Pieces.{AllReleased, OnlyHelds}};
 
 use crate::queues::{FlowQueue, Waiting, give_back};
 use board_face::AppFace;
@@ -27,9 +27,8 @@ pub fn release_all<F: AppFace>(face: &mut F, flows: &mut Vec<FlowQueue>)
     requires holds { HoldsApart (F.seen face.old) }
     requires out { (f : HeldPiece → ℕ)
         → total f (F.seen face.old).helds ≡ total (λ flow. over_kept f flow.queue) flows.old.items }
-    ensures view { F.seen face.new ≡ record (F.seen face.old) { helds = [] } }
-    ensures facts { map facts_of flows.new.items ≡ map facts_of flows.old.items }
-    ensures short { total (λ f. short_bytes f.queue) flows.new.items ≡ 0 }
+    ensures released { AllReleased (F.seen face.old) (F.seen face.new) flows.old.items
+        flows.new.items }
     ensures beside { F.beside face.new ≡ F.beside face.old }
 {
     let mut i = 0;

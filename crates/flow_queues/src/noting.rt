@@ -1,7 +1,7 @@
 //! A note is taken: what its flow wants of it enters the flow's queue.
 ghost use Rattle.std.specs.Prelude.{◌≡◌, ◌≤◌, ◌⊎◌, [], length};
-ghost use Rattle.board_face.specs.{AppCalls.{IsHere, TookLinear}, AppEvents.{app_gist}, Texts.{IsLinearNote}, declared.views.app.{AppLook.TheVariants.{NoNote as no_note}, AppView.{AppView}}};
-ghost use Rattle.flow_queues.specs.{Core.{Each, HoldsApart}, Flows.{IsAtRest, IsIndex}, Kept.{LoansOut, QueuesStand}, KeptOf.{queue_state}, Noting.{TakesNote, PassesNote}};
+ghost use Rattle.board_face.specs.{AppCalls.{TookLinear}, AppEvents.{app_gist}, Texts.{IsLinearNote}, declared.views.app.{AppLook.TheVariants.{NoNote as no_note}, AppView.{AppView}}};
+ghost use Rattle.flow_queues.specs.{Core.{Each, HoldsApart}, Flows.{IsAtRest, IsIndex}, Kept.{LoansOut, QueuesStand, QueuesWork}, KeptOf.{queue_state}, Noting.{TakesNote, PassesNote}};
 
 use crate::kept::Queues;
 use crate::taking::{take_payload, take_piece};
@@ -51,8 +51,7 @@ fn take_short(st: &mut Queues, note: &Note, linear: &[u8]) -> Taken
 
 /// Looks for a note. What its flow wants of it enters the flow's queue, and the rest of a piece is given up.
 pub fn take_note<F: AppFace>(face: &mut F, st: &mut Queues) -> Taken
-    requires here { IsHere (F.seen face.old) }
-    requires stand { (out : LoansOut) × QueuesStand (queue_state st.old) out (F.seen face.old) }
+    requires work { QueuesWork (queue_state st.old) (F.seen face.old) }
     requires rest { Each IsAtRest st.old.flows.items }
     ensures takes { TakesNote (queue_state st.old) (queue_state st.new) (F.seen face.old)
         (F.seen face.new) result }

@@ -125,7 +125,6 @@ pub fn enter<F: AppFace>(
     number: u64,
     held: Held,
 ) -> Result<(), Wanting>
-    requires holds { HoldsApart (F.seen face.old) }
     requires came { CameWith (F.seen face.old) note.now number held }
     ensures some { EntersPiece (F.seen face.old) (F.seen face.new) queue.old queue.new
         (whole_piece number held) }

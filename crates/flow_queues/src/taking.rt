@@ -2,7 +2,7 @@
 ghost use Rattle.std.specs.Prelude.{◌≡◌, ℕ, ◌+◌, List, MatchResult, length, take};
 ghost use Rattle.zr_kinds.specs.declared.ring.Completion.{Completion};
 ghost use Rattle.board_face.specs.{AppCalls.{TookNote, TookLinear}, declared.views.app.AppView.{AppView}, Texts.{IsLinearNote}};
-ghost use Rattle.flow_queues.specs.{declared.queues.Lending.{Lending}, Core.{HoldsApart, HasTokens, Stands}, Pieces.{CameWith}, Flows.{IsIndex}, Taking.{TakesPiece, LosesPiece, TakesPayload, LosesPayload}};
+ghost use Rattle.flow_queues.specs.{declared.queues.Lending.{Lending}, Core.{HasTokens, Stands}, Pieces.{CameWith}, Flows.{IsIndex}, Taking.{TakesPiece, LosesPiece, TakesPayload, LosesPayload}};
 
 use crate::places::place_for;
 use crate::queues::{FlowQueue, Wanting, enter};
@@ -23,7 +23,6 @@ pub fn take_piece<F: AppFace>(
     number: u64,
     held: Held,
 ) -> Result<usize, Wanting>
-    requires holds { HoldsApart (F.seen face.old) }
     requires came { CameWith (F.seen face.old) note.now number held }
     requires index { IsIndex index.old.entries flows.old.items }
     ensures takes { MatchResult result

@@ -1,7 +1,7 @@
 -- What a stream keeps of its flows is what any application keeps, and each of its loans was read.
 use Rattle.std.proofs.Common.{List, []}
-use Rattle.board_face.specs.declared.views.app.AppView.{AppView}
-use Rattle.flow_queues.specs.{declared.queues.Lending.{Lending}, Kept.{QueueState, LoansOut, QueuesStand}}
+use Rattle.board_face.specs.{AppCalls.{IsHere}, declared.views.app.AppView.{AppView}}
+use Rattle.flow_queues.specs.{declared.queues.Lending.{Lending}, Kept.{QueueState, LoansOut, QueuesStand, QueuesWork}}
 use Rattle.zc_poll.specs.Standing.{Desk, Going}
 
 abbrev pub queues_of : Desk → QueueState
@@ -21,8 +21,8 @@ stand-of st v going = record {
   bounded = record { spares = going.spares; loans = going.bound };
 }
 
-pub some-out : (st : Desk) (v : AppView) → Going st v → (out : LoansOut) × QueuesStand (queues_of st) out v
-some-out st v going = (all_read going.out, stand-of st v going)
+pub work-of : (st : Desk) (v : AppView) → IsHere v → Going st v → QueuesWork (queues_of st) v
+work-of st v here going = record { here = here; out = all_read going.out; stand = stand-of st v going }
 
 pub going-of : (st : Desk) (q : QueueState) (out : List Lending) (v : AppView) → QueuesStand q (all_read out) v → Going (with_queues st q) v
 going-of st q out v stand = record {

@@ -1,5 +1,5 @@
 -- What was scrubbed before is.
-use Rattle.std.proofs.Common.{rules, ◌≡◌, true, false, ap, refl, sym, ◌∙◌}
+use Rattle.std.proofs.Common.{◌≡◌, true, false, ap, refl, sym, ◌∙◌}
 use Rattle.board_face.specs.declared.views.app.AppView.{AppView}
 use Rattle.flow_queues.proofs.leaving.scrub.Goals as goal
 

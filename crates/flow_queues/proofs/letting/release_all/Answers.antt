@@ -15,15 +15,19 @@ release_kept-requires-clause-out g c = λ f.
     let over : FlowQueue → ℕ = λ flow. over_kept f flow.queue in
     omega (arith, c.loop-i.invariant.2 f, ap (total over) at.is, total-append over at.before (own ∷ at.after))
 
-pub returns-clause-view : goal.returns-clause-view
-returns-clause-view g c =
+pub returns-clause-released : goal.returns-clause-released
+returns-clause-released g c =
     let inv = c.loop-i.invariant in
     let v : AppView = g.F.AppFace.seen c.loop-i.face in
     let past : length c.loop-i.flows.items ≤ c.loop-i.i = search rules in
     let none : total (λ _. 1) v.helds ≡ 0 = inv.2 (λ _. 1)
     ∙ sym (total-take-all (λ flow. over_kept (λ _. 1) flow.queue) c.loop-i.flows.items c.loop-i.i past) ∙ inv.3 in
     let empty : v.helds ≡ [] = total-none v.helds none in
-    inv.0 ∙ ap (λ hs. record (g.F.AppFace.seen c.args.face.now) { helds = hs }) empty
+    record {
+      view = inv.0 ∙ ap (λ hs. record (g.F.AppFace.seen c.args.face.now) { helds = hs }) empty;
+      facts = inv.5;
+      short = sym (total-take-all (λ flow. short_bytes flow.queue) c.loop-i.flows.items c.loop-i.i past) ∙ inv.7;
+    }
 
 pub loop-i-preserved : goal.loop-i-preserved
 loop-i-preserved g c =
@@ -53,8 +57,3 @@ loop-i-preserved g c =
       search rules,
       total-take-set (λ flow. short_bytes flow.queue) flows i now within ∙ (omega (arith, inv.7, no_bytes)),
     )
-
-pub returns-clause-short : goal.returns-clause-short
-returns-clause-short g c =
-    let past : length c.loop-i.flows.items ≤ c.loop-i.i = search rules in
-    sym (total-take-all (λ flow. short_bytes flow.queue) c.loop-i.flows.items c.loop-i.i past) ∙ c.loop-i.invariant.7

@@ -22,7 +22,7 @@ loop-left-init g c =
     let place : c.args.held ≡ c.args.note.now.place = c.requires.came.place in (
       refl,
       refl,
-      record { view = refl; apart = c.requires.holds.apart; moved = λ f. refl },
+      record { view = refl; apart = c.requires.came.holds.apart; moved = λ f. refl },
       refl,
       refl,
       begun-left (g.F.AppFace.seen c.args.face.now) c.args.queue.now c.args.note.now c.args.number c.args.held accepted c.requires.came.fields.within place
@@ -171,8 +171,8 @@ returns-then-not-accepts-clause-some g c =
     let v : AppView = g.F.AppFace.seen c.args.face.now in
     let piece : NotePiece = whole_piece c.args.number c.args.held in
     let some : EntersPiece v (released v c.args.held) c.args.queue.now c.args.queue.now piece = record {
-      only = entered-nothing v c.requires.holds.apart piece c.args.queue.now c.requires.came.out;
-      fewer = shrink-released v c.requires.holds.apart piece c.requires.came.out;
+      only = entered-nothing v c.requires.came.holds.apart piece c.args.queue.now c.requires.came.out;
+      fewer = shrink-released v c.requires.came.holds.apart piece c.requires.came.out;
       short = refl;
     } in
     rw c.release.ensures.view some

@@ -1,12 +1,13 @@
 use Rattle.std.proofs.Common.{rules, sym, ap, subst}
 use Rattle.board_face.specs.declared.views.app.AppView.{AppView}
 use Rattle.flow_queues.specs.{Kept.{QueueState}, KeptOf.{queue_state}}
-use Rattle.zc_poll.{specs.{Standing.{Desk}, DeskOf.{desk_of}}, proofs.{FlowsKept.{queues_of, with_queues, some-out}, Lends.{LentAs, item-is, held-stepped}}}
+use Rattle.zc_poll.{specs.{Standing.{Desk}, DeskOf.{desk_of}}, proofs.{FlowsKept.{queues_of, with_queues, work-of}, Lends.{LentAs, item-is, held-stepped}}}
 use Rattle.zc_poll.proofs.lending.offer.Goals as goal
 use Rattle.zc_poll.proofs.lending.offer.Goals.{in-Lent, in-LentCopy}
 
-pub lend-requires-clause-stand : goal.lend-requires-clause-stand
-lend-requires-clause-stand g c = some-out (desk_of c.args.st.now) (g.F.AppFace.seen c.args.face.now) (c.requires.stands.going (search rules) c.requires.more)
+pub lend-requires-clause-work : goal.lend-requires-clause-work
+lend-requires-clause-work g c =
+    work-of (desk_of c.args.st.now) (g.F.AppFace.seen c.args.face.now) c.requires.stands.common.here (c.requires.stands.going (search rules) c.requires.more)
 
 pub returns-in-ReserveHeld-clause-offers : goal.returns-in-ReserveHeld-clause-offers
 returns-in-ReserveHeld-clause-offers g c =
