@@ -1,84 +1,63 @@
 -- Turns of an application that has nothing out.
-use Rattle.std.proofs.Common.{◌≡◌, ℕ, ◌<◌, Bool, true, false, List, [], ◌∷◌, ◌++◌, Option, length, take, refl, sym, ap, subst, ◌∙◌, arith, inl, inr}
+use Rattle.std.proofs.Common.{◌≡◌, ℕ, ◌<◌, Bool, true, false, List, [], ◌∷◌, ◌++◌, Option, refl, sym, ap, subst, ◌∙◌, arith, inl, inr}
 use Rattle.zr_kinds.specs.declared.behaviour.Stopped.TheVariants as stop
-use Rattle.zr_kinds.specs.{declared.place.{Place.{Place}, Note.{Note}}, CopyingReceiver.{next_missing}}
-use Rattle.board_face.specs.{AppCalls.{AppOnlySaw, TookNote, TookLinear, ToldEnd}, AppEvents.{released, told_end, app_saw}, Lists.{same_place}}
-use Rattle.board_face.{proofs.ListLemmas.{same_place-refl}, specs.declared.views.app.AppLook.TheVariants.{NotQuiet, CardEnded, NoNote as no_note}}
-use Rattle.board_face.specs.declared.views.app.{Origin.TheVariants.{Note as of_note}, HeldPiece.{HeldPiece}, TakenNote.{TakenNote}, AppView.{AppView}}
+use Rattle.zr_kinds.specs.CopyingReceiver.{next_missing}
+use Rattle.board_face.specs.{AppCalls.{AppOnlySaw, ToldEnd}, AppEvents.{told_end, app_saw}, declared.views.app.{TakenNote.{TakenNote}, AppView.{AppView}}}
+use Rattle.board_face.specs.declared.views.app.AppLook.TheVariants.{NotQuiet, CardEnded, NoNote as no_note}
 use Rattle.app_worker.specs.declared.turn.{Turn.{Turn, TheVariants.{Did, Idle, Finished, Failed}}, Why.TheVariants.{NoNote, NotQuiet as not_quiet}}
-use Rattle.app_worker.specs.{State.{State, Common, Bare, app_steps, one_if}, Stages.{Leaves, ScrubsOnce}}
+use Rattle.app_worker.specs.{State.{State, Common, Bare, app_steps, one_if, queues_of}, Stages.{Leaves, ScrubsOnce}}
 use Rattle.app_worker.{specs.Turns.{Answers, Because, Passed, Turns, LooksForOne, turn_after}, proofs.Moving.{rose-before, rose-after}}
 use Rattle.app_worker.proofs.Seeing.{goes-none, goes-saw, goes-still, common-saw}
-use Rattle.app_worker.proofs.Noting.{TookView, common-noted, steps-noted, moves-noted, ends-kept, shelves-kept, fronts-kept}
+use Rattle.app_worker.proofs.Noting.{bounded-past, common-noted, steps-noted, moves-noted, ends-kept, shelves-kept, fronts-kept}
 use Rattle.app_worker.proofs.{TurnLemmas.{turns-bare, as-before, idle-for, after-busy, after-none}, Through.{goes-then}}
 use Rattle.app_worker.proofs.Closing.{IsOut, bare-saw, turns-finished, scrubbed_state, scrubbed_view, bare-scrubbed, common-scrubbed, goes-scrubbed}
 use Rattle.zr_kinds.specs.declared.fault.Fault.TheVariants as fault
-use Rattle.flow_queues.{specs.Core.{total, Each, many, own_notes, placed_of, held_len}, proofs.Looks.{looks-more}}
+use Rattle.flow_queues.{specs.Core.{total, Each, many, own_notes, placed_of, LieApart, has_at, is_odd}, proofs.Looks.{looks-more}}
+
+-- nothing that is out lies over another
+pub bare-apart : (v : AppView) → v.helds ≡ [] → v.loans ≡ [] → LieApart v
+bare-apart v helds loans = record {
+  once = λ b x. omega (arith, ap (total (λ h. has_at b x h.place)) helds, ap (total (λ l. has_at b x l.place)) loans);
+  some = omega (arith, ap (total (λ h. is_odd v.setting.layout h.place)) helds, ap (total (λ l. is_odd v.setting.layout l.place)) loans);
+}
 
 module _ (st : State) (old : AppView) (bare : Bare st old) (is_bare : st.bare ≡ true) (common : Common st old) where
   -- ---- a note
 
   -- it took a note and has nothing out again
-  passed-noted : (new : AppView) (t : TakenNote) (kept : ℕ → Option (List ℕ)) (f : ℕ) → st.ended ≡ false → TookView old new t → new.helds ≡ []
-      → Passed st old new kept f Did
-  passed-noted new t kept f more took none = record {
-    bare = bare-noted;
-    common = common-noted st old new t took st.notes st.active st.index st.flows refl
-        (record { kept = omega (arith, ap (total held_len) none); short = omega arith }) common;
+  pub bare-note : (new : AppView) (t : TakenNote) (kept : ℕ → Option (List ℕ)) (f : ℕ) → st.ended ≡ false
+      → new ≡ record old { taken = old.taken ++ t ∷ [] } → Passed st old new kept f Did
+  bare-note new t kept f more is = rw is (record {
+    bare = bare_noted;
+    common = common-noted st old noted t refl (queues_of st) refl
+        (bounded-past old t st.flows (record { spares = common.spares; loans = common.bound })) common;
     goes = record {
-      moves = moves-noted st old new t took st.notes st.active st.index st.flows (λ n. omega arith);
-      shelved = λ _ begin. shelves-kept st.flows old new t took bare.flows begin kept;
-      failed = λ is begin exact front. fronts-kept st.flows old new t took bare.flows begin kept (front is);
+      moves = moves-noted st old noted t refl (queues_of st) (λ n. omega arith);
+      shelved = λ _ begin. shelves-kept st.flows old t bare.flows begin kept;
+      failed = λ is begin exact front. fronts-kept st.flows old t bare.flows begin kept (front is);
     };
-    answer = omega (arith, steps-noted st old new t took st.notes st.active st.index st.flows);
-    few = inr (t, ap (λ (v : AppView). v.taken) took.view);
+    answer = omega (arith, steps-noted st old noted t refl (queues_of st));
+    few = inr (t, refl);
     idle = λ why e. absurd (cc);
-    here = ap (λ (v : AppView). v.left) took.view;
-    quiet = ap (λ (v : AppView). v.quiet) took.view;
-    rests = record { state = refl; view = took.view ∙ held-same; kept_is = refl };
-    looks = inl (t, ap (λ (v : AppView). v.taken) took.view);
-  }
+    here = refl;
+    quiet = refl;
+    rests = record { state = refl; view = refl; kept_is = refl };
+    looks = inl (t, refl);
+  })
     where
-      held-same : record old { taken = old.taken ++ t ∷ []; helds = new.helds } ≡ record old {
-        left = new.left;
-        quiet = new.quiet;
-        scrubbed = new.scrubbed;
-        ended = new.ended;
-        taken = new.taken;
-        looks = new.looks;
-      }
-      held-same =
-          let helds : new.helds ≡ old.helds = none ∙ sym bare.helds in
-          rw (helds, took.view) refl
+      noted : AppView
+      noted = record old { taken = old.taken ++ t ∷ [] }
 
       -- one that wasn't stopped has nothing out only once it ended
       over : st.stopped ≡ stop.No → ⊥
       over going = let ended : st.ended ≡ true = (bare.whole going).0 in absurd (cc)
 
-      bare-noted : Bare st new
-      bare-noted =
-          let whole : st.stopped ≡ stop.No → (st.ended ≡ true) × Each (λ f. f.bytes ≡ next_missing (placed_of f (old.taken ++ t ∷ []))) st.flows =
+      bare_noted : Bare st noted
+      bare_noted =
+          let whole : st.stopped ≡ stop.No → (st.ended ≡ true) × Each (λ f. f.bytes ≡ next_missing (placed_of f noted.taken)) st.flows =
           λ going. absurd (over going) in
-          let known : st.stopped ≡ stop.No → (n : ℕ) → many n st.flows ≡ 0 → own_notes n (old.taken ++ t ∷ []) ≡ [] = λ going. absurd (over going) in
-          rw took.view (assumption (none, rw took.view at (ends-kept st.flows old new t took bare.flows)))
-
-  pub bare-note : (mid new : AppView) (note : Note) (held : Place) (kept : ℕ → Option (List ℕ)) (f : ℕ) → st.ended ≡ false
-      → TookNote old mid note held → new ≡ released mid held → Passed st old new kept f Did
-  bare-note mid new note held kept f more took is =
-      let h : HeldPiece = record { place = note.place; origin = of_note (length old.taken) 0 } in
-      let helds : mid.helds ≡ h ∷ [] = ap (λ (v : AppView). v.helds) took.event ∙ ap (λ hs. hs ++ h ∷ []) bare.helds in
-      let yes : same_place held note.place ≡ true = ap (λ p. same_place p note.place) took.place ∙ same_place-refl note.place in
-      let gone : (released mid held).helds ≡ [] = rw (helds, yes) refl in
-      let none : new.helds ≡ [] = ap (λ (v : AppView). v.helds) is ∙ gone in
-      let view : new ≡ record old { taken = old.taken ++ record { note = note; bytes = [] } ∷ []; helds = new.helds } = rw (is, took.event) refl in
-      passed-noted new (record { note = note; bytes = [] }) kept f more (record { view = view }) none
-
-  pub bare-linear : (new : AppView) (linear : List ℕ) (note : Note) (kept : ℕ → Option (List ℕ)) (f : ℕ) → st.ended ≡ false
-      → TookLinear old new linear note → Passed st old new kept f Did
-  bare-linear new linear note kept f more took =
-      let helds : new.helds ≡ old.helds = ap (λ (v : AppView). v.helds) took.event in
-      passed-noted new (record { note = note; bytes = take note.total linear }) kept f more
-      (record { view = rw took.event refl }) (helds ∙ bare.helds)
+          let known : st.stopped ≡ stop.No → (n : ℕ) → many n st.flows ≡ 0 → own_notes n noted.taken ≡ [] = λ going. absurd (over going) in
+          assumption (ends-kept st.flows old t bare.flows, bare)
 
   pub bare-empty : (new : AppView) (kept : ℕ → Option (List ℕ)) (f : ℕ) → st.ended ≡ false → AppOnlySaw no_note old new
       → Passed st old new kept f (Idle NoNote)

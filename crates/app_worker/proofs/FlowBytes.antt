@@ -4,9 +4,8 @@ use Rattle.std.{proofs.lemmas.Bool.{cases_eq}, specs.{Io.KnownBytes.{Keeps}, Pre
 use Rattle.zr_io.{specs.Moved.{Gained}, proofs.Moved.{Gained-weaker}}
 use Rattle.zr_kinds.specs.CopyingReceiver.{values_from}
 use Rattle.flow_queues.{specs.{Shelves.{IsShelved, AreShelved, FlowEnds}, declared.queues.FlowQueue.{FlowQueue}}, proofs.Placing.{values-length}}
-use Rattle.flow_queues.{specs.{Core.{many, Each, AreReadAt, placed_of}, Totals.{bytes_of}}, proofs.{Standing.{number-is, number-not}, ReadLemmas.{are-many}}}
-use Rattle.app_worker.{specs.{Streams.{HasCounted}, State.{State, AppStands, Bare, Working}, Kept.{flow_bytes}}, proofs.{Noting.{gained-nothing}, NoteTaken.{all-end}}}
-use Rattle.app_worker.proofs.StreamLemmas.{by-mode}
+use Rattle.flow_queues.{specs.{Core.{many, Each, AreReadAt, placed_of}, Totals.{bytes_of}}, proofs.{Standing.{number-is, number-not}, ReadLemmas.{are-many}, Done.{gained-nothing}}}
+use Rattle.app_worker.{specs.{Streams.{HasCounted}, State.{State, AppStands, Bare, Working}, Kept.{flow_bytes}}, proofs.{NoteTaken.{all-end}, StreamLemmas.{by-mode}}}
 use Rattle.board_face.{proofs.ListLemmas.{not-eqb}, specs.declared.views.app.AppView.{AppView}}
 
 -- a flow that is there is counted

@@ -8,7 +8,7 @@ pub mod ReadWhole
 pub mod ReadMarks
 pub mod Counts
 pub mod Moving
-pub mod Posting
+pub mod InQueues
 pub mod Delivering
 pub mod Seeing
 pub mod Giving

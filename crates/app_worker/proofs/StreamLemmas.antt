@@ -6,8 +6,8 @@ use Rattle.zr_kinds.specs.declared.behaviour.Stopped.TheVariants as stop
 use Rattle.board_face.specs.declared.views.app.AppView.{AppView}
 use Rattle.flow_queues.specs.{declared.queues.FlowQueue.{FlowQueue}, Marks.{marks_of, FramesStandTogether}, Core.{Each, many, own_notes, placed_of, AreReadAt}}
 use Rattle.flow_queues.specs.{Shelves.{FlowEnds, kept_loans, IsShelved, AreShelved, ReadsFront, IsFrontShelved, AreFronts}, Streams.{IsFront, HasFronts, HasAll}}
-use Rattle.flow_queues.proofs.Fronts.{front-of-flow, all-of-flow, pick, no-marks}
-use Rattle.app_worker.{specs.State.{State, Working, Bare, AppStands, app_steps, furthest}, proofs.{Measure.{working-within, bare-within}, Noting.{gained-nothing}}}
+use Rattle.flow_queues.proofs.{Fronts.{front-of-flow, all-of-flow, pick, no-marks}, Done.{gained-nothing}}
+use Rattle.app_worker.{specs.State.{State, Working, Bare, AppStands, app_steps, furthest}, proofs.Measure.{working-within, bare-within}}
 use Rattle.app_worker.proofs.{EachBoth.{each-both}, NoteTaken.{all-end}}
 
 pub fronts-of : (first kept : ℕ → Option (List ℕ)) (flows : List FlowQueue) (v : AppView) → Each (FlowEnds v.taken) flows → FramesStandTogether v.taken

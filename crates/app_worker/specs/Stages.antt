@@ -8,8 +8,8 @@ use Rattle.app_worker.specs.declared.{stack.Delivery.{Delivery, TheVariants.{Did
 use Rattle.app_worker.specs.declared.stages.Drained.TheVariants.{Nothing as read_nothing, Did as read_some, InUse, Quit as read_quit, Failed as read_failed}
 use Rattle.app_worker.specs.declared.stages.Lent.{Lent, TheVariants.{Nothing as none_in_order, Did as lent_some, Stuck, NoSpare as NoSpareHad}}
 use Rattle.app_worker.specs.declared.stages.Lent.TheVariants.{Quit as lending_quit, Failed as lending_failed}
-use Rattle.app_worker.specs.{State.{State, LiesOutside, Working, Common, Bare, app_steps}, Moves.{Goes}, Flushing.{Flushes}, Whole.{Lends, HasNext, HasCopyNext, IsDue}}
-use Rattle.flow_queues.specs.{Core.{Each}, Flows.{IsAtRest}, Lent.{SawNoSpare}}
+use Rattle.app_worker.specs.{State.{State, LiesOutside, Working, Common, Bare, app_steps, queues_of}, Moves.{Goes}, Flushing.{Flushes}, Whole.{Lends, IsDue}}
+use Rattle.flow_queues.specs.{Core.{Each}, Flows.{IsAtRest}, Lent.{SawNoSpare}, Active.{HasNext, HasCopyNext}}
 
 -- it goes on, nothing is posted, and no note was taken
 pub record Through (was now : State) (old new : AppView) (kept kept_now : ℕ → Option (List ℕ)) : Type 0 where
@@ -93,7 +93,7 @@ pub record LentSome (was now : State) (old new : AppView) (did : Bool) (end_by :
   pub left : new.left ≡ old.left
   pub steps : did ≡ true → app_steps was old < app_steps now new
   pub final : end_by ≢ lent_it
-  pub first : did ≡ true → HasNext was
+  pub first : did ≡ true → HasNext (queues_of was)
   pub nothing : did ≡ false → Lends was now old new end_by
 
 -- What keeps back what is still to be done: a refill slot was seen in use, or a raw entry on its way, or no spare was to be had.
@@ -115,10 +115,10 @@ abbrev pub LendsAll : State → State → AppView → AppView → (ℕ → Optio
     → Type 0
 LendsAll was now old new kept kept_now faults faults_now none_in_order = Untouched was now old new kept kept_now × Each IsAtRest was.flows
 LendsAll was now old new kept kept_now faults faults_now lent_some = Through was now old new kept kept_now × (app_steps was old < app_steps now new)
-    × LeavesInUse now old new × HasNext was × DoesAll now old new
-LendsAll was now old new kept kept_now faults faults_now Stuck = (now ≡ was) × (kept_now ≡ kept) × AppOnlySaw RawOnItsWay old new × HasNext was
+    × LeavesInUse now old new × HasNext (queues_of was) × DoesAll now old new
+LendsAll was now old new kept kept_now faults faults_now Stuck = (now ≡ was) × (kept_now ≡ kept) × AppOnlySaw RawOnItsWay old new × HasNext (queues_of was)
 LendsAll was now old new kept kept_now faults faults_now lending_quit = HasQuit was now old new kept kept_now
-LendsAll was now old new kept kept_now faults faults_now NoSpareHad = (now ≡ was) × (kept_now ≡ kept) × SawNoSpare old new × HasCopyNext was
+LendsAll was now old new kept kept_now faults faults_now NoSpareHad = (now ≡ was) × (kept_now ≡ kept) × SawNoSpare old new × HasCopyNext (queues_of was)
 LendsAll was now old new kept kept_now faults faults_now lending_failed = WriteStopped was now old new kept kept_now faults faults_now
 
 -- so it is of the look that was the cause where nothing was lent

@@ -11,7 +11,7 @@ use Rattle.completion_ring.specs.Ring.{Ring}
 use Rattle.board_face.specs.{AppEvents.{reserve_of}, declared.views.app.{LentPiece.{LentPiece}, AppView.{AppView}}}
 use Rattle.flow_queues.specs.{declared.queues.{Lending.{Lending}, FlowQueue.{FlowQueue}}, Entries.{Gives, lies_in, returned_aside, WasLive, AreBlocks}}
 use Rattle.flow_queues.specs.Core.{total, is_odd, is_copy, IsOfTaken, Each, many, read_out, own_notes, placed_of, short_bytes, Stands, unsplit_len, held_len}
-use Rattle.flow_queues.specs.{Flows.{IsAtRest, RestBut, IsIndex}, Shelves.{FlowEnds}}
+use Rattle.flow_queues.specs.{Flows.{IsAtRest, RestBut, IsIndex}, Shelves.{FlowEnds}, Kept.{QueueState}}
 use Rattle.flow_queues.specs.Totals.{Quits, capped, lent_len, lent_bytes, loan_entries, raw_entries, taken_len}
 use Rattle.app_worker.specs.{declared.stack.Stray.{Stray}, ReadWhole.{AreReadWhole, GivesWhole}}
 
@@ -48,6 +48,10 @@ pub record State : Type 0 where
   pub copied : ℕ
   -- all that is unread is to be read, since a loan in the reserve was posted
   pub flush : Bool
+
+-- what it keeps of its flows
+abbrev pub queues_of : State → QueueState
+queues_of st = record { notes = st.notes; flows = st.flows; index = st.index; active = st.active }
 
 -- ---- while it goes on
 

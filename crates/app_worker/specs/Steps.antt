@@ -1,19 +1,18 @@
 -- What each step of the core does.
-use Rattle.std.specs.Prelude.{List, zero, suc, ◌≡◌, ◌≢◌, ℕ, ◌+◌, ◌-◌, ◌^◌, ◌<◌, ◌≤◌, min, Bool, true, false, ◌||◌, ◌==◌, [], ◌∷◌, ◌++◌, Option, Some, None, length}
+use Rattle.std.specs.Prelude.{List, zero, suc, ◌≡◌, ◌≢◌, ℕ, ◌+◌, ◌<◌, ◌≤◌, Bool, true, false, ◌||◌, ◌==◌, [], ◌∷◌, ◌++◌, Option, Some, None, length, slice_index_or}
 use Rattle.std.specs.{Prelude.{Result, OnOk, OnErr}, Int.{cast_signed}, Io.KnownBytes.{Keeps}}
 use Rattle.zr_io.specs.Moved.{Gained}
 use Rattle.board_face.specs.{declared.views.app.{LentPiece.{LentPiece}, AppView.{AppView}, WrittenEntry.{WrittenEntry}}, AppCalls.{IsHere, IsLive, AppOnlySaw}}
 use Rattle.board_face.specs.{AppEvents.{gave, entry_of, reserve_of}, Looks.{AppRose, AppLooksStay}, declared.views.app.AppLook.{AppLook, TheVariants.{RawOnItsWay, RefillInUse, NoSpare}}}
-use Rattle.flow_queues.specs.declared.queues.{Lending.{Lending}, Waiting.{Waiting, TheVariants.{InArea, Copied}}, FlowQueue.{FlowQueue}}
-use Rattle.flow_queues.specs.{Core.{total, LieApart, IsIn, OnlyReads, IsReadOf, lent_piece}, Lent.{IsNext, SawNoSpare, LentNext}}
+use Rattle.flow_queues.specs.declared.queues.{Lending.{Lending}, FlowQueue.{FlowQueue}}
+use Rattle.flow_queues.specs.{Core.{total, LieApart, IsIn, OnlyReads, IsReadOf, lent_piece}, Totals.{capped}}
 use Rattle.zr_kinds.specs.declared.ring.{Completion.{Completion}, Rqe.{Rqe}}
-use Rattle.tcp_reorder.specs.Queue.{next_of}
 use mir.Syntax.{w32}
 use Rattle.area_layout.specs.Layout.{Shape, off_of, judged}
 use Rattle.circular_buffer.specs.Buffer.{Buffer, buffer}
-use Rattle.completion_ring.specs.Ring.{Ring, ring, IsFull}
+use Rattle.completion_ring.specs.Ring.{ring}
 use Rattle.app_worker.specs.declared.{stack.{Stray.{Stray}, Delivery.{Delivery}}, reading.Pushed.{Pushed, TheVariants.{Nothing, All, Part, InUse}}}
-use Rattle.app_worker.specs.{declared.stack.Delivery.TheVariants.{Did, NoneInOrder, Full, Unsettled, ReserveHeld}, State.{TellsOf}, ReadWhole.{IsReadUpTo}}
+use Rattle.app_worker.specs.{declared.stack.Delivery.TheVariants.{Unsettled, ReserveHeld}, State.{State}, ReadWhole.{IsReadUpTo}}
 
 -- ---- lending
 
@@ -21,39 +20,19 @@ use Rattle.app_worker.specs.{declared.stack.Delivery.TheVariants.{Did, NoneInOrd
 abbrev pub completion_of : Shape → ℕ → Lending → Completion
 completion_of layout flow l = record { user_data = flow; res = cast_signed w32 l.loan.len; flags = 2; off = off_of layout l.loan }
 
--- how many copies there were then
-abbrev pub with_copy : Waiting → ℕ → ℕ
-with_copy (InArea p) copied = copied
-with_copy (Copied s) copied = min (copied + 1) (2 ^ 64 - 1)
+-- the loan of a flow with this number was posted and counted; one in the reserve is to be read with all that is unread
+abbrev pub with_posted : State → AppView → ℕ → Lending → State
+with_posted st v number loan = record st {
+  posted = ring (st.posted.entries ++ (completion_of v.setting.layout number loan, loan) ∷ []) st.posted.places;
+  loans = capped (st.loans + 1);
+  flush = st.flush || (loan.loan.buffer == reserve_of v);
+}
 
--- The piece that is next in the stream was lent and posted.
-pub record Delivers (old new : AppView) (was now : FlowQueue) (posted then : Ring (Completion × Lending)) (copied copied_now : ℕ)
-    (flush flush_now : Bool) : Type 0 where
-  pub lending : Lending
-  pub completion : Completion
-  pub lent : LentNext old new was now lending
-  pub room : length posted.entries < posted.places
-  pub post : then ≡ ring (posted.entries ++ (completion, lending) ∷ []) posted.places
-  pub number : completion.user_data ≡ was.number
-  pub tells : TellsOf old.setting.layout (completion, lending)
-  -- a copy is counted
-  pub copies : copied_now ≡ with_copy lent.piece copied
-  -- a loan in the reserve is to be read with all that is kept unread
-  pub flushes : flush_now ≡ flush || (lending.loan.buffer == reserve_of old)
-
--- what a delivery did, by its answer
-abbrev pub Delivered : AppView → AppView → FlowQueue → FlowQueue → Ring (Completion × Lending) → Ring (Completion × Lending) → ℕ → ℕ
-    → Bool → Bool
-    → Delivery → Type 0
-Delivered old new was now posted then copied copied_now flush flush_now Did = Delivers old new was now posted then copied copied_now flush flush_now
-Delivered old new was now posted then copied copied_now flush flush_now NoneInOrder = (new ≡ old) × (now ≡ was) × (then ≡ posted)
-    × (was.queue.popped ≡ next_of was.queue) × (copied_now ≡ copied) × (flush_now ≡ flush)
-Delivered old new was now posted then copied copied_now flush flush_now Full = (new ≡ old) × (now ≡ was) × (then ≡ posted) × IsFull posted
-    × (copied_now ≡ copied) × (flush_now ≡ flush)
-Delivered old new was now posted then copied copied_now flush flush_now Unsettled = AppOnlySaw RawOnItsWay old new × (now ≡ was) × (then ≡ posted)
-    × (copied_now ≡ copied) × (flush_now ≡ flush) × (was.queue.popped ≢ next_of was.queue)
-Delivered old new was now posted then copied copied_now flush flush_now ReserveHeld = SawNoSpare old new × (now ≡ was) × (then ≡ posted)
-    × (copied_now ≡ copied) × (flush_now ≡ flush) × IsNext true was.queue
+-- a loan of the active flow was posted
+pub record Posts (v : AppView) (loan : Lending) (was now : State) : Type 0 where
+  pub own : FlowQueue
+  pub active : own ≡ slice_index_or was.flows was.active own
+  pub is : now ≡ with_posted was v own.number loan
 
 -- so it is of the look that was the cause where nothing was lent
 abbrev pub IsSoOfDelivery : (AppLook → Type 0) → Delivery → Type 0

@@ -7,9 +7,9 @@ use Rattle.board_face.specs.{Looks.{AppRose}, declared.views.app.{AppLook.{AppLo
 use Rattle.board_face.specs.declared.views.app.AppLook.TheVariants.{NoNote as no_note, CardEnded, RefillInUse, RawOnItsWay, NoSpare, NotQuiet as not_quiet}
 use Rattle.app_worker.specs.declared.turn.{Turn.{Turn, TheVariants.{Did, Idle, Finished, Failed}}, Why.{Why}}
 use Rattle.app_worker.specs.declared.turn.Why.TheVariants.{NoNote, RefillFull, Unsettled, ReserveHeld, NotQuiet}
-use Rattle.app_worker.specs.{State.{State, Working, Common, Bare, AppStands, app_steps}, Moves.{Moves, Goes}, Flushing.{Flushes}, Whole.{HasNext, HasCopyNext, IsDue}}
+use Rattle.app_worker.specs.{State.{State, Working, Common, Bare, AppStands, app_steps, queues_of}, Moves.{Moves, Goes}, Flushing.{Flushes}, Whole.{IsDue}}
 use Rattle.app_worker.specs.Stages.{NoneInReserve, LeavesInUse, DoesAll}
-use Rattle.flow_queues.specs.{Core.{Each}, Flows.{IsAtRest}}
+use Rattle.flow_queues.specs.{Core.{Each}, Flows.{IsAtRest}, Active.{HasNext, HasCopyNext}}
 
 -- ---- a turn that did nothing
 
@@ -52,8 +52,8 @@ pub record IsCaughtUp (st : State) (v : AppView) : Type 0 where
 abbrev pub Because : Why → State → AppView → Type 0
 Because NoNote was old = (was.ended ≡ false) × (was.bare ≡ false → MayPoll was old)
 Because RefillFull was old = IsDue was
-Because Unsettled was old = IsCaughtUp was old × HasNext was
-Because ReserveHeld was old = IsCaughtUp was old × HasCopyNext was
+Because Unsettled was old = IsCaughtUp was old × HasNext (queues_of was)
+Because ReserveHeld was old = IsCaughtUp was old × HasCopyNext (queues_of was)
 Because NotQuiet was old = (was.bare ≡ true) × (was.ended ≡ true)
 
 -- On its way the turn came to a state and a view in which a note may be taken, and no note was taken before.

@@ -1,20 +1,18 @@
 -- What the steps of a turn do to all that an application keeps.
-use Rattle.std.specs.{Prelude.{◌≡◌, ◌≢◌, ℕ, ◌+◌, ◌<◌, ◌≤◌, Bool, true, false, List, [], ◌∷◌, ◌++◌, length, ◌⊎◌, slice_get, Option, None, Some}, Io.KnownBytes.{Keeps}}
+use Rattle.std.specs.{Prelude.{◌≡◌, ◌≢◌, ℕ, ◌+◌, ◌<◌, ◌≤◌, Bool, true, false, List, [], ◌∷◌, ◌++◌, length, ◌⊎◌, Option, None}, Io.KnownBytes.{Keeps}}
 use Rattle.zr_kinds.specs.declared.behaviour.Stopped.TheVariants as stop
 use Rattle.zr_kinds.specs.CopyingReceiver.{values_from}
 use Rattle.zr_io.specs.Moved.{Gained, Rose}
 use Rattle.completion_ring.specs.Ring.{IsFull}
-use Rattle.tcp_reorder.specs.Queue.{next_of}
-use Rattle.board_face.specs.{Looks.{AppRose}, AppCalls.{AppOnlySaw, ToldEnd}, declared.views.app.AppLook.TheVariants.{NoNote as no_note, RawOnItsWay, RefillInUse}}
+use Rattle.board_face.specs.{Looks.{AppRose}, AppCalls.{AppOnlySaw}, declared.views.app.AppLook.TheVariants.{RawOnItsWay, RefillInUse}}
 use Rattle.board_face.specs.declared.views.app.{TakenNote.{TakenNote}, AppView.{AppView}}
 use Rattle.flow_queues.specs.{declared.queues.FlowQueue.{FlowQueue}, Entries.{Gives as GivesAll}, Core.{total, HasTokens, Each, many, AreReadAt, placed_of}}
-use Rattle.flow_queues.specs.{Flows.{IsIndex, IsAtRest}, Shelves.{FlowEnds, AreShelved, AreFronts}, Totals.{lent_bytes, lent_len}, Lent.{IsNext, SawNoSpare}}
+use Rattle.flow_queues.specs.{Flows.{IsIndex, IsAtRest}, Shelves.{FlowEnds, AreShelved, AreFronts}, Totals.{lent_bytes, lent_len}, Lent.{SawNoSpare}, Active.{HasNext, HasCopyNext}}
 use Rattle.app_worker.specs.declared.{stack.Delivery.{Delivery, TheVariants.{Did as lent_it, NoneInOrder, Full, Unsettled, ReserveHeld}}, turning.Read.{Read}}
 use Rattle.app_worker.specs.declared.{turning.Read.TheVariants.{Did as read_it, NoneUnread, Quit, Failed}, reading.Pushed.{Pushed}}
 use Rattle.app_worker.specs.declared.reading.Pushed.TheVariants.{Nothing as pushed_nothing, All as pushed_all, Part as pushed_part, InUse as pushed_none}
 use Rattle.app_worker.specs.declared.straying.GivenBack.{GivenBack, TheVariants.{Nothing as nothing_given, Did as given, Part as given_in_part, InUse as given_none}}
-use Rattle.app_worker.specs.{declared.turning.Taken.{Taken, TheVariants.{Did as took, NoNote, Ended, Memory}}, State.{State, read_of, Working, Common, app_steps}}
-use Rattle.app_worker.specs.{Moves.{Moves, Goes}, Flushing.{Flushes}}
+use Rattle.app_worker.specs.{State.{State, read_of, Working, Common, app_steps, queues_of}, Moves.{Moves, Goes}, Flushing.{Flushes}}
 
 -- what was kept of a flow went on by the bytes that were read at its next marks
 pub record Appended (flow : FlowQueue) (taken : List TakenNote) (new : AppView) (len : ℕ) (kept kept_now : ℕ → Option (List ℕ)) : Type 0 where
@@ -24,34 +22,22 @@ pub record Appended (flow : FlowQueue) (taken : List TakenNote) (new : AppView) 
 
 -- ---- lending
 
--- something of the active flow is in order
-pub record HasNext (st : State) : Type 0 where
-  pub flow : FlowQueue
-  pub active : slice_get st.flows st.active ≡ Some flow
-  pub next : flow.queue.popped ≢ next_of flow.queue
-
 -- The piece that is next in the stream was lent and posted.
-pub record LentOne (was now : State) (old new : AppView) : Type 0 where
+pub record PostedOne (was now : State) (old new : AppView) : Type 0 where
   pub flushes : Flushes was now old new
-  pub next : HasNext was
+  pub next : HasNext (queues_of was)
   pub steps : app_steps was old < app_steps now new
   pub posted : length now.posted.entries ≡ length was.posted.entries + 1
   pub same : now ≡ record was { flows = now.flows; posted = now.posted; loans = now.loans; copied = now.copied; flush = now.flush }
   pub taken : new.taken ≡ old.taken
   pub left : new.left ≡ old.left
 
--- it is in order, and is to be copied
-pub record HasCopyNext (st : State) : Type 0 where
-  pub flow : FlowQueue
-  pub active : slice_get st.flows st.active ≡ Some flow
-  pub next : IsNext true flow.queue
-
 abbrev pub Lends : State → State → AppView → AppView → Delivery → Type 0
-Lends was now old new lent_it = LentOne was now old new
+Lends was now old new lent_it = PostedOne was now old new
 Lends was now old new NoneInOrder = (now ≡ was) × (new ≡ old) × Each IsAtRest was.flows
 Lends was now old new Full = (now ≡ was) × (new ≡ old) × IsFull was.posted
-Lends was now old new Unsettled = (now ≡ was) × AppOnlySaw RawOnItsWay old new × HasNext was
-Lends was now old new ReserveHeld = (now ≡ was) × SawNoSpare old new × HasCopyNext was
+Lends was now old new Unsettled = (now ≡ was) × AppOnlySaw RawOnItsWay old new × HasNext (queues_of was)
+Lends was now old new ReserveHeld = (now ≡ was) × SawNoSpare old new × HasCopyNext (queues_of was)
 
 -- ---- giving back
 
@@ -178,9 +164,3 @@ pub record TookNone (was now : State) (old new : AppView) : Type 0 where
   pub taken : new.taken ≡ old.taken ++ note ∷ []
   pub left : new.left ≡ old.left
   pub same : now ≡ record was { notes = now.notes; flows = now.flows; index = now.index; active = now.active }
-
-abbrev pub Takes : State → State → AppView → AppView → Taken → Type 0
-Takes was now old new took = TookOne was now old new
-Takes was now old new Memory = TookNone was now old new
-Takes was now old new NoNote = (now ≡ was) × AppOnlySaw no_note old new
-Takes was now old new Ended = (now ≡ was) × ToldEnd old new

@@ -69,6 +69,6 @@ pub fn let_go<F: AppFace>(face: &mut F, st: &mut Stack)
     abandon_all(face, &mut st.unread);
     abandon_due(face, &mut st.due);
     abandon_leaked(face, &mut st.leaked);
-    release_all(face, &mut st.flows);
+    release_all(face, &mut st.queues.flows);
     st.bare = true;
 }

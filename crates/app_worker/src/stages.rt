@@ -4,10 +4,11 @@ ghost use Rattle.completion_ring.specs.Ring.{ring};
 ghost use Rattle.board_face.specs.{AppEvents.{app_gist}, declared.views.app.AppLook.TheVariants.{NotQuiet}};
 ghost use Rattle.app_worker.specs.{StateOf.{state_of}, Works.{Works, NoneDue, MayLend}, ShelfWent.{ShelfWent}, Steps.{IsSoOfDelivery}, Stages.{kept_of, ReadsTo, LentSome, LendsAll, IsSoOfLent, MayScrub, ScrubsOnce, MayLeave, Leaves}};
 
+use crate::lending::deliver_one;
 use crate::letting::let_go;
 use crate::stack::{Delivery, Stack};
 use crate::straying::{GivenBack, give_back};
-use crate::turning::{Read, deliver_one, read_one};
+use crate::turning::{Read, read_one};
 use board_face::AppFace;
 use zr_io::Shelf;
 use zr_kinds::Stopped;

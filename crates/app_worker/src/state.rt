@@ -11,9 +11,8 @@ use crate::working::turn;
 use board_face::AppFace;
 use circular_buffer::HeapCircularBuffer;
 use completion_ring::CqRing;
-use flow_queues::find;
+use flow_queues::{Queues, find};
 use std::alloc::{AllocError, Global};
-use std::collections::BTreeMap;
 use std::marker::Model;
 use zr_io::Shelf;
 use zr_kinds::{Behaviour, Rqe, Stopped};
@@ -55,10 +54,7 @@ impl AppState {
         let stack = Stack {
             app,
             how,
-            notes: 0,
-            flows: Vec::new(alloc),
-            index: BTreeMap::new(alloc),
-            active: 0,
+            queues: Queues::new(alloc),
             unread,
             posted,
             due: None,
@@ -118,8 +114,8 @@ impl AppState {
         ensures value { result ≡ flow_bytes flow self.now.flows }
         ensures sum { result ≡ bytes_of flow self.now.flows }
     {
-        match find(&self.stack.index, u64::from(flow)) {
-            Some(place) => self.stack.flows[place].bytes,
+        match find(&self.stack.queues.index, u64::from(flow)) {
+            Some(place) => self.stack.queues.flows[place].bytes,
             None => 0,
         }
     }
@@ -140,7 +136,7 @@ impl AppState {
 /// application stops: it gives all up that it has, and from then on takes notes and gives their pieces up. It scrubs as soon as
 /// it sees each refill slot free, also beside a card that goes on.
 pub fn app_turn<F: AppFace, T: Shelf>(
-    alloc: Global,
+    _alloc: Global,
     face: &mut F,
     st: &mut AppState,
     shelf: &mut T,
@@ -154,5 +150,5 @@ pub fn app_turn<F: AppFace, T: Shelf>(
         → F.tells (look_of why) (app_gist (F.seen face.new)) (F.beside face.new) }
     ensures beside { F.beside face.new ≡ F.beside face.old }
 {
-    turn(alloc, face, &mut st.stack, shelf)
+    turn(face, &mut st.stack, shelf)
 }

@@ -3,16 +3,15 @@ ghost use Rattle.std.specs.Prelude.{◌≡◌, ◌≢◌, true, ℕ, [], List, O
 ghost use Rattle.board_face.specs.{AppCalls.{IsHere, ToldEnd}, AppEvents.{app_gist}};
 ghost use Rattle.app_worker.specs.{declared.turn.{Why.{Why}, Turn.{Turn, TheVariants.{Did, Idle, Failed, Finished}}}, State.{Common, Bare, AppStands}, StateOf.{state_of}, Works.{NoneDue, MayLend}, ShelfWent.{ShelfWent}, Turns.{Passes, Turns, look_of, turn_after}};
 ghost use Rattle.zr_kinds.specs.declared.fault.Fault.TheVariants.{Write};
-ghost use Rattle.flow_queues.specs.{Core.{Each}, Flows.{IsAtRest}};
+ghost use Rattle.flow_queues.specs.{Core.{Each, HoldsApart}, Flows.{IsAtRest}};
 
 use crate::letting::let_go;
 use crate::stack::Stack;
 use crate::stages::{Drained, Lent, drain, leave, lend_all, scrub};
 use crate::straying::{GivenBack, give_back};
 use crate::turn::{Turn, Why};
-use crate::turning::{Taken, take_note};
-use board_face::{AppFace, Polled};
-use std::alloc::Global;
+use board_face::AppFace;
+use flow_queues::{Taken, take_note};
 use zr_io::Shelf;
 use zr_kinds::{Fault, Stopped};
 
@@ -29,8 +28,8 @@ fn after(did: bool, turn: Turn) -> Turn
 /// An application that has no piece and no loan any more looks for a note, and gives up at once what it brings: what that is
 /// as a turn, or `None` where no note comes any more.
 fn pass_note<F: AppFace>(face: &mut F) -> Option<Turn>
-    requires here { IsHere (F.seen face.old) }
-    requires helds { (F.seen face.old).helds ≡ [] }
+    requires holds { HoldsApart (F.seen face.old) }
+    requires none { (F.seen face.old).helds ≡ [] }
     ensures passes { MatchOption result (ToldEnd (F.seen face.old) (F.seen face.new))
         (λ turn. Passes (F.seen face.old) (F.seen face.new) turn) }
     ensures busy { (turn : Turn) → result ≡ Some turn → turn ≢ Finished }
@@ -38,15 +37,11 @@ fn pass_note<F: AppFace>(face: &mut F) -> Option<Turn>
         → F.tells (look_of why) (app_gist (F.seen face.new)) (F.beside face.new) }
     ensures beside { F.beside face.new ≡ F.beside face.old }
 {
-    let mut linear = [0; 256];
-    match face.poll(&mut linear) {
-        Polled::Note(_, held) => {
-            face.release(held);
-            Some(Turn::Did)
-        }
-        Polled::Linear(_) => Some(Turn::Did),
-        Polled::Empty => Some(Turn::Idle(Why::NoNote)),
-        Polled::Ended => None,
+    match flow_queues::pass_note(face) {
+        Taken::Did => Some(Turn::Did),
+        Taken::NoNote => Some(Turn::Idle(Why::NoNote)),
+        Taken::Ended => None,
+        Taken::Memory => unreachable!(),
     }
 }
 
@@ -115,9 +110,9 @@ fn close<F: AppFace, T: Shelf>(face: &mut F, st: &mut Stack, shelf: &mut T) -> T
 }
 
 /// Looks for a note, and goes on with what that brings.
-fn look<F: AppFace, T: Shelf>(alloc: Global, face: &mut F, st: &mut Stack, shelf: &mut T) -> Turn
+fn look<F: AppFace, T: Shelf>(face: &mut F, st: &mut Stack, shelf: &mut T) -> Turn
     requires may { MayLend (state_of st.old) (F.seen face.old) }
-    requires rest { Each IsAtRest st.old.flows.items }
+    requires rest { Each IsAtRest st.old.queues.flows.items }
     ensures turns { Turns (state_of st.old) (state_of st.new) (F.seen face.old) (F.seen face.new)
         (T.kept shelf.old) (T.kept shelf.new) (T.counts shelf.old).faults
         (T.counts shelf.new).faults result }
@@ -127,7 +122,7 @@ fn look<F: AppFace, T: Shelf>(alloc: Global, face: &mut F, st: &mut Stack, shelf
         (T.counts shelf.new) result }
     ensures beside { F.beside face.new ≡ F.beside face.old }
 {
-    match take_note(alloc, face, st) {
+    match take_note(face, &mut st.queues) {
         Taken::Did => match lend_all(face, st, shelf) {
             Lent::Failed => Turn::Failed(Fault::Write),
             _ => Turn::Did,
@@ -146,7 +141,7 @@ fn look<F: AppFace, T: Shelf>(alloc: Global, face: &mut F, st: &mut Stack, shelf
 }
 
 /// Lends what is in order. Where nothing is, looks for a note.
-fn go_on<F: AppFace, T: Shelf>(alloc: Global, face: &mut F, st: &mut Stack, shelf: &mut T) -> Turn
+fn go_on<F: AppFace, T: Shelf>(face: &mut F, st: &mut Stack, shelf: &mut T) -> Turn
     requires may { MayLend (state_of st.old) (F.seen face.old) }
     ensures turns { Turns (state_of st.old) (state_of st.new) (F.seen face.old) (F.seen face.new)
         (T.kept shelf.old) (T.kept shelf.new) (T.counts shelf.old).faults
@@ -163,12 +158,12 @@ fn go_on<F: AppFace, T: Shelf>(alloc: Global, face: &mut F, st: &mut Stack, shel
         Lent::Failed => Turn::Failed(Fault::Write),
         Lent::Stuck => Turn::Idle(Why::Unsettled),
         Lent::NoSpare => Turn::Idle(Why::ReserveHeld),
-        Lent::Nothing => look(alloc, face, st, shelf),
+        Lent::Nothing => look(face, st, shelf),
     }
 }
 
 /// A turn of an application that goes on, once nothing is due.
-fn work<F: AppFace, T: Shelf>(alloc: Global, face: &mut F, st: &mut Stack, shelf: &mut T) -> Turn
+fn work<F: AppFace, T: Shelf>(face: &mut F, st: &mut Stack, shelf: &mut T) -> Turn
     requires none { NoneDue (state_of st.old) (F.seen face.old) }
     ensures turns { Turns (state_of st.old) (state_of st.new) (F.seen face.old) (F.seen face.new)
         (T.kept shelf.old) (T.kept shelf.new) (T.counts shelf.old).faults
@@ -187,20 +182,15 @@ fn work<F: AppFace, T: Shelf>(alloc: Global, face: &mut F, st: &mut Stack, shelf
         Drained::InUse => Turn::Did,
         Drained::Quit => Turn::Did,
         Drained::Did => {
-            let turn = go_on(alloc, face, st, shelf);
+            let turn = go_on(face, st, shelf);
             after(true, turn)
         }
-        Drained::Nothing => go_on(alloc, face, st, shelf),
+        Drained::Nothing => go_on(face, st, shelf),
     }
 }
 
 /// A turn.
-pub fn turn<F: AppFace, T: Shelf>(
-    alloc: Global,
-    face: &mut F,
-    st: &mut Stack,
-    shelf: &mut T,
-) -> Turn
+pub fn turn<F: AppFace, T: Shelf>(face: &mut F, st: &mut Stack, shelf: &mut T) -> Turn
     requires here { IsHere (F.seen face.old) }
     requires stands { AppStands (state_of st.old) (F.seen face.old) }
     ensures turns { Turns (state_of st.old) (state_of st.new) (F.seen face.old) (F.seen face.new)
@@ -218,9 +208,9 @@ pub fn turn<F: AppFace, T: Shelf>(
     match give_back(face, st) {
         GivenBack::InUse => Turn::Idle(Why::RefillFull),
         GivenBack::Part => Turn::Did,
-        GivenBack::Nothing => work(alloc, face, st, shelf),
+        GivenBack::Nothing => work(face, st, shelf),
         GivenBack::Did => {
-            let turn = work(alloc, face, st, shelf);
+            let turn = work(face, st, shelf);
             after(true, turn)
         }
     }

@@ -1,6 +1,7 @@
 -- All that was lent is reaped, and enough of it read.
 use Rattle.std.specs.Prelude.{◌≡◌, ◌-◌, ◌<◌, ◌≤◌, true, false, None, length}
-use Rattle.app_worker.specs.{State.{app_steps, furthest}, StateOf.{state_of}, Moves.{CountsOn}, Whole.{HasNext}, Stages.{Through, Untouched}}
+use Rattle.app_worker.specs.{State.{app_steps, furthest, queues_of}, StateOf.{state_of}, Moves.{CountsOn}, Stages.{Through, Untouched}}
+use Rattle.flow_queues.specs.Active.{HasNext}
 use Rattle.app_worker.proofs.stages.lend_all.Given as goal
 
 abbrev pub invariant-loop-end : goal.invariant-loop-end
@@ -15,7 +16,7 @@ invariant-loop-end g l =
     × (length l.st.unread.items ≤ l.st.how.hold)
     × (l.st.stray.left ≡ 0)
     × (l.st.flush ≡ false)
-    × (l.did ≡ true → HasNext (state_of l.fn.st))
+    × (l.did ≡ true → HasNext (queues_of (state_of l.fn.st)))
     × CountsOn l.fn.st.written l.st.written (g.T.Shelf.counts l.fn.shelf).appended (g.T.Shelf.counts l.shelf).appended
 
 abbrev pub decreases-loop-end : goal.decreases-loop-end

@@ -1,5 +1,5 @@
 use Rattle.std.proofs.Common.{true, None, ◌∙◌}
-use Rattle.app_worker.{specs.{State.{State}, StateOf.{state_of}}, proofs.BareLemmas.{bare-finished, bare-not-quiet, out-ended, then-nothing, then-done}}
+use Rattle.app_worker.{specs.{State.{State}, StateOf.{state_of}}, proofs.BareLemmas.{bare-apart, bare-finished, bare-not-quiet, out-ended, then-nothing, then-done}}
 use Rattle.app_worker.proofs.Closing.{turns-finished, turns-not-quiet}
 use Rattle.app_worker.proofs.working.bare_turn.Goals as goal
 
@@ -12,6 +12,9 @@ pub returns-else-leave-clause-turns : goal.returns-else-leave-clause-turns
 returns-else-leave-clause-turns g c = λ kept faults. bare-not-quiet (state_of c.args.st.now)
     (g.F.AppFace.seen c.args.face.now) c.requires.bare c.requires.is_bare c.requires.common c.requires.reaped
     (g.F.AppFace.seen c.leave.new.face) kept faults c.leave.new.scrubbed c.if-st.true c.if-leave.ensures.leaves
+
+pub pass_note-requires-clause-holds : goal.pass_note-requires-clause-holds
+pass_note-requires-clause-holds g c = record { here = c.requires.here; apart = bare-apart _ c.requires.bare.helds c.requires.bare.loans }
 
 pub returns-then-leave-2-clause-turns : goal.returns-then-leave-2-clause-turns
 returns-then-leave-2-clause-turns g c = λ kept faults.

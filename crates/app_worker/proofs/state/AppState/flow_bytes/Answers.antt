@@ -7,7 +7,7 @@ pub index-requires : goal.index-requires
 index-requires c =
     let st : State = state_of c.self.inside.stack in
     let is : place_in st.index c.args.flow ≡ Some c.in-Some.place = search rules in
-    let size : vec_len c.self.inside.stack.flows ≡ length st.flows = search rules in
+    let size : vec_len c.self.inside.stack.queues.flows ≡ length st.flows = search rules in
     omega (arith, size, (found-at st.index st.flows c.args.flow c.in-Some.place is c.self.invariant.index).0)
 
 pub returns-in-Some : goal.returns-in-Some
