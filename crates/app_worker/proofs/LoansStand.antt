@@ -1,6 +1,6 @@
 -- How what is kept stands to what was seen: notes, reads and loans.
-use Rattle.std.proofs.Common.{◌≡◌, ◌≢◌, ℕ, zero, suc, ◌+◌, ◌-◌, ◌<◌, ◌≤◌, Bool, true, false, List, [], ◌∷◌, ◌++◌, Option, Some, None, length, get_or}
-use Rattle.std.{proofs.{Common.{refl, sym, ap, subst, ◌∙◌, arith, length-append}, lemmas.Bool.{eq-eqb, Decides.{nat_tests}}}, specs.Prelude.{◌==◌, IfSome, take}}
+use Rattle.std.proofs.Common.{◌≡◌, ◌≢◌, ℕ, ◌+◌, ◌-◌, ◌≤◌, Bool, true, false, List, ◌∷◌, ◌++◌, Option, Some, None, length}
+use Rattle.std.{proofs.{Common.{refl, sym, ap, subst, ◌∙◌, arith, length-append}, lemmas.Bool.{eq-eqb, Decides.{nat_tests}}}, specs.Prelude.{◌==◌, IfSome}}
 use Rattle.std.specs.Io.KnownBytes.{Keeps}
 use Rattle.zr_kinds.specs.{declared.ring.Completion.{Completion}, CopyingReceiver.{values_from}}
 use Rattle.board_face.specs.declared.views.app.{AppLook.TheVariants.{RefillInUse}, TakenNote.{TakenNote}, LentPiece.{LentPiece}, AppView.{AppView}}
@@ -130,19 +130,6 @@ pub oldest-out : (count : ℕ) (flows : List FlowQueue) (p : Completion × Lendi
 oldest-out count flows p ps due v stands =
     let test : LentPiece → ℕ = is_that_loan (lent_piece v.taken p.1) in
     is-lent-there (lent_piece v.taken p.1) v.loans (omega (arith, stands.tokens.loans test, that-loan (lent_piece v.taken p.1)))
-
--- ---- looking for a flow
-
-pub total-take : (h : FlowQueue → ℕ) (xs : List FlowQueue) (i : ℕ) (d : FlowQueue) → i < length xs
-    → total h (take (i + 1) xs) ≡ total h (take i xs) + h (get_or xs i d)
-total-take h [] i d within = absurd (omega arith)
-total-take h (x ∷ xs) zero d within = omega arith
-total-take h (x ∷ xs) (suc i) d within = let e : suc i + 1 ≡ suc (i + 1) = omega arith in rw e (omega (arith, total-take h xs i d (omega arith)))
-
-pub get-same : {A : Type 0} (xs : List A) (i : ℕ) (d e : A) → i < length xs → get_or xs i d ≡ get_or xs i e
-get-same [] i d e within = absurd (omega arith)
-get-same (x ∷ xs) zero d e within = refl
-get-same (x ∷ xs) (suc i) d e within = get-same xs i d e (omega arith)
 
 -- ---- reaping
 
