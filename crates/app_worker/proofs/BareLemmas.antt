@@ -5,14 +5,14 @@ use Rattle.zr_kinds.specs.CopyingReceiver.{next_missing}
 use Rattle.board_face.specs.{AppCalls.{AppOnlySaw, ToldEnd}, AppEvents.{told_end, app_saw}, declared.views.app.{TakenNote.{TakenNote}, AppView.{AppView}}}
 use Rattle.board_face.specs.declared.views.app.AppLook.TheVariants.{NotQuiet, CardEnded, NoNote as no_note}
 use Rattle.app_worker.specs.declared.turn.{Turn.{Turn, TheVariants.{Did, Idle, Finished, Failed}}, Why.TheVariants.{NoNote, NotQuiet as not_quiet}}
-use Rattle.app_worker.specs.{State.{State, Common, Bare, app_steps, one_if, queues_of}, Stages.{Leaves, ScrubsOnce}}
+use Rattle.app_worker.specs.State.{State, Common, Bare, app_steps, one_if, queues_of}
 use Rattle.app_worker.{specs.Turns.{Answers, Because, Passed, Turns, LooksForOne, turn_after}, proofs.Moving.{rose-before, rose-after}}
 use Rattle.app_worker.proofs.Seeing.{goes-none, goes-saw, goes-still, common-saw}
 use Rattle.app_worker.proofs.Noting.{bounded-past, common-noted, steps-noted, moves-noted, ends-kept, shelves-kept, fronts-kept}
 use Rattle.app_worker.proofs.{TurnLemmas.{turns-bare, as-before, idle-for, after-busy, after-none}, Through.{goes-then}}
 use Rattle.app_worker.proofs.Closing.{IsOut, bare-saw, turns-finished, scrubbed_state, scrubbed_view, bare-scrubbed, common-scrubbed, goes-scrubbed}
 use Rattle.zr_kinds.specs.declared.fault.Fault.TheVariants as fault
-use Rattle.flow_queues.{specs.Core.{total, Each, many, own_notes, placed_of, LieApart, has_at, is_odd}, proofs.Looks.{looks-more}}
+use Rattle.flow_queues.{specs.{Core.{total, Each, many, own_notes, placed_of, LieApart, has_at, is_odd}, Leaving.{Leaves, ScrubsOnce}}, proofs.Looks.{looks-more}}
 
 -- nothing that is out lies over another
 pub bare-apart : (v : AppView) → v.helds ≡ [] → v.loans ≡ [] → LieApart v
@@ -189,8 +189,8 @@ module _ (st : State) (u w : AppView) (kept : ℕ → Option (List ℕ)) (f : �
   then-scrubbed : (x : AppView) (done : Bool) → st.scrubbed ≡ false → ScrubsOnce st.scrubbed done w x true
       → Turns st (record st { scrubbed = done }) u x kept kept f f (turn_after true turn)
   then-scrubbed x done not_yet scrubs =
-      let quiet : Bool = scrubs.1.0 in
-      rw (scrubs.0, scrubs.1.1) (turns-bare (bare-scrubbed st w quiet w.left passed.bare) is_bare
+      let quiet : Bool = x.quiet in
+      rw (scrubs.0, scrubs.1.view) (turns-bare (bare-scrubbed st w quiet w.left passed.bare) is_bare
       (common-scrubbed st w quiet w.left passed.common)
       reaped (goes-then passed.goes (goes-scrubbed st w quiet w.left kept (omega arith))) (answers-scrubbed quiet not_yet turn passed.answer)
       passed.few (λ why e. absurd (after-busy turn why e)) (λ _. passed.here) (λ live. not-live live) refl
@@ -201,7 +201,7 @@ module _ (st : State) (u w : AppView) (kept : ℕ → Option (List ℕ)) (f : �
       })
       (λ _ _. looks-later passed.looks) (λ _ _. inl refl))
     where
-      looks-later : LooksForOne st u w → LooksForOne (scrubbed_state st) u (scrubbed_view w scrubs.1.0 w.left)
+      looks-later : LooksForOne st u w → LooksForOne (scrubbed_state st) u (scrubbed_view w x.quiet w.left)
       looks-later (inl one) = inl one
       looks-later (inr (inl none)) = inr (inl (record { rose = none.rose }))
       looks-later (inr (inr over)) = inr (inr over)

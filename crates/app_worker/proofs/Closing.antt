@@ -4,14 +4,14 @@ use Rattle.std.proofs.{Common.{subst, ◌∙◌, arith, inl, inr, ⊎_elim}, Mat
 use Rattle.std.specs.Prelude.{◌==◌, if◌then◌else◌}
 use Rattle.zr_kinds.specs.{CopyingReceiver.{nothing_placed, next_missing, values_from}, declared.ring.Completion.{Completion}}
 use Rattle.tcp_reorder.proofs.Holding.{next_missing-held}
-use Rattle.board_face.specs.{AppEvents.{app_saw, reserve_of}, declared.views.app.{AppLook.{AppLook, TheVariants.{NotQuiet}}, LentPiece.{LentPiece}}}
+use Rattle.board_face.specs.{AppEvents.{app_saw, left_board, reserve_of}, declared.views.app.{AppLook.{AppLook, TheVariants.{NotQuiet}}, LentPiece.{LentPiece}}}
 use Rattle.board_face.specs.declared.views.app.{TakenNote.{TakenNote}, AppView.{AppView}}
 use Rattle.flow_queues.specs.declared.queues.{FlowQueue.{FlowQueue}, Lending.{Lending}}
 use Rattle.flow_queues.specs.Core.{total, Each, many, own_notes, received_notes, placed_of, marks_of_waiting, lent_piece, over_read, read_out, FlowStands}
-use Rattle.flow_queues.specs.{Entries.{lies_in, returned_aside}, Totals.{lent_len, loan_entries}, Flows.{IsAtRest, FlowFacts, facts_of}}
+use Rattle.flow_queues.specs.{Entries.{lies_in, returned_aside}, Totals.{lent_len, loan_entries}, Flows.{IsAtRest, FlowFacts, facts_of}, Leaving.{Leaves}}
 use Rattle.flow_queues.proofs.{Placing.{values-length}, Standing.{each-map}, Releasing.{each-facts, total-facts}, Looks.{looks-same}, Tokens.{total-append}}
 use Rattle.app_worker.specs.{declared.turn.Turn.TheVariants.{Did, Finished}, State.{State, Working, Common, Bare, app_steps, one_if}, Moves.{Goes}, Letting.{LetGo}}
-use Rattle.app_worker.{specs.{Stages.{Through, Leaves}, Turns.{Rests, Turns}}, proofs.{EachBoth.{each-both}, Moving.{total-one, reserve-same, no-write, rose-after}}}
+use Rattle.app_worker.{specs.{Stages.{Through}, Turns.{Rests, Turns}}, proofs.{EachBoth.{each-both}, Moving.{total-one, reserve-same, no-write, rose-after}}}
 use Rattle.app_worker.proofs.{Seeing.{common-saw, goes-saw, goes-still}, Measure.{one-most}, Through.{goes-then}, TurnLemmas.{turns-bare}}
 use Rattle.zr_kinds.specs.declared.behaviour.Stopped.TheVariants as stop
 
@@ -169,7 +169,9 @@ pub record IsOut (a c : State) (u w : AppView) (k m : ℕ → Option (List ℕ))
 pub turns-finished : (a c : State) (u w x : AppView) (k m : ℕ → Option (List ℕ)) (f f2 : ℕ) (done : Bool) → IsOut a c u w k m
     → Leaves c.scrubbed done w x true → Turns a (record c { scrubbed = done }) u x k m f f2 Finished
 turns-finished a c u w x k m f f2 done out leaves =
-    let (now, (quiet, is)) = leaves in
+    let (now, (mid, scrubbed, left)) = leaves in
+    let quiet : Bool = mid.quiet in
+    let is : x ≡ scrubbed_view w quiet true = left ∙ ap left_board scrubbed.view in
     rw (now, is) (turns-bare (bare-scrubbed c w quiet true out.bare) out.is_bare (common-scrubbed c w quiet true out.common) out.reaped
     (goes-then out.goes (goes-scrubbed c w quiet true m (omega (arith, one-most w.left)))) (out.here, refl, out.is_bare) (inl out.taken)
     (λ why e. absurd (cc)) (λ other. absurd (other refl)) (λ _ differs. absurd (differs out.taken)) out.same

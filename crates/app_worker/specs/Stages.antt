@@ -2,8 +2,8 @@
 use Rattle.std.specs.Prelude.{◌≡◌, ◌≢◌, ℕ, ◌<◌, ◌≤◌, ◌⊎◌, Bool, true, false, if◌then◌else◌, List, [], length, Option, None}
 use Rattle.zr_kinds.specs.declared.behaviour.Stopped.TheVariants as stop
 use Rattle.zr_io.specs.Moved.{Rose}
-use Rattle.board_face.specs.{AppCalls.{IsHere, AppOnlySaw}, Looks.{AppRose}, AppEvents.{reserve_of}}
-use Rattle.board_face.specs.declared.views.app.{AppLook.{AppLook, TheVariants.{RawOnItsWay, NoSpare, RefillInUse, NotQuiet}}, AppView.{AppView}}
+use Rattle.board_face.specs.{AppCalls.{AppOnlySaw}, Looks.{AppRose}, AppEvents.{reserve_of}}
+use Rattle.board_face.specs.declared.views.app.{AppLook.{AppLook, TheVariants.{RawOnItsWay, NoSpare, RefillInUse}}, AppView.{AppView}}
 use Rattle.app_worker.specs.declared.{stack.Delivery.{Delivery, TheVariants.{Did as lent_it}}, stages.Drained.{Drained}}
 use Rattle.app_worker.specs.declared.stages.Drained.TheVariants.{Nothing as read_nothing, Did as read_some, InUse, Quit as read_quit, Failed as read_failed}
 use Rattle.app_worker.specs.declared.stages.Lent.{Lent, TheVariants.{Nothing as none_in_order, Did as lent_some, Stuck, NoSpare as NoSpareHad}}
@@ -126,28 +126,3 @@ abbrev pub IsSoOfLent : (AppLook → Type 0) → Lent → Type 0
 IsSoOfLent is_so Stuck = is_so RawOnItsWay
 IsSoOfLent is_so NoSpareHad = is_so NoSpare
 IsSoOfLent is_so other = Unit {0}
-
--- ---- leaving
-
--- it may scrub: it hasn't left, has no loan out, and a flag keeps whether it has scrubbed
-pub record MayScrub (scrubbed : Bool) (v : AppView) : Type 0 where
-  pub here : IsHere v
-  pub loans : v.loans ≡ []
-  pub known : v.scrubbed ≡ scrubbed
-
--- and may leave: it has no piece and no spare either, and was told that no note comes any more
-pub record MayLeave (scrubbed : Bool) (v : AppView) : Type 0 where
-  pub scrub : MayScrub scrubbed v
-  pub helds : v.helds ≡ []
-  pub owns : v.owns ≡ []
-  pub ended : v.ended ≡ true
-
--- The user counts are scrubbed: they were before, or each refill slot was seen free. Or one was in use. A flag keeps which.
-abbrev pub ScrubsOnce : Bool → Bool → AppView → AppView → Bool → Type 0
-ScrubsOnce was now old new true = (now ≡ true) × ((quiet : Bool) × (new ≡ record old { scrubbed = true; quiet = quiet }))
-ScrubsOnce was now old new false = (now ≡ was) × AppOnlySaw NotQuiet old new
-
--- they are, and the application left; or a refill slot was in use
-abbrev pub Leaves : Bool → Bool → AppView → AppView → Bool → Type 0
-Leaves was now old new true = (now ≡ true) × ((quiet : Bool) × (new ≡ record old { scrubbed = true; quiet = quiet; left = true }))
-Leaves was now old new false = (now ≡ was) × AppOnlySaw NotQuiet old new

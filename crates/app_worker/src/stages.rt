@@ -1,8 +1,8 @@
 //! The stages of a turn: lending what is in order, and reading what is more than it keeps unread.
 ghost use Rattle.std.specs.Prelude.{◌≡◌, false, ◌+◌, ◌≤◌, [], ◌++◌, length};
 ghost use Rattle.completion_ring.specs.Ring.{ring};
-ghost use Rattle.board_face.specs.{AppEvents.{app_gist}, declared.views.app.AppLook.TheVariants.{NotQuiet}};
-ghost use Rattle.app_worker.specs.{StateOf.{state_of}, Works.{Works, NoneDue, MayLend}, ShelfWent.{ShelfWent}, Steps.{IsSoOfDelivery}, Stages.{kept_of, ReadsTo, LentSome, LendsAll, IsSoOfLent, MayScrub, ScrubsOnce, MayLeave, Leaves}};
+ghost use Rattle.board_face.specs.AppEvents.{app_gist};
+ghost use Rattle.app_worker.specs.{StateOf.{state_of}, Works.{Works, NoneDue, MayLend}, ShelfWent.{ShelfWent}, Steps.{IsSoOfDelivery}, Stages.{kept_of, ReadsTo, LentSome, LendsAll, IsSoOfLent}};
 
 use crate::lending::deliver_one;
 use crate::letting::let_go;
@@ -158,39 +158,4 @@ pub fn lend_all<F: AppFace, T: Shelf>(face: &mut F, st: &mut Stack, shelf: &mut 
             _ => {}
         }
     }
-}
-
-/// Scrubs, unless that was done before, if each refill slot is free: whether it is done.
-pub fn scrub<F: AppFace>(face: &mut F, scrubbed: &mut bool) -> bool
-    requires may { MayScrub scrubbed.old (F.seen face.old) }
-    ensures scrubs { ScrubsOnce scrubbed.old scrubbed.new (F.seen face.old) (F.seen face.new)
-        result }
-    ensures told { result ≡ false
-        → F.tells NotQuiet (app_gist (F.seen face.new)) (F.beside face.new) }
-    ensures beside { F.beside face.new ≡ F.beside face.old }
-{
-    if *scrubbed {
-        return true;
-    }
-    if !face.quiet() {
-        return false;
-    }
-    face.scrub();
-    *scrubbed = true;
-    true
-}
-
-/// Scrubs, and leaves if that is done: whether it left.
-pub fn leave<F: AppFace>(face: &mut F, scrubbed: &mut bool) -> bool
-    requires may { MayLeave scrubbed.old (F.seen face.old) }
-    ensures leaves { Leaves scrubbed.old scrubbed.new (F.seen face.old) (F.seen face.new) result }
-    ensures told { result ≡ false
-        → F.tells NotQuiet (app_gist (F.seen face.new)) (F.beside face.new) }
-    ensures beside { F.beside face.new ≡ F.beside face.old }
-{
-    if !scrub(face, scrubbed) {
-        return false;
-    }
-    face.leave();
-    true
 }

@@ -7,11 +7,11 @@ ghost use Rattle.flow_queues.specs.{Core.{Each, HoldsApart}, Flows.{IsAtRest}};
 
 use crate::letting::let_go;
 use crate::stack::Stack;
-use crate::stages::{Drained, Lent, drain, leave, lend_all, scrub};
+use crate::stages::{Drained, Lent, drain, lend_all};
 use crate::straying::{GivenBack, give_back};
 use crate::turn::{Turn, Why};
 use board_face::AppFace;
-use flow_queues::{Taken, take_note};
+use flow_queues::{Taken, leave, scrub, take_note};
 use zr_io::Shelf;
 use zr_kinds::{Fault, Stopped};
 

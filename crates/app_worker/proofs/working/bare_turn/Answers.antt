@@ -1,6 +1,7 @@
-use Rattle.std.proofs.Common.{true, None, ◌∙◌}
+use Rattle.std.proofs.Common.{true, None, ◌∙◌, refl}
 use Rattle.app_worker.{specs.{State.{State}, StateOf.{state_of}}, proofs.BareLemmas.{bare-apart, bare-finished, bare-not-quiet, out-ended, then-nothing, then-done}}
-use Rattle.app_worker.proofs.Closing.{turns-finished, turns-not-quiet}
+use Rattle.app_worker.{proofs.{Closing.{turns-finished, turns-not-quiet}, TurnLemmas.{idle-for}}, specs.{Turns.{look_of}, declared.turn.Why.TheVariants.{NotQuiet}}}
+use Rattle.board_face.specs.{AppEvents.{app_gist}, declared.views.app.AppLook.TheVariants.{NotQuiet as slot_in_use}}
 use Rattle.app_worker.proofs.working.bare_turn.Goals as goal
 
 pub returns-then-leave-clause-turns : goal.returns-then-leave-clause-turns
@@ -12,6 +13,12 @@ pub returns-else-leave-clause-turns : goal.returns-else-leave-clause-turns
 returns-else-leave-clause-turns g c = λ kept faults. bare-not-quiet (state_of c.args.st.now)
     (g.F.AppFace.seen c.args.face.now) c.requires.bare c.requires.is_bare c.requires.common c.requires.reaped
     (g.F.AppFace.seen c.leave.new.face) kept faults c.leave.new.scrubbed c.if-st.true c.if-leave.ensures.leaves
+
+pub returns-else-leave-clause-told : goal.returns-else-leave-clause-told
+returns-else-leave-clause-told g c =
+    let saw = c.if-leave.ensures.leaves.1 in
+    idle-for NotQuiet (λ why. g.F.AppFace.tells (look_of why) (app_gist (g.F.AppFace.seen c.leave.new.face)) (g.F.AppFace.beside c.leave.new.face))
+    (rw (saw.event, c.leave.ensures.beside) ((c.if-leave.ensures.held refl).told slot_in_use saw.rose))
 
 pub pass_note-requires-clause-holds : goal.pass_note-requires-clause-holds
 pass_note-requires-clause-holds g c = record { here = c.requires.here; apart = bare-apart _ c.requires.bare.helds c.requires.bare.loans }
