@@ -9,7 +9,7 @@ use Rattle.flow_queues.specs.declared.queues.{Lending.{Lending}, FlowQueue.{Flow
 use Rattle.flow_queues.specs.Core.{total, many, over_due, over_read, short_bytes, lent_piece, own_notes, BeginAt, received_notes}
 use Rattle.flow_queues.{specs.Core.{AreReadAt, most_at_once, is_copy, IsIn, unsplit_len}, proofs.Indexing.{by-place}}
 use Rattle.flow_queues.specs.Shelves.{FlowEnds, kept_loans, IsShelved, AreShelved, AreOfOneLoan, ReadsFront, IsFrontShelved, AreFronts}
-use Rattle.flow_queues.specs.{Totals.{capped, taken_len, lent_len, loan_entries}, Flows.{IsIndex, place_in, FlowFacts, facts_of}}
+use Rattle.flow_queues.specs.{Totals.{capped, taken_len, lent_len, loan_entries}, Flows.{IsIndex, place_in, FlowFacts, facts_of}, Pieces.{AllReleased}}
 use Rattle.flow_queues.proofs.{GivenBack.{gives-gone, gives-count, front-gone}, Tokens.{total-append, in-right, in-total, is_that_loan, that-loan, is-lent-there}}
 use Rattle.flow_queues.proofs.{Looks.{looks-same}, Releasing.{total-none, each-facts, total-facts}}
 use Rattle.app_worker.{specs.State.{State, Common, due_one, app_steps, one_if, read_of}, proofs.{Accounts.{sound-gone}, Origins.{origins-more, gone-origins}}}
@@ -176,9 +176,10 @@ pub gone-all : (was : State) (now : List FlowQueue) (old v1 v2 v3 new : AppView)
     → Common was old
     → Abandons old v1 (λ f. total (λ p. f (lent_piece old.taken p.1)) was.unread) → Abandons v1 v2 (λ f. over_due v1.taken f was.due)
     → Abandons v2 v3 (λ f. over_read v2.taken f was.leaked.items)
-    → new ≡ record v3 { helds = [] } → map facts_of now ≡ map facts_of was.flows → total (λ f. short_bytes f.queue) now ≡ 0
+    → AllReleased v3 new was.flows now
     → LetGo was (record was { flows = now; unread = []; due = None; leaked = buffer [] was.leaked.capacity; bare = true }) old new
-gone-all was now old v1 v2 v3 new reaped not_yet pushed torn common first second third released facts no_bytes =
+gone-all was now old v1 v2 v3 new reaped not_yet pushed torn common first second third released =
+    let facts : map facts_of now ≡ map facts_of was.flows = released.facts in
     let tokens : v3 ≡ record old { helds = v3.helds; loans = v3.loans; returned = v3.returned } = third.only.view
     ∙ ap (λ (x : AppView). record x { helds = v3.helds; loans = v3.loans; returned = v3.returned }) second.only.view
     ∙ ap (λ (x : AppView). record x { helds = v3.helds; loans = v3.loans; returned = v3.returned }) first.only.view in
@@ -209,7 +210,7 @@ gone-all was now old v1 v2 v3 new reaped not_yet pushed torn common first second
     ∙ append_assoc old.returned first.behind.0 second.behind.0)
     ∙ append_assoc old.returned (first.behind.0 ++ second.behind.0) third.behind.0 in
     let gone : AppView = record old { helds = []; loans = []; returned = old.returned ++ more } in
-    let view : new ≡ gone = released ∙ ap (λ (x : AppView). record x { helds = [] }) tokens
+    let view : new ≡ gone = released.view ∙ ap (λ (x : AppView). record x { helds = [] }) tokens
     ∙ ap (λ ls. record old { helds = []; loans = ls; returned = v3.returned }) none ∙ ap (λ ls. record gone { returned = ls }) behind in
     let went : (f : LentPiece → ℕ) → total f more ≡ total f old.loans = λ f. omega (
       arith,
@@ -260,11 +261,11 @@ gone-all was now old v1 v2 v3 new reaped not_yet pushed torn common first second
     ) in
     let bytes : total (λ f. f.bytes) now ≡ total (λ f. f.bytes) was.flows = total-facts (λ x. x.bytes) was.flows now facts in
     let copies : old.spares ≡ 0 + total is_copy gone.returned = omega (arith, back is_copy, common.copies) in
-    let spares : old.spares + total (λ f. short_bytes f.queue) now ≤ total unsplit_len old.taken = omega (arith, no_bytes, common.spares) in
+    let spares : old.spares + total (λ f. short_bytes f.queue) now ≤ total unsplit_len old.taken = omega (arith, released.short, common.spares) in
     let loans : was.loans ≡ capped (0 + length gone.returned) = common.loans ∙ ap capped (omega (arith, count)) in
     let leaks : 0 ≤ was.how.leak = omega arith in
     let entries : loan_entries old ≤ length gone.returned = omega (arith, common.entries, count) in
-    let bound : 0 + length gone.returned + 0 + total (λ f. short_bytes f.queue) now ≤ total taken_len old.taken = omega (arith, count, no_bytes, common.bound) in
+    let bound : 0 + length gone.returned + 0 + total (λ f. short_bytes f.queue) now ≤ total taken_len old.taken = omega (arith, count, released.short, common.bound) in
     rw view (record {
       helds = refl;
       loans = refl;

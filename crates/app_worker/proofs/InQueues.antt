@@ -1,7 +1,7 @@
 -- What is kept of the flows, as the queues say it.
 use Rattle.std.specs.Prelude.{◌++◌}
 use Rattle.board_face.specs.declared.views.app.AppView.{AppView}
-use Rattle.flow_queues.specs.Kept.{QueueState, LoansOut, QueuesStand}
+use Rattle.flow_queues.specs.Kept.{QueueState, LoansOut, QueuesStand, QueuesWork}
 use Rattle.app_worker.specs.{State.{State, read_of, queues_of}, Works.{Works}}
 
 abbrev pub with_queues : State → QueueState → State
@@ -17,3 +17,6 @@ queues-stand works = record {
   index = works.working.index;
   bounded = record { spares = works.common.spares; loans = works.common.bound };
 }
+
+pub queues-work : {st : State} {v : AppView} → Works st v → QueuesWork (queues_of st) v
+queues-work {st} works = record { here = works.here; out = out_of st; stand = queues-stand works }

@@ -1,11 +1,10 @@
 use Rattle.std.proofs.Common.{rules, ◌≡◌, arith}
 use Rattle.flow_queues.specs.{KeptOf.{queue_state}, Totals.{capped}}
-use Rattle.app_worker.{specs.StateOf.{state_of}, proofs.{InQueues.{out_of, queues-stand}, Seeing.{left-none}}}
-use Rattle.app_worker.proofs.Delivering.{lent-place, still-active, posted-one, none-next, none-settled, none-spare}
+use Rattle.app_worker.proofs.{InQueues.{queues-work}, Seeing.{left-none}, Delivering.{lent-place, still-active, posted-one, none-next, none-settled, none-spare}}
 use Rattle.app_worker.proofs.lending.deliver_one.Goals as goal
 
-pub lend-requires-clause-stand : goal.lend-requires-clause-stand
-lend-requires-clause-stand g c = (out_of (state_of c.args.st.now), queues-stand c.requires.works)
+pub lend-requires-clause-work : goal.lend-requires-clause-work
+lend-requires-clause-work g c = queues-work c.requires.works
 
 pub returns-then-is_full-clause-works : goal.returns-then-is_full-clause-works
 returns-then-is_full-clause-works g c = left-none c.requires.works.working c.requires.works.common

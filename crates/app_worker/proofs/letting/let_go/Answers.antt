@@ -28,4 +28,4 @@ returns-clause-done g c =
     (g.F.AppFace.seen c.abandon_leaked.new.face) (g.F.AppFace.seen c.release_all.new.face)
     c.requires.may.reaped c.requires.may.not_yet c.requires.may.pushed c.requires.may.torn c.requires.may.common c.abandon_all.ensures.abandons c.abandon_due.ensures.abandons
     c.abandon_leaked.ensures.abandons
-    c.release_all.ensures.view c.release_all.ensures.facts c.release_all.ensures.short)
+    c.release_all.ensures.released)

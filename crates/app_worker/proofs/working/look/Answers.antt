@@ -2,13 +2,13 @@ use Rattle.std.proofs.Common.{ℕ, true, List, Option, sym, ap, subst, ◌∙◌
 use Rattle.board_face.specs.declared.views.app.AppView.{AppView}
 use Rattle.flow_queues.specs.{Kept.{QueueState}, KeptOf.{queue_state}}
 use Rattle.app_worker.specs.{State.{State, Working, Common}, StateOf.{state_of}, Whole.{TookOne, TookNone}, Turns.{MayPoll, Turns}}
-use Rattle.app_worker.proofs.{InQueues.{with_queues, out_of, queues-stand}, NoteTaken.{noted-none, noted-one}, TurnLemmas.{turns-saw}}
+use Rattle.app_worker.proofs.{InQueues.{with_queues, queues-work}, NoteTaken.{noted-none, noted-one}, TurnLemmas.{turns-saw}}
 use Rattle.app_worker.proofs.Looking.{took-failed, took-did, ended-working, ended-common, turns-ended, turns-memory}
 use Rattle.app_worker.{specs.declared.turn.Why.TheVariants.{NoNote}, proofs.{LentAll.{none-in-reserve, leaves-none}, working.look.Goals.{After-take_note, In-Did, In-Memory}}}
 use Rattle.app_worker.proofs.working.look.Goals as goal
 
-pub take_note-requires-clause-stand : goal.take_note-requires-clause-stand
-take_note-requires-clause-stand g c = (out_of (state_of c.args.st.now), queues-stand c.requires.may.none.works)
+pub take_note-requires-clause-work : goal.take_note-requires-clause-work
+take_note-requires-clause-work g c = queues-work c.requires.may.none.works
 
 -- what the queues took is kept with all the rest
 took : (g : _) (c : In-Did g) → TookOne (state_of c.args.st.now) (with_queues (state_of c.args.st.now) (queue_state c.take_note.new.st))
