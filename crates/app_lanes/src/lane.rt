@@ -6,7 +6,6 @@ use crate::seated::{Came, Seated};
 use crate::sits::Sits;
 use crossbeam_utils::Backoff;
 use run_loops::{Gate, IDLE, Loops, MOST_APPS};
-use std::alloc::Global;
 use std::sync::Wait;
 use std::sync::atomic::{AtomicBool, Ordering};
 use std::thread::{self, Threads};
@@ -52,14 +51,14 @@ impl<'b, T: Shelf> Sits for Lane<'b, T> {
         self.seated.has_left()
     }
 
-    fn turn(&mut self, alloc: Global) -> Came {
+    fn turn(&mut self) -> Came {
         self.turns = self.turns.saturating_add(1);
-        self.seated.turn(alloc)
+        self.seated.turn()
     }
 }
 
 /// A turn, unless it has left.
-fn lane_turn<W: Sits, G: Gate>(alloc: Global, gate: &G, lane: &mut W) -> Came
+fn lane_turn<W: Sits, G: Gate>(gate: &G, lane: &mut W) -> Came
     requires fits { W.fits lane.old }
     ensures goes { W.goes lane.old lane.new }
 {
@@ -67,16 +66,16 @@ fn lane_turn<W: Sits, G: Gate>(alloc: Global, gate: &G, lane: &mut W) -> Came
         return Came::Rests;
     }
     gate.at(lane.app().saturating_add(1), lane.turns());
-    lane.turn(alloc)
+    lane.turn()
 }
 
 /// A turn, of which the card is told where nothing was done. `false` says that nothing was.
-fn told_turn<W: Sits, G: Gate>(alloc: Global, gate: &G, beside: &Loops, lane: &mut W) -> bool
+fn told_turn<W: Sits, G: Gate>(gate: &G, beside: &Loops, lane: &mut W) -> bool
     requires fits { W.fits lane.old }
     ensures goes { W.goes lane.old lane.new }
 {
     let asked = beside.asked();
-    match lane_turn(alloc, gate, lane) {
+    match lane_turn(gate, lane) {
         Came::Did => return true,
         Came::WaitsForCard => beside.wake_card(),
         Came::Rests => beside.answer(lane.app(), asked),
@@ -86,13 +85,7 @@ fn told_turn<W: Sits, G: Gate>(alloc: Global, gate: &G, beside: &Loops, lane: &m
 
 /// Turns, until something is done in one. `false` says that nothing was done in many, and that the card takes none, or that all loops
 /// end.
-fn lane_turns<W: Sits, G: Gate, R: Wait>(
-    rt: &R,
-    alloc: Global,
-    gate: &G,
-    beside: &Loops,
-    lane: &mut W,
-) -> bool
+fn lane_turns<W: Sits, G: Gate, R: Wait>(rt: &R, gate: &G, beside: &Loops, lane: &mut W) -> bool
     requires fits { W.fits lane.old }
     ensures goes { W.goes lane.old lane.new }
 {
@@ -101,7 +94,7 @@ fn lane_turns<W: Sits, G: Gate, R: Wait>(
         if beside.is_halted() {
             return false;
         }
-        if told_turn(alloc, gate, beside, lane) {
+        if told_turn(gate, beside, lane) {
             return true;
         }
         beside.rest_lane(rt, lane.app(), idle, &backoff);
@@ -110,13 +103,7 @@ fn lane_turns<W: Sits, G: Gate, R: Wait>(
 }
 
 /// Turns, until it has left, or nothing is done in many and the card takes none, or all loops end.
-fn lane_loop<W: Sits, G: Gate, R: Wait>(
-    rt: &R,
-    alloc: Global,
-    gate: &G,
-    beside: &Loops,
-    lane: &mut W,
-)
+fn lane_loop<W: Sits, G: Gate, R: Wait>(rt: &R, gate: &G, beside: &Loops, lane: &mut W)
     requires fits { W.fits lane.old }
     ensures goes { W.goes lane.old lane.new }
 {
@@ -125,32 +112,25 @@ fn lane_loop<W: Sits, G: Gate, R: Wait>(
         if lane.has_left() {
             return;
         }
-        if !lane_turns(rt, alloc, gate, beside, lane) {
+        if !lane_turns(rt, gate, beside, lane) {
             return;
         }
     }
 }
 
 /// The loop of a lane.
-fn run_lane<W: Sits, G: Gate, R: Wait>(
-    rt: &R,
-    alloc: Global,
-    gate: &G,
-    beside: &Loops,
-    lane: &mut W,
-)
+fn run_lane<W: Sits, G: Gate, R: Wait>(rt: &R, gate: &G, beside: &Loops, lane: &mut W)
     requires fits { W.fits lane.old }
     ensures goes { W.goes lane.old lane.new }
 {
     beside.begin(rt, lane.app());
-    lane_loop(rt, alloc, gate, beside, lane);
+    lane_loop(rt, gate, beside, lane);
     beside.end(lane.app(), lane.has_left());
 }
 
 /// The turns of all lanes, side by side.
 pub fn run_lanes<W: Sits + Send, G: Gate + Sync, R: Threads + Wait + Sync>(
     rt: &R,
-    alloc: Global,
     gate: &G,
     beside: &Loops,
     lanes: &mut [W],
@@ -163,7 +143,7 @@ pub fn run_lanes<W: Sits + Send, G: Gate + Sync, R: Threads + Wait + Sync>(
         lanes,
         MOST_APPS,
         &|_, lane| {
-            run_lane(rt, alloc, gate, beside, lane);
+            run_lane(rt, gate, beside, lane);
         },
     );
 }
@@ -179,7 +159,6 @@ pub fn lanes_go_on<W: Sits>()
 /// A turn of each that hasn't left, in this thread. `false` says that nothing was done.
 pub fn round<W: Sits + Send, G: Gate + Sync, R: Threads + Sync>(
     rt: &R,
-    alloc: Global,
     gate: &G,
     beside: &Loops,
     lanes: &mut [W],
@@ -193,7 +172,7 @@ pub fn round<W: Sits + Send, G: Gate + Sync, R: Threads + Sync>(
         lanes,
         1,
         &|_, lane| {
-            if told_turn(alloc, gate, beside, lane) {
+            if told_turn(gate, beside, lane) {
                 did.store(true, Ordering::SeqCst);
             }
         },

@@ -116,14 +116,14 @@ fn rests_on(why: Rests) -> Came
 }
 
 /// A turn of its own.
-fn take_turn<T: Shelf>(alloc: Global, own: &mut Turning<'_, T>) -> Came
+fn take_turn<T: Shelf>(own: &mut Turning<'_, T>) -> Came
     requires fits { Fits T.kept T.counts (Seated.Turning own.old) }
     requires here { own.old.worker.left ≡ false }
     ensures goes { SeatedGoes T.kept T.counts (Seated.Turning own.old) (Seated.Turning own.new) }
     ensures takes { TakesTurn T.kept T.counts (Seated.Turning own.old) (Seated.Turning own.new)
         result }
 {
-    let turn = app_turn(alloc, &mut own.seat, &mut own.worker.state, &mut own.shelf);
+    let turn = app_turn(&mut own.seat, &mut own.worker.state, &mut own.shelf);
     own.worker.left = matches!(turn, Turn::Finished);
     came_of(turn)
 }
@@ -209,14 +209,14 @@ impl<'b, T: Shelf> Seated<'b, T> {
     }
 
     /// A turn.
-    pub fn turn(&mut self, alloc: Global) -> Came
+    pub fn turn(&mut self) -> Came
         requires fits { Fits T.kept T.counts self.old }
         requires here { is_gone self.old ≡ false }
         ensures goes { SeatedGoes T.kept T.counts self.old self.new }
         ensures takes { TakesTurn T.kept T.counts self.old self.new result }
     {
         match self {
-            Seated::Turning(own) => take_turn(alloc, own),
+            Seated::Turning(own) => take_turn(own),
             Seated::Pouring(own) => pour(own),
             Seated::Forwarding(own) => forward(own),
         }

@@ -2,7 +2,6 @@
 ghost use Rattle.std.specs.Prelude.{◌≡◌, Bool, false};
 
 use crate::seated::Came;
-use std::alloc::Global;
 
 /// What sits in a lane, and takes turns there until it has left.
 pub trait Sits {
@@ -26,7 +25,7 @@ pub trait Sits {
         ensures { result ≡ gone self.now };
 
     /// A turn.
-    fn turn(&mut self, alloc: Global) -> Came
+    fn turn(&mut self) -> Came
         requires fits { fits self.old }
         requires here { gone self.old ≡ false }
         ensures goes { goes self.old self.new };

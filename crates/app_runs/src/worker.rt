@@ -86,7 +86,6 @@ fn card_step(board: PlainBoard, scene: &mut Scene, call: CardMove<'_>) -> (Plain
 
 /// A turn of the application, while the card's side stays as it is.
 fn app_part(
-    alloc: Global,
     board: PlainBoard,
     card: &CardHand,
     st: &mut AppState,
@@ -102,29 +101,29 @@ fn app_part(
 {
     board.sound();
     let mut part = board.app(0);
-    let turn = app_turn(alloc, &mut part, st, shelf);
+    let turn = app_turn(&mut part, st, shelf);
     (part.back(), turn)
 }
 
 /// A turn of the application, unless it has left.
-fn turn_step(alloc: Global, board: PlainBoard, scene: &mut Scene) -> (PlainBoard, Option<Turn>)
+fn turn_step(board: PlainBoard, scene: &mut Scene) -> (PlainBoard, Option<Turn>)
     requires { IsPlaying board scene.old.card scene.old.st scene.old.left }
     ensures { IsPlaying result.0 scene.new.card scene.new.st scene.new.left }
 {
     if scene.left {
         return (board, None);
     }
-    let (board, turn) = app_part(alloc, board, &scene.card, &mut scene.st, &mut scene.shelf);
+    let (board, turn) = app_part(board, &scene.card, &mut scene.st, &mut scene.shelf);
     scene.left = turn == Turn::Finished;
     (board, Some(turn))
 }
 
 /// A turn of the application, and then the card deals with all entries.
-fn turn_and_deal(alloc: Global, board: PlainBoard, scene: &mut Scene) -> (PlainBoard, Option<Turn>)
+fn turn_and_deal(board: PlainBoard, scene: &mut Scene) -> (PlainBoard, Option<Turn>)
     requires { IsPlaying board scene.old.card scene.old.st scene.old.left }
     ensures { IsPlaying result.0 scene.new.card scene.new.st scene.new.left }
 {
-    let (mut board, turn) = turn_step(alloc, board, scene);
+    let (mut board, turn) = turn_step(board, scene);
     for _ in 0..256 {
         let (then, told) = card_step(board, scene, CardMove::Entry);
         board = then;
@@ -136,18 +135,13 @@ fn turn_and_deal(alloc: Global, board: PlainBoard, scene: &mut Scene) -> (PlainB
 }
 
 /// Turns until one has this answer, each with all entries dealt with: whether one had.
-fn turns_until(
-    alloc: Global,
-    wanted: Turn,
-    board: PlainBoard,
-    scene: &mut Scene,
-) -> (PlainBoard, bool)
+fn turns_until(wanted: Turn, board: PlainBoard, scene: &mut Scene) -> (PlainBoard, bool)
     requires { IsPlaying board scene.old.card scene.old.st scene.old.left }
     ensures { IsPlaying result.0 scene.new.card scene.new.st scene.new.left }
 {
     let mut board = board;
     for _ in 0..400 {
-        let (then, turn) = turn_and_deal(alloc, board, scene);
+        let (then, turn) = turn_and_deal(board, scene);
         board = then;
         if turn == Some(wanted) {
             return (board, true);

@@ -1,7 +1,7 @@
 -- What each step of the core does.
 use Rattle.std.specs.Prelude.{List, zero, suc, ◌≡◌, ◌≢◌, ℕ, ◌+◌, ◌<◌, ◌≤◌, Bool, true, false, ◌||◌, ◌==◌, [], ◌∷◌, ◌++◌, Option, Some, None, length, slice_index_or}
 use Rattle.std.specs.{Prelude.{Result, OnOk, OnErr}, Int.{cast_signed}, Io.KnownBytes.{Keeps}}
-use Rattle.zr_io.specs.Moved.{Gained}
+use Rattle.zr_io.specs.Moved.{Gained, HasCause, ShelfCounts, raised_by}
 use Rattle.board_face.specs.{declared.views.app.{LentPiece.{LentPiece}, AppView.{AppView}, WrittenEntry.{WrittenEntry}}, AppCalls.{IsHere, IsLive, AppOnlySaw}}
 use Rattle.board_face.specs.{AppEvents.{gave, entry_of, reserve_of}, Looks.{AppRose, AppLooksStay}, declared.views.app.AppLook.{AppLook, TheVariants.{RawOnItsWay, RefillInUse, NoSpare}}}
 use Rattle.flow_queues.specs.declared.queues.{Lending.{Lending}, FlowQueue.{FlowQueue}}
@@ -75,6 +75,11 @@ pub record AppendsFront {T E : Type 0} (old new : AppView) (kept kept_now : ℕ 
   pub gained : Gained (kept front.flow) (kept_now front.flow) (IsReadOf old.taken new.reads front.lending count front.most)
   pub exact : OnOk result (Gained (kept front.flow) (kept_now front.flow) (IsReadOf old.taken new.reads front.lending front.most front.most))
   pub others : (other : ℕ) → other ≢ front.flow → Keeps (kept other) (kept_now other)
+
+-- How a shelf's counts changed as so many bytes were appended: it failed exactly at `Err`.
+pub record CountsShelf {T E : Type 0} (count : ℕ) (old new : ShelfCounts) (result : Result T E) : Type 0 where
+  pub cause : HasCause old.faults new.faults result
+  pub appended : new.appended ≡ raised_by old.appended count
 
 -- ---- giving back
 

@@ -1,10 +1,9 @@
 //! A loan is read, and what was read is appended; and a loan is given back.
 ghost use Rattle.std.specs.Prelude.{◌≡◌, false, ◌+◌, ◌-◌, ◌^◌, ◌<◌, ◌≤◌, IfSome, MatchBool, Some, ◌⊎◌};
 ghost use Rattle.area_layout.specs.Layout.{judged};
-ghost use Rattle.zr_io.specs.Moved.{HasCause, raised_by};
 ghost use Rattle.board_face.specs.{AppCalls.{IsHere, IsLive, AppOnlySaw}, AppEvents.{app_gist, pushed_raw}, declared.views.app.AppLook.TheVariants.{RefillInUse}};
 ghost use Rattle.flow_queues.specs.Core.{LieApart, IsIn, lent_piece};
-ghost use Rattle.app_worker.specs.Steps.{MayRead, as_front, ReadsThrough, CountsFront, AppendsFront, Given, KeptDue, NotKept, MayPush, Pushes};
+ghost use Rattle.app_worker.specs.Steps.{MayRead, as_front, ReadsThrough, CountsFront, AppendsFront, CountsShelf, Given, KeptDue, NotKept, MayPush, Pushes};
 
 use crate::stack::Stray;
 use board_face::AppFace;
@@ -35,9 +34,8 @@ pub fn read_loan<F: AppFace, T: Shelf>(
     ensures counted { CountsFront most bytes.old bytes.new result }
     ensures kept { AppendsFront (F.seen face.old) (F.seen face.new) (T.kept shelf.old)
         (T.kept shelf.new) (as_front lending.now most flow) (bytes.new - bytes.old) result }
-    ensures cause { HasCause (T.counts shelf.old).faults (T.counts shelf.new).faults result }
-    ensures appended { (T.counts shelf.new).appended
-        ≡ raised_by (T.counts shelf.old).appended (bytes.new - bytes.old) }
+    ensures counts { CountsShelf (bytes.new - bytes.old) (T.counts shelf.old) (T.counts shelf.new)
+        result }
     ensures beside { F.beside face.new ≡ F.beside face.old }
 {
     let mut done = 0;

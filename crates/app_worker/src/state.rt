@@ -135,12 +135,7 @@ impl AppState {
 /// in use keeps back comes first in the next turn. Once `quit` bytes are written, the last piece cut there, the
 /// application stops: it gives all up that it has, and from then on takes notes and gives their pieces up. It scrubs as soon as
 /// it sees each refill slot free, also beside a card that goes on.
-pub fn app_turn<F: AppFace, T: Shelf>(
-    _alloc: Global,
-    face: &mut F,
-    st: &mut AppState,
-    shelf: &mut T,
-) -> Turn
+pub fn app_turn<F: AppFace, T: Shelf>(face: &mut F, st: &mut AppState, shelf: &mut T) -> Turn
     requires here { IsHere (F.seen face.old) }
     requires stands { AppStands st.old (F.seen face.old) }
     ensures makes { TurnMakes T.kept T.counts (at_work st.old (F.seen face.old) shelf.old)

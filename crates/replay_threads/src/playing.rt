@@ -7,7 +7,6 @@ ghost use Rattle.app_lanes.specs.Lanes.{AllGo};
 use app_lanes::{Sits, have_left, lanes_go_on, round, run_lanes};
 use capture_beside::{CardLane, Pace, Reader, Went, join_reading, paced_turn, read_turn};
 use run_loops::{Gate, Loops};
-use std::alloc::Global;
 use std::sync::Wait;
 use std::thread::{Threads, available_parallelism, join_mut};
 use zr_io::Source;
@@ -18,7 +17,6 @@ const ROUNDS: u32 = 100_000;
 /// The loops of all.
 fn join_loops<S: Source + Send, W: Sits + Send, G: Gate + Sync, R: Threads + Wait + Sync>(
     rt: &R,
-    alloc: Global,
     gate: &G,
     beside: &Loops,
     free: u32,
@@ -40,7 +38,7 @@ fn join_loops<S: Source + Send, W: Sits + Send, G: Gate + Sync, R: Threads + Wai
         { join_reading(rt, gate, beside, free, source, reader, card) },
         &mut ||
             requires { All W.fits lanes.now }
-        { run_lanes(rt, alloc, gate, beside, lanes) },
+        { run_lanes(rt, gate, beside, lanes) },
     );
 }
 
@@ -48,7 +46,6 @@ fn join_loops<S: Source + Send, W: Sits + Send, G: Gate + Sync, R: Threads + Wai
 /// Nothing is done where they don't have threads of their own.
 fn play_beside<S: Source + Send, W: Sits + Send, G: Gate + Sync, R: Threads + Wait + Sync>(
     rt: &R,
-    alloc: Global,
     gate: &G,
     are_apart: bool,
     source: &mut S,
@@ -71,7 +68,7 @@ fn play_beside<S: Source + Send, W: Sits + Send, G: Gate + Sync, R: Threads + Wa
     if card.feed.ended() {
         beside.stop_reading();
     }
-    join_loops(rt, alloc, gate, &beside, free, source, reader, card, lanes);
+    join_loops(rt, gate, &beside, free, source, reader, card, lanes);
 }
 
 /// Whether the card was closed and every application has left.
@@ -96,7 +93,6 @@ fn read_on<S: Source>(is_idle: bool, source: &mut S, reader: &mut Reader, card: 
 /// until all are over. `false` says that after many they aren't. So many buffers are free at first for the card alone.
 fn play_rounds<S: Source, W: Sits + Send, G: Gate + Sync, R: Threads + Sync>(
     rt: &R,
-    alloc: Global,
     gate: &G,
     source: &mut S,
     free: u32,
@@ -120,7 +116,7 @@ fn play_rounds<S: Source, W: Sits + Send, G: Gate + Sync, R: Threads + Sync>(
             return true;
         }
         let went = paced_turn(gate, &beside, &mut pace, card);
-        let did = round(rt, alloc, gate, &beside, lanes);
+        let did = round(rt, gate, &beside, lanes);
         let is_idle = !did && matches!(went, Went::Idle);
         read_on(is_idle, source, reader, card);
     }
@@ -147,7 +143,6 @@ fn free_for_rounds(are_apart: bool, free: u32) -> u32 {
 /// there are rounds alone: threads would wait for each other at each step. So many buffers are free at first for the card alone.
 pub fn play<S: Source + Send, W: Sits + Send, G: Gate + Sync, R: Threads + Wait + Sync>(
     rt: &R,
-    alloc: Global,
     gate: &G,
     source: &mut S,
     free: u32,
@@ -167,11 +162,9 @@ pub fn play<S: Source + Send, W: Sits + Send, G: Gate + Sync, R: Threads + Wait 
     let are_apart = processors(rt, gate) > 1;
     let mut free = free;
     for _ in rt.forever() {
-        play_beside(
-            rt, alloc, gate, are_apart, source, free, reader, card, lanes,
-        );
+        play_beside(rt, gate, are_apart, source, free, reader, card, lanes);
         let still_free = free_for_rounds(are_apart, free);
-        if play_rounds(rt, alloc, gate, source, still_free, reader, card, lanes) {
+        if play_rounds(rt, gate, source, still_free, reader, card, lanes) {
             return;
         }
         free = 0;

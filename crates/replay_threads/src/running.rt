@@ -110,7 +110,6 @@ fn play_seated<'b, S: Source + Send, T: Shelf + Send, G: Gate + Sync, R: Threads
     };
     play(
         rt,
-        alloc,
         gate,
         source,
         free,

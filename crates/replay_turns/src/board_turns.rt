@@ -11,7 +11,6 @@ ghost use Rattle.replay_turns.specs.Following.{OnlyAppMoved};
 use app_worker::{AppState, Turn, app_turn};
 use card_feed::{Arrived, Feed, nic_step, nic_turn};
 use plain_board::PlainBoard;
-use std::alloc::Global;
 use zr_io::{Shelf, Source};
 
 /// A turn of the card. Each application's side stays as it is.
@@ -65,7 +64,6 @@ pub(crate) fn card_keeps_up(board: PlainBoard, feed: &mut Feed) -> PlainBoard
 
 /// A turn of an application. The card's side and those of the other applications stay as they are.
 pub(crate) fn app_step<T: Shelf>(
-    alloc: Global,
     board: PlainBoard,
     app: u32,
     st: &mut AppState,
@@ -83,7 +81,7 @@ pub(crate) fn app_step<T: Shelf>(
     ensures sound { IsSound (stand_of result.0) }
 {
     let mut face = board.app(app);
-    let turn = app_turn(alloc, &mut face, st, shelf);
+    let turn = app_turn(&mut face, st, shelf);
     let board = face.back();
     board.sound();
     (board, turn)

@@ -9,12 +9,10 @@ use crate::role::role_of;
 use crate::stepping::step;
 use plain_board::PlainBoard;
 use run_account::Run;
-use std::alloc::Global;
 use zr_io::{Shelf, Source};
 
 /// The turns that a text asks for.
 pub fn play_text<S: Source, T: Shelf>(
-    alloc: Global,
     mut board: PlainBoard,
     run: &mut Run,
     source: &mut S,
@@ -31,7 +29,7 @@ pub fn play_text<S: Source, T: Shelf>(
 {
     let apps = run.workers.len() as u32;
     for letter in turns.bytes() {
-        (board, _) = step(alloc, board, run, source, shelves, role_of(letter, apps));
+        (board, _) = step(board, run, source, shelves, role_of(letter, apps));
     }
     board
 }
@@ -39,7 +37,6 @@ pub fn play_text<S: Source, T: Shelf>(
 /// A turn of the card, and then one of each application. `false` says that nothing was done in any of them, and then nobody
 /// can do anything.
 pub(crate) fn play_round<S: Source, T: Shelf>(
-    alloc: Global,
     board: PlainBoard,
     run: &mut Run,
     source: &mut S,
@@ -56,9 +53,9 @@ pub(crate) fn play_round<S: Source, T: Shelf>(
         (AreStuck result.0 run.new) }
 {
     let apps = run.workers.len() as u32;
-    let (mut board, mut did) = step(alloc, board, run, source, shelves, Role::Card);
+    let (mut board, mut did) = step(board, run, source, shelves, Role::Card);
     for app in 0..apps {
-        let (next, more) = step(alloc, board, run, source, shelves, Role::App(app));
+        let (next, more) = step(board, run, source, shelves, Role::App(app));
         board = next;
         did |= more;
     }
@@ -67,7 +64,6 @@ pub(crate) fn play_round<S: Source, T: Shelf>(
 
 /// Rounds, until nothing is done in one: then the card was closed, and every application has left.
 pub fn play_rounds<S: Source, T: Shelf>(
-    alloc: Global,
     mut board: PlainBoard,
     run: &mut Run,
     source: &mut S,
@@ -84,7 +80,7 @@ pub fn play_rounds<S: Source, T: Shelf>(
         (moment source.new shelves.new result run.new) }
 {
     loop {
-        let (next, did) = play_round(alloc, board, run, source, shelves);
+        let (next, did) = play_round(board, run, source, shelves);
         board = next;
         if !did {
             break;

@@ -54,8 +54,8 @@ pub fn run_turns<S: Source, T: Shelf>(
         shelves.new.items plan.now) }
 {
     let (mut board, mut run) = open::<S, T>(alloc, random, plan)?;
-    board = play_text(alloc, board, &mut run, source, shelves, turns);
-    board = play_rounds(alloc, board, &mut run, source, shelves);
+    board = play_text(board, &mut run, source, shelves, turns);
+    board = play_rounds(board, &mut run, source, shelves);
     board.sound();
     let Run { feed, workers } = run;
     let outcome = tell(alloc, feed, &workers, &plan.ports)?;
@@ -93,7 +93,7 @@ pub fn run_rounds<S: Source, T: Shelf, G: Gate>(
         shelves.new.items plan.now) }
 {
     let (mut board, mut run) = open::<S, T>(alloc, random, plan)?;
-    board = play_waiting(alloc, gate, board, &mut run, source, shelves);
+    board = play_waiting(gate, board, &mut run, source, shelves);
     board.sound();
     let Run { feed, workers } = run;
     let outcome = tell(alloc, feed, &workers, &plan.ports)?;

@@ -8,12 +8,10 @@ use crate::board_turns::{app_step, card_step};
 use app_worker::Turn;
 use plain_board::PlainBoard;
 use run_account::Run;
-use std::alloc::Global;
 use zr_io::{Shelf, Source};
 
 /// A turn of an application, unless it has left. `false` says that it did nothing.
 fn app_turn<S: Source, T: Shelf>(
-    alloc: Global,
     board: PlainBoard,
     run: &mut Run,
     shelves: &mut [T],
@@ -34,13 +32,7 @@ fn app_turn<S: Source, T: Shelf>(
         return (board, false);
     }
     let worker = &mut run.workers[app as usize];
-    let (board, turn) = app_step(
-        alloc,
-        board,
-        app,
-        &mut worker.state,
-        &mut shelves[app as usize],
-    );
+    let (board, turn) = app_step(board, app, &mut worker.state, &mut shelves[app as usize]);
     worker.left = matches!(turn, Turn::Finished);
     let did = !matches!(turn, Turn::Idle(_));
     (board, did)
@@ -49,7 +41,6 @@ fn app_turn<S: Source, T: Shelf>(
 /// A turn of a role. An application that has left does nothing in it. `false` says that nothing was done, and then there is
 /// nothing that the role can do.
 pub fn step<S: Source, T: Shelf>(
-    alloc: Global,
     board: PlainBoard,
     run: &mut Run,
     source: &mut S,
@@ -73,6 +64,6 @@ pub fn step<S: Source, T: Shelf>(
             let _ = run.feed.records();
             turn
         }
-        Role::App(app) => app_turn::<S, T>(alloc, board, run, shelves, app),
+        Role::App(app) => app_turn::<S, T>(board, run, shelves, app),
     }
 }

@@ -13,7 +13,6 @@ use crate::stepping::step;
 use plain_board::PlainBoard;
 use run_account::Run;
 use run_loops::Gate;
-use std::alloc::Global;
 use zr_io::{Shelf, Source};
 
 /// How many turns the card has had, and each application that hasn't left.
@@ -54,7 +53,6 @@ fn keep_up<S: Source, T: Shelf>(board: PlainBoard, run: &mut Run) -> PlainBoard
 
 /// A turn of each application. `false` says that nothing was done in any of them.
 fn app_round<S: Source, T: Shelf>(
-    alloc: Global,
     mut board: PlainBoard,
     run: &mut Run,
     source: &mut S,
@@ -69,7 +67,7 @@ fn app_round<S: Source, T: Shelf>(
     let apps = run.workers.len() as u32;
     let mut did = false;
     for app in 0..apps {
-        let (next, more) = step(alloc, board, run, source, shelves, Role::App(app));
+        let (next, more) = step(board, run, source, shelves, Role::App(app));
         board = next;
         did |= more;
     }
@@ -78,7 +76,6 @@ fn app_round<S: Source, T: Shelf>(
 
 /// A round in which no record is read, if one comes next. `false` says that no application did anything.
 fn settle<S: Source, T: Shelf, G: Gate>(
-    alloc: Global,
     gate: &G,
     taken: &mut Taken,
     board: PlainBoard,
@@ -98,13 +95,12 @@ fn settle<S: Source, T: Shelf, G: Gate>(
     ask_card(gate, taken);
     let board = keep_up::<S, T>(board, run);
     ask_apps(gate, taken, run);
-    app_round(alloc, board, run, source, shelves)
+    app_round(board, run, source, shelves)
 }
 
 /// A round in which nothing is read, or where no application did anything in that, one in which a record is. `false` says that nothing
 /// was done, and then nobody can do anything.
 fn waiting_round<S: Source, T: Shelf, G: Gate>(
-    alloc: Global,
     gate: &G,
     taken: &mut Taken,
     board: PlainBoard,
@@ -118,18 +114,17 @@ fn waiting_round<S: Source, T: Shelf, G: Gate>(
     ensures answer { MatchBool result.1 (run_steps board run.old < run_steps result.0 run.new)
         (AreStuck result.0 run.new) }
 {
-    let (board, did) = settle(alloc, gate, taken, board, run, source, shelves);
+    let (board, did) = settle(gate, taken, board, run, source, shelves);
     if did {
         return (board, true);
     }
     ask_card(gate, taken);
     ask_apps(gate, taken, run);
-    play_round(alloc, board, run, source, shelves)
+    play_round(board, run, source, shelves)
 }
 
 /// Such rounds, until nothing is done in one: then the card was closed, and every application has left.
 pub fn play_waiting<S: Source, T: Shelf, G: Gate>(
-    alloc: Global,
     gate: &G,
     mut board: PlainBoard,
     run: &mut Run,
@@ -144,7 +139,7 @@ pub fn play_waiting<S: Source, T: Shelf, G: Gate>(
 {
     let mut taken = Taken { card: 0, app: 0 };
     loop {
-        let (next, did) = waiting_round(alloc, gate, &mut taken, board, run, source, shelves);
+        let (next, did) = waiting_round(gate, &mut taken, board, run, source, shelves);
         board = next;
         if !did {
             break;

@@ -57,29 +57,24 @@ fn counted_bytes(alloc: Global) -> Result<Vec<u8>, Fail> {
 }
 
 /// A step of the application, and whether it went as it was to.
-fn app_step(
-    alloc: Global,
-    step: Step<'_>,
-    board: PlainBoard,
-    scene: &mut Scene,
-) -> (PlainBoard, bool)
+fn app_step(step: Step<'_>, board: PlainBoard, scene: &mut Scene) -> (PlainBoard, bool)
     requires { IsPlaying board scene.old.card scene.old.st scene.old.left }
     ensures { IsPlaying result.0 scene.new.card scene.new.st scene.new.left }
 {
     match step {
         Step::Takes(wanted) => {
-            let (board, turn) = turn_step(alloc, board, scene);
+            let (board, turn) = turn_step(board, scene);
             (board, turn == Some(wanted))
         }
         Step::Taken(..) | Step::ShortTaken(..) => {
-            let (board, turn) = turn_step(alloc, board, scene);
+            let (board, turn) = turn_step(board, scene);
             (board, turn == Some(Turn::Did))
         }
         Step::TakesAny => {
-            let (board, _) = turn_and_deal(alloc, board, scene);
+            let (board, _) = turn_and_deal(board, scene);
             (board, true)
         }
-        Step::TakesUntil(wanted) => turns_until(alloc, wanted, board, scene),
+        Step::TakesUntil(wanted) => turns_until(wanted, board, scene),
         _ => (board, false),
     }
 }
@@ -87,7 +82,6 @@ fn app_step(
 /// Makes the step of this number, and compares what comes of it.
 fn step_once(
     rt: &impl Abort,
-    alloc: Global,
     name: &str,
     number: u32,
     step: Step<'_>,
@@ -107,7 +101,7 @@ fn step_once(
             return board;
         }
     }
-    let (board, well) = app_step(alloc, step, board, scene);
+    let (board, well) = app_step(step, board, scene);
     went(rt, name, number, well);
     board
 }
@@ -115,7 +109,6 @@ fn step_once(
 /// Makes the steps of a run.
 fn play(
     rt: &impl Abort,
-    alloc: Global,
     case: &Case<'_>,
     steps: &[Step<'_>],
     counted: &[u8],
@@ -130,7 +123,7 @@ fn play(
     for step in steps {
         number = number.wrapping_add(1);
         let call = move_of(*step, case.base, number, counted);
-        board = step_once(rt, alloc, case.name, number, *step, call, board, scene);
+        board = step_once(rt, case.name, number, *step, call, board, scene);
     }
     board
 }
@@ -178,7 +171,7 @@ pub fn played(
     };
     let fails = case.fails.to_vec(alloc)?;
     let (board, mut scene) = open(alloc, buffers, size, places, how, fails)?;
-    let board = play(rt, alloc, case, steps, counted, board, &mut scene);
+    let board = play(rt, case, steps, counted, board, &mut scene);
     let line = line_of(rt, case.name, &scene.st, &scene.shelf);
     if scene.left {
         let free = all_free(board, &scene)?;

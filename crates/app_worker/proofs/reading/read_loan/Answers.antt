@@ -88,3 +88,9 @@ returns-clause-reads g c = record {
   only = c.loop-done.invariant.4;
   through = λ byte below. c.loop-done.invariant.9 byte (omega (arith, below, c.loop-done.invariant.0));
 }
+
+pub returns-in_err-append-clause-counts : goal.returns-in_err-append-clause-counts
+returns-in_err-append-clause-counts g c = record { cause = search rules; appended = search rules }
+
+pub returns-clause-counts : goal.returns-clause-counts
+returns-clause-counts g c = record { cause = search rules; appended = search rules }
