@@ -135,9 +135,6 @@ module _ (v : AppView) (b : ℕ) (bytes : List ℕ) (owns : v.owns ≡ []) where
   filled-owns : filled_spare.owns ≡ record { own = full; bytes = bytes } ∷ []
   filled-owns = rw (owns, same_spare) refl
 
-  pub has-full : HasSpare filled_spare full
-  has-full = rw filled-owns (0, omega arith, refl)
-
   pub bytes-are : own_bytes filled_spare full ≡ bytes
   bytes-are = rw (filled-owns, same_full) refl
 

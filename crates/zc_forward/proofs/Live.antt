@@ -1,10 +1,10 @@
 -- The loans that are kept are out, and go.
-use Rattle.std.proofs.Common.{◌≡◌, ℕ, zero, suc, ◌+◌, ◌<◌, ◌≤◌, true, false, if◌then◌else◌, List, [], ◌∷◌, ◌++◌, length, map, refl, sym, ap, subst, ◌∙◌, arith, ⊎_elim, ◌⊎◌, inl, inr, length-append, append_assoc}
+use Rattle.std.proofs.Common.{◌≡◌, ℕ, zero, suc, ◌+◌, ◌<◌, true, false, if◌then◌else◌, List, [], ◌∷◌, ◌++◌, length, map, refl, sym, ap, subst, ◌∙◌, arith, ⊎_elim, ◌⊎◌, inl, inr, length-append, append_assoc}
 use Rattle.std.{specs.Prelude.{Contains}, proofs.lemmas.Bool.{cases_Bool}}
 use Rattle.zr_kinds.specs.declared.place.Place.{Place}
 use Rattle.board_face.specs.{Lists.{same_place}, AppCalls.{HasLoan}, AppEvents.{abandoned, gave, entry_of}, declared.views.app.LentPiece.{LentPiece}}
 use Rattle.board_face.{specs.declared.views.app.{WrittenEntry.{WrittenEntry}, AppView.{AppView}}, proofs.ListLemmas.{same_place-refl, same_place-is}}
-use Rattle.flow_queues.specs.{Core.{total, IsIn, LieApart}, Totals.{lent_len, loan_entries, raw_entries}}
+use Rattle.flow_queues.specs.{Core.{total, IsIn, LieApart}, Totals.{lent_len, loan_entries}}
 use Rattle.flow_queues.proofs.Tokens.{total-append, in-left, in-right, in-contains, in-without, is-given, loan-some}
 use Rattle.zc_poll.proofs.Views.{total-one}
 use Rattle.zc_forward.specs.{declared.sent.Sent.{Sent}, Sending.{of_sent}, GivenUp.{GaveUp}}
@@ -68,21 +68,12 @@ module _ (v : AppView) (apart : LieApart v) (loan : Place) (out : IsOut loan v.l
   pub went-lent : total lent_len (abandoned v loan).loans + total lent_len (abandoned v loan).returned ≡ total lent_len v.loans + total lent_len v.returned
   went-lent = omega (arith, ap (total lent_len) went.returned, total-append lent_len v.returned (went.piece ∷ []), went.loans lent_len)
 
-  pub went-entries : loan_entries v ≤ length v.returned → loan_entries v ≤ length (abandoned v loan).returned
-  went-entries before = omega (arith, before, returned-more)
-
   -- by an entry of its own
   pub gave-entry : loan_entries (gave v loan) ≡ loan_entries v + 1
   gave-entry = total-append (λ (e : WrittenEntry). if e.of_loan then 1 else 0) v.written (record { entry = entry_of v.setting.layout loan; of_loan = true } ∷ [])
 
   pub gave-returned : length (gave v loan).returned ≡ length v.returned + 1
   gave-returned = returned-more
-
-  pub gave-none-raw : raw_entries (gave v loan) ≡ raw_entries v
-  gave-none-raw = omega (
-    arith,
-    total-append (λ (e : WrittenEntry). if e.of_loan then 0 else 1) v.written (record { entry = entry_of v.setting.layout loan; of_loan = true } ∷ []),
-  )
 
   -- another loan is out still, and the one at the place was returned
   pub out-or-gone : (l : LentPiece) → IsIn l v.loans
