@@ -4,12 +4,12 @@ use Rattle.replay_turns.{specs.{Steps.{run_steps}, Stuck.{AreStuck}}, proofs.{Al
 use Rattle.replay_turns.proofs.Turns.{plays-through}
 use Rattle.replay_turns.proofs.playing.play_rounds.Goals as goal
 
-pub loop-alloc-init : goal.loop-alloc-init
-loop-alloc-init g c = (record { fits = c.requires.fits; workers = refl; many = refl; room = refl; runs = λ first firsts plan runs. runs }, 0, refl)
+pub loop-did-init : goal.loop-did-init
+loop-did-init g c = (record { fits = c.requires.fits; workers = refl; many = refl; room = refl; runs = λ first firsts plan runs. runs }, 0, refl)
 
-pub loop-alloc-preserved : goal.loop-alloc-preserved
-loop-alloc-preserved g c =
-    let so_far = c.loop-alloc.invariant in (
+pub loop-did-preserved : goal.loop-did-preserved
+loop-did-preserved g c =
+    let so_far = c.loop-did.invariant in (
       plays-through g.S.Source.left g.S.Source.faults g.T.Shelf.kept g.T.Shelf.counts
           _ _ _ _ _ _ _ _ _ _ _ _ so_far.0 c.play_round-next.ensures.plays,
       suc so_far.1,
@@ -17,22 +17,22 @@ loop-alloc-preserved g c =
           so_far.0.workers so_far.2 c.play_round-next.ensures.follows,
     )
 
-pub loop-alloc-smaller : goal.loop-alloc-smaller
-loop-alloc-smaller g c =
+pub loop-did-smaller : goal.loop-did-smaller
+loop-did-smaller g c =
     let round = c.play_round-next.ensures in
     left-falls g.S.Source.left g.S.Source.faults g.T.Shelf.kept g.T.Shelf.counts _ _ _ _ _ _ _ _
-    (still-of g.S.Source.left g.S.Source.faults g.T.Shelf.kept g.T.Shelf.counts _ _ _ _ _ _ _ _ c.requires.plan c.loop-alloc.invariant.0)
+    (still-of g.S.Source.left g.S.Source.faults g.T.Shelf.kept g.T.Shelf.counts _ _ _ _ _ _ _ _ c.requires.plan c.loop-did.invariant.0)
     round.plays
-    (subst (λ did. MatchBool did (run_steps c.loop-alloc.board c.loop-alloc.run < run_steps c.play_round-next.result.0 c.play_round-next.new.run)
+    (subst (λ did. MatchBool did (run_steps c.loop-did.board c.loop-did.run < run_steps c.play_round-next.result.0 c.play_round-next.new.run)
     (AreStuck c.play_round-next.result.0 c.play_round-next.new.run)) c.if-not-did.false round.answer)
 
 pub returns : goal.returns
 returns g c =
     let round = c.play_round-next.ensures in
-    let so_far = c.loop-alloc.invariant in
+    let so_far = c.loop-did.invariant in
     record {
       over = stuck-over c.play_round-next.result.0 c.play_round-next.new.run (length c.play_round-next.new.shelves) round.plays.fits
-          (subst (λ did. MatchBool did (run_steps c.loop-alloc.board c.loop-alloc.run < run_steps c.play_round-next.result.0 c.play_round-next.new.run)
+          (subst (λ did. MatchBool did (run_steps c.loop-did.board c.loop-did.run < run_steps c.play_round-next.result.0 c.play_round-next.new.run)
           (AreStuck c.play_round-next.result.0 c.play_round-next.new.run)) c.if-not-did.true round.answer);
       plays = plays-through g.S.Source.left g.S.Source.faults g.T.Shelf.kept g.T.Shelf.counts
           _ _ _ _ _ _ _ _ _ _ _ _ so_far.0 round.plays;

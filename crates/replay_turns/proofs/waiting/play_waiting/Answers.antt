@@ -3,21 +3,21 @@ use Rattle.std.{proofs.Common.{◌<◌, length, subst}, specs.Prelude.{MatchBool
 use Rattle.replay_turns.{specs.{Steps.{run_steps}, Stuck.{AreStuck}}, proofs.{AllLeft.{stuck-over}, StepsLeft.{still-of, left-falls}, Turns.{plays-through}, Unread.{plays-none}}}
 use Rattle.replay_turns.proofs.waiting.play_waiting.Goals as goal
 
-pub loop-alloc-init : goal.loop-alloc-init
-loop-alloc-init g c = plays-none g.S.Source.left g.S.Source.faults g.T.Shelf.kept g.T.Shelf.counts _ _ _ _ c.requires.fits
+pub loop-taken-init : goal.loop-taken-init
+loop-taken-init g c = plays-none g.S.Source.left g.S.Source.faults g.T.Shelf.kept g.T.Shelf.counts _ _ _ _ c.requires.fits
 
-pub loop-alloc-preserved : goal.loop-alloc-preserved
-loop-alloc-preserved g c =
+pub loop-taken-preserved : goal.loop-taken-preserved
+loop-taken-preserved g c =
     plays-through g.S.Source.left g.S.Source.faults g.T.Shelf.kept g.T.Shelf.counts
-    _ _ _ _ _ _ _ _ _ _ _ _ c.loop-alloc.invariant c.waiting_round-next.ensures.plays
+    _ _ _ _ _ _ _ _ _ _ _ _ c.loop-taken.invariant c.waiting_round-next.ensures.plays
 
-pub loop-alloc-smaller : goal.loop-alloc-smaller
-loop-alloc-smaller g c =
+pub loop-taken-smaller : goal.loop-taken-smaller
+loop-taken-smaller g c =
     let round = c.waiting_round-next.ensures in
     left-falls g.S.Source.left g.S.Source.faults g.T.Shelf.kept g.T.Shelf.counts _ _ _ _ _ _ _ _
-    (still-of g.S.Source.left g.S.Source.faults g.T.Shelf.kept g.T.Shelf.counts _ _ _ _ _ _ _ _ c.requires.plan c.loop-alloc.invariant)
+    (still-of g.S.Source.left g.S.Source.faults g.T.Shelf.kept g.T.Shelf.counts _ _ _ _ _ _ _ _ c.requires.plan c.loop-taken.invariant)
     round.plays
-    (subst (λ did. MatchBool did (run_steps c.loop-alloc.board c.loop-alloc.run < run_steps c.waiting_round-next.result.0 c.waiting_round-next.new.run)
+    (subst (λ did. MatchBool did (run_steps c.loop-taken.board c.loop-taken.run < run_steps c.waiting_round-next.result.0 c.waiting_round-next.new.run)
     (AreStuck c.waiting_round-next.result.0 c.waiting_round-next.new.run)) c.if-not-did.false round.answer)
 
 pub returns : goal.returns
@@ -25,8 +25,8 @@ returns g c =
     let round = c.waiting_round-next.ensures in
     record {
       over = stuck-over c.waiting_round-next.result.0 c.waiting_round-next.new.run (length c.waiting_round-next.new.shelves) round.plays.fits
-          (subst (λ did. MatchBool did (run_steps c.loop-alloc.board c.loop-alloc.run < run_steps c.waiting_round-next.result.0 c.waiting_round-next.new.run)
+          (subst (λ did. MatchBool did (run_steps c.loop-taken.board c.loop-taken.run < run_steps c.waiting_round-next.result.0 c.waiting_round-next.new.run)
           (AreStuck c.waiting_round-next.result.0 c.waiting_round-next.new.run)) c.if-not-did.true round.answer);
       plays = plays-through g.S.Source.left g.S.Source.faults g.T.Shelf.kept g.T.Shelf.counts
-          _ _ _ _ _ _ _ _ _ _ _ _ c.loop-alloc.invariant round.plays;
+          _ _ _ _ _ _ _ _ _ _ _ _ c.loop-taken.invariant round.plays;
     }
