@@ -1,5 +1,6 @@
 mod SignedDistance
 pub mod InOrder
+mod Numbers
 mod Rows
 pub mod LeastMissing
 pub mod Mapped
