@@ -5,6 +5,7 @@ use Rattle.frame_headers.specs.FrameClass.{TcpSegment}
 use Rattle.flow_table.specs.{Steered.{app_of, has_fin, first_byte}, CountedPart.{counted_len}}
 use Rattle.flow_table.specs.{Flows.{Flow, key_of, newest, number_among, number_of_flow, with_segment, flows_with}, KnownFlows.{KnownFlows}}
 use Rattle.flow_table.specs.Placing.{steered_to, number_for, counted_at, counted_for, IsPlaced}
+use Rattle.zr_kinds.specs.Limits.{most_flows}
 
 module _ (known : KnownFlows) (ports : List ℕ) (flows : List Flow) (segment : TcpSegment) (app : ℕ)
     (view : record { ports = ports; flows = flows } ≡ known) (place : Some app ≡ app_of ports segment.dport) where
@@ -14,12 +15,12 @@ module _ (known : KnownFlows) (ports : List ℕ) (flows : List Flow) (segment : 
   unfolding number_of_flow
   number_for-is record_number = ap (option_map (λ app. number_of_flow flows (steered_to app segment record_number))) (sym place)
 
-  pub too_many-for : (Told : Type 0) → (Told ↔ (number_among (length flows) segment (newest (key_of segment) flows) ≡ 65535)) → (record_number : ℕ)
-      → Told ↔ (number_for known segment record_number ≡ Some 65535)
+  pub too_many-for : (Told : Type 0) → (Told ↔ (number_among (length flows) segment (newest (key_of segment) flows) ≡ most_flows)) → (record_number : ℕ)
+      → Told ↔ (number_for known segment record_number ≡ Some most_flows)
   too_many-for Told too_many record_number =
-      subst (λ (k : KnownFlows). Told ↔ (number_for k segment record_number ≡ Some 65535)) view (
+      subst (λ (k : KnownFlows). Told ↔ (number_for k segment record_number ≡ Some most_flows)) view (
         (λ told. number_for-is record_number ∙ ap Some (too_many.0 told)),
-        (λ number. let same : Some (number_among (length flows) segment (newest (key_of segment) flows)) ≡ Some 65535 = sym (number_for-is record_number)
+        (λ number. let same : Some (number_among (length flows) segment (newest (key_of segment) flows)) ≡ Some most_flows = sym (number_for-is record_number)
             ∙ number in too_many.1 cc),
       )
 
@@ -38,11 +39,11 @@ module _ (known : KnownFlows) (ports : List ℕ) (flows : List Flow) (segment : 
       ∙ here in
       cc
 
-  pub few-for : length flows ≢ 65535 → length known.flows ≢ 65535
-  few-for few = subst (λ (k : KnownFlows). length k.flows ≢ 65535) view few
+  pub few-for : length flows ≢ most_flows → length known.flows ≢ most_flows
+  few-for few = subst (λ (k : KnownFlows). length k.flows ≢ most_flows) view few
 
-  pub few-among : length known.flows ≢ 65535 → length flows ≢ 65535
-  few-among few = subst (λ (k : KnownFlows). length k.flows ≢ 65535) (sym view) few
+  pub few-among : length known.flows ≢ most_flows → length flows ≢ most_flows
+  few-among few = subst (λ (k : KnownFlows). length k.flows ≢ most_flows) (sym view) few
 
   placed_in : (after : List Flow) (number base seq len : ℕ) (fin : Bool) (flow : Flow)
       → number ≡ number_among (length flows) segment (newest (key_of segment) flows)

@@ -3,6 +3,7 @@
 ghost use Rattle.std.specs.Prelude.{◌≡◌, ◌≢◌, ℕ, ◌+◌, ◌<◌, ◌≤◌, ◌↔◌, [], ◌∷◌, ◌++◌, ◌==◌, if◌then◌else◌, length, map, Some, None, IfSome, slice_get, option_map, Ok, Err, IfOk, OnOk, OnErr, IsTrue};
 ghost use Rattle.frame_headers.specs.Seen.{shown};
 ghost use Rattle.flow_table.specs.{Flows.{Flow, Numbered, key_of, newest, number_among, with_segment}, Placing.{steered_to, counted_at}, Kept.{entry_shown, close_shown}};
+ghost use Rattle.zr_kinds.specs.Limits.{most_flows};
 
 use crate::close::Close;
 use crate::entry::{FlowEntry, Key};
@@ -12,9 +13,7 @@ use indexmap::IndexMap;
 use std::alloc::Global;
 use std::collections::hash_map::RandomState;
 use std::marker::Model;
-
-/// How many flows there may be.
-const MOST_FLOWS: u32 = 65_535;
+use zr_kinds::MOST_FLOWS;
 
 /// So few flows are looked through for a key, which costs less than to hash it.
 const FEW_FLOWS: usize = 8;
@@ -30,17 +29,18 @@ pub(crate) struct FlowList {
 impl Model for FlowList {
     ghost use Rattle.std.specs.Prelude.{List, map, length, ◌≤◌};
     ghost use Rattle.flow_table.specs.{Flows.{Flow}, Kept.{entry_shown}, Newest.{HasNewest}};
+    ghost use Rattle.zr_kinds.specs.Limits.{most_flows};
 
     ghost Value = { List Flow };
 
     ghost view = { λ l. map entry_shown l.entries.items };
 
-    ghost invariant = { λ l. (length l.entries.items ≤ 65535) × HasNewest l.entries.items l.newest };
+    ghost invariant = { λ l. (length l.entries.items ≤ most_flows) × HasNewest l.entries.items l.newest };
 }
 
 /// The number of the newest of these flows that has the segment's key.
 fn newest_among(entries: &[FlowEntry], segment: &Segment<'_>) -> Option<u32>
-    requires { length entries.now ≤ 65535 }
+    requires { length entries.now ≤ most_flows }
     ensures { result ≡ option_map (λ (found : Numbered). found.number)
         (newest (key_of (shown segment.now)) (map entry_shown entries.now)) }
 {
@@ -66,7 +66,7 @@ impl FlowList {
 
     pub(crate) fn count(&self) -> u32
         ensures count { result ≡ length self.now }
-        ensures most { result ≤ 65535 }
+        ensures most { result ≤ most_flows }
     {
         self.entries.len() as u32
     }
@@ -110,7 +110,7 @@ impl FlowList {
         ensures { IsTrue result ↔
             ((number_among (length self.now) (shown segment.now)
             (newest (key_of (shown segment.now)) self.now) ≡ length self.now)
-            × (length self.now ≢ 65535)) }
+            × (length self.now ≢ most_flows)) }
     {
         let count = self.count();
         self.number_of_flow(segment) == count && count != MOST_FLOWS
@@ -138,7 +138,7 @@ impl FlowList {
     pub(crate) fn counted(&self, segment: &Segment<'_>) -> Option<usize>
         ensures few { IfSome result
             (λ len. number_among (length self.now) (shown segment.now)
-            (newest (key_of (shown segment.now)) self.now) ≢ 65535) }
+            (newest (key_of (shown segment.now)) self.now) ≢ most_flows) }
         ensures counted { IfSome result
             (λ len. (app record_number number : ℕ) → number
             ≡ number_among (length self.now) (shown segment.now)
@@ -149,7 +149,7 @@ impl FlowList {
         ensures most { IfSome result (λ len. len ≤ length (shown segment.now).payload) }
         ensures too_many { result ≡ None
             → number_among (length self.now) (shown segment.now)
-            (newest (key_of (shown segment.now)) self.now) ≡ 65535 }
+            (newest (key_of (shown segment.now)) self.now) ≡ most_flows }
     {
         let number = self.number_of_flow(segment);
         if number == MOST_FLOWS {
@@ -171,7 +171,7 @@ impl FlowList {
     fn begin(&mut self, flow: FlowEntry) -> Result<u32, FlowFault>
         ensures number { IfOk result (λ number. number ≡ length self.old) }
         ensures begun { OnOk result (self.new ≡ self.old ++ entry_shown flow ∷ []) }
-        ensures too_many { (result ≡ Err FlowFault.TooManyFlows) ↔ (length self.old ≡ 65535) }
+        ensures too_many { (result ≡ Err FlowFault.TooManyFlows) ↔ (length self.old ≡ most_flows) }
         ensures refused { OnErr result (self.new ≡ self.old) }
     {
         let number = self.count();
@@ -199,7 +199,7 @@ impl FlowList {
             × (length self.new ≡ length self.old + (if number == length self.old then 1 else 0))) }
         ensures too_many { (result ≡ Err FlowFault.TooManyFlows) ↔
             (number_among (length self.old) (shown segment.now)
-            (newest (key_of (shown segment.now)) self.old) ≡ 65535) }
+            (newest (key_of (shown segment.now)) self.old) ≡ most_flows) }
         ensures memory { result ≡ Err FlowFault.Memory
             → number_among (length self.old) (shown segment.now)
             (newest (key_of (shown segment.now)) self.old) ≡ length self.old }

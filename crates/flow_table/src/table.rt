@@ -1,7 +1,7 @@
 //! The table of flows.
 
 ghost use Rattle.std.specs.{Prelude.{◌≡◌, ◌≢◌, ℕ, ◌<◌, ◌≤◌, ◌↔◌, [], length, Ok, Err, Some, None, slice_get, option_map, nat_eq, IfOk, IfSome, OnErr, IsTrue, ◌⊎◌}, List.{IsDistinct}};
-ghost use Rattle.zr_kinds.specs.Limits.{longest_payload};
+ghost use Rattle.zr_kinds.specs.Limits.{longest_payload, most_flows};
 ghost use Rattle.frame_headers.specs.Seen.{shown};
 ghost use Rattle.flow_table.specs.{Steered.{app_of}, Placing.{number_for, counted_for, Places, info_of}};
 
@@ -60,7 +60,7 @@ impl FlowTable {
             ↔ (app_of self.old.ports segment.now.dport ≡ None) }
         ensures too_many { (record_number : ℕ)
             → (result ≡ Err FlowFault.TooManyFlows)
-            ↔ (number_for self.old (shown segment.now) record_number ≡ Some 65535) }
+            ↔ (number_for self.old (shown segment.now) record_number ≡ Some most_flows) }
         // Memory is asked for only where the segment would begin a flow.
         ensures memory { (record_number : ℕ) → result ≡ Err FlowFault.Memory
             → number_for self.old (shown segment.now) record_number ≡ Some (length self.old.flows) }
@@ -88,7 +88,7 @@ impl FlowTable {
         ensures { (record_number : ℕ)
             → IsTrue result ↔
             ((number_for self.now (shown segment.now) record_number ≡ Some (length self.now.flows))
-            × (length self.now.flows ≢ 65535)) }
+            × (length self.now.flows ≢ most_flows)) }
     {
         match app_of(&self.ports, segment.dport) {
             Some(_) => self.flows.begins(segment),
@@ -102,12 +102,12 @@ impl FlowTable {
         requires size { length (shown segment.now).payload ≤ longest_payload }
         ensures steered { IfSome result (λ len. app_of self.now.ports segment.now.dport ≢ None) }
         ensures few { IfSome result (λ len. (record_number : ℕ) →
-            number_for self.now (shown segment.now) record_number ≢ Some 65535) }
+            number_for self.now (shown segment.now) record_number ≢ Some most_flows) }
         ensures counted { IfSome result (λ len. (record_number : ℕ) →
             counted_for self.now (shown segment.now) record_number ≡ Some len) }
         ensures refuses { (record_number : ℕ) → result ≡ None
             → (app_of self.now.ports segment.now.dport ≡ None)
-            ⊎ (number_for self.now (shown segment.now) record_number ≡ Some 65535) }
+            ⊎ (number_for self.now (shown segment.now) record_number ≡ Some most_flows) }
     {
         app_of(&self.ports, segment.dport)?;
         let len = self.flows.counted(segment)?;
@@ -117,7 +117,7 @@ impl FlowTable {
     /// How many flows there are. Their numbers are those below it.
     pub fn count(&self) -> u32
         ensures count { result ≡ length self.now.flows }
-        ensures most { result ≤ 65535 }
+        ensures most { result ≤ most_flows }
     {
         self.flows.count()
     }
