@@ -2,6 +2,7 @@
 use Rattle.std.specs.Prelude.{◌≡◌, ℕ, zero, suc, ◌+◌, ◌-◌, ◌*◌, ◌/◌, ◌%◌, ◌^◌, ◌<◌, ◌==◌, if◌then◌else◌, List, [], ◌∷◌, length, drop, replicate, flat_map, slice_index}
 use Rattle.byteorder.specs.Endian.{little_number, little_bytes}
 use Rattle.zr_kinds.specs.declared.{place.Note.{Note}, ring.Rqe.{Rqe}}
+use Rattle.word_rings.specs.declared.slots.TheConstants.{NOTE_FIELDS, NOTE_WORDS, PAYLOAD_BYTES, PAYLOAD_WORDS, REFILL_WORDS}
 
 -- two numbers below 2^32 in one word, the first in the lower half
 abbrev pub pair : ℕ → ℕ → ℕ
@@ -32,22 +33,30 @@ bytes_of words = flat_map (little_bytes 8) words
 
 -- ---- a note slot
 
--- how many words it has, its flag among them, and how many the flag and the fields are
+-- how many words it has, its flag among them,
 abbrev pub note_width : ℕ
-note_width = 39
+note_width = NOTE_WORDS
 
+-- how many the flag, the fields and the area are, and how many stand behind them for the bytes in which an unsplit payload travels,
 abbrev pub note_fields : ℕ
-note_fields = 7
+note_fields = NOTE_FIELDS
 
--- the words of a note behind the flag: fields, area, and the 256 bytes in which an unsplit payload travels
+abbrev pub payload_width : ℕ
+payload_width = PAYLOAD_WORDS
+
+-- and how many bytes these are
+abbrev pub payload_bytes : ℕ
+payload_bytes = PAYLOAD_BYTES
+
+-- the words of a note behind the flag: fields, area, and the bytes in which an unsplit payload travels
 abbrev pub note_body : Note → List ℕ → ℕ → List ℕ
 note_body n linear area =
     pair n.frame n.flow ∷ pair n.base n.seq ∷ pair n.at n.total ∷ pair n.place.buffer n.place.offset ∷ pair n.place.len (flags_of n)
-    ∷ area ∷ words_of 32 linear
+    ∷ area ∷ words_of payload_width linear
 
 -- the payload's words from this one on are 0, in a note slot behind its flag
 abbrev pub IsBlankFrom : ℕ → List ℕ → Type 0
-IsBlankFrom n body = drop (6 + n) body ≡ replicate (32 - n) 0
+IsBlankFrom n body = drop (note_fields - 1 + n) body ≡ replicate (payload_width - n) 0
 
 -- a full one
 abbrev pub note_slot : Note → List ℕ → ℕ → List ℕ
@@ -67,15 +76,15 @@ note_of w = record {
   fin = high_of (slice_index w 5) / 2 % 2 == 1;
 }
 
--- the 256 bytes of a slot
+-- the bytes of a slot behind its fields
 abbrev pub linear_of : List ℕ → List ℕ
-linear_of w = bytes_of (drop 7 w)
+linear_of w = bytes_of (drop note_fields w)
 
 -- ---- a refill slot
 
 -- how many words it has, its flag among them
 abbrev pub refill_width : ℕ
-refill_width = 3
+refill_width = REFILL_WORDS
 
 -- the words of an entry behind the flag: off, and len and pad
 abbrev pub entry_body : Rqe → List ℕ

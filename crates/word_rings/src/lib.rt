@@ -4,6 +4,6 @@
 mod slots;
 
 pub use slots::{
-    NOTE_FIELDS, NOTE_WORDS, REFILL_WORDS, note_read, note_words, payload_read, refill_read,
-    refill_words, slots_come_back,
+    NOTE_FIELDS, NOTE_WORDS, PAYLOAD_BYTES, PAYLOAD_WORDS, REFILL_WORDS, note_read, note_words,
+    payload_read, refill_read, refill_words, slots_come_back,
 };
