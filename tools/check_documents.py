@@ -8,7 +8,9 @@ bench/RESULTS.md:
 
 - the options of `replay`, with their ranges and defaults: docs/USE.md, docs/zcrx.1, and options.rt of command_words, with the
   bounds of layout.rt of area_layout; their names and the commands in completions/ too, and the usage in wrong.rt;
-- the statuses: docs/USE.md, docs/zcrx.1, fault.rt of zr_kinds, and the list of them in the top call's theorem;
+- the statuses: docs/USE.md, docs/zcrx.1, fault.rt and Fault.antt of zr_kinds, and how a reading may end by Reading.antt of
+  frames_read, from which the top call's theorem has the statuses of a replay;
+- the limits that the documents name (LIMITS below): each number is that of its constant;
 - the lines of the report: docs/USE.md, docs/zcrx.1, and run_report; each report that is shown has them, and README's is the
   demo capture's;
 - the crates: each of crates.txt has its paragraph in docs/MAP.md, and what it stands on isn't told there again;
@@ -40,7 +42,34 @@ OTHER_OPTIONS = set("--help --version --name --from --to".split())
 # Files that a run makes, or that the text gives a name.
 MADE_FILES = set("made.pcap flow-N.bin proofs/PATH/OF/FUNCTION/Answers.antt".split())
 # Faults that no replay ends with.
-OF_NO_REPLAY = {"BadRun"}
+OF_NO_REPLAY = {"Usage", "BadRun"}
+KINDS, RECORDS = "crates/zr_kinds/src/limits.rt", "crates/run_records/src/event.rt"
+# What documents say of a limit. A `th` is one more than it.
+LIMITS = [
+    ("README.md", "MOST_FLOWS", KINDS, r"follows up to ([\d,]+) flows"),
+    ("docs/USE.md", "MOST_FLOWS", KINDS, r"([\d,]+) flows is too much"),
+    ("docs/USE.md", "MOST_FLOWS", KINDS, r"a ([\d,]+)th flow would begin"),
+    ("docs/zcrx.1", "MOST_FLOWS", KINDS, r"A ([\d,]+)th flow would begin"),
+    ("docs/FORMATS.md", "MOST_FLOWS", KINDS, r"([\d,]+)th flow would begin"),
+    ("docs/USE.md", "MOST_RECORDS", KINDS, r"of more than ([\d,]+) frames"),
+    ("docs/USE.md", "MOST_RECORDS", KINDS, r"a whole ([\d,]+)th record"),
+    ("docs/zcrx.1", "MOST_RECORDS", KINDS, r"a whole ([\d,]+)th record"),
+    ("docs/FORMATS.md", "MOST_RECORDS", KINDS, r"record after the ([\d,]+)th"),
+    ("docs/MAP.md", "MOST_RECORDS", KINDS, r"exactly at ([\d,]+) records"),
+    ("docs/PROOFS.md", "MOST_RECORDS", KINDS, r"([\d,]+) and 1: the feed's own count"),
+    ("docs/USE.md", "LONGEST_RECORD", KINDS, r"states more than ([\d,]+) captured bytes"),
+    ("docs/zcrx.1", "LONGEST_RECORD", KINDS, r"states more than ([\d,]+) captured bytes"),
+    ("docs/FORMATS.md", "LONGEST_RECORD", KINDS, r"captured length is above ([\d,]+): `LongRecord`"),
+    ("docs/MAP.md", "LONGEST_RECORD", KINDS, r"some 260 at most, of up to ([\d,]+) bytes"),
+    ("docs/BOARDS.md", "LONGEST_PAYLOAD", KINDS, r"payload of ([\d,]+) bytes at most"),
+    ("docs/MAP.md", "LONGEST_PAYLOAD", KINDS, r"payload has at most ([\d,]+) bytes"),
+    ("docs/PROOFS.md", "LONGEST_PAYLOAD", KINDS, r"a payload has ([\d,]+) at most"),
+    ("README.md", "MOST_EVENTS", RECORDS, r"of ([\d,]+) events at most"),
+    ("docs/USE.md", "MOST_EVENTS", RECORDS, r"`more` behind the first ([\d,]+)\."),
+    ("docs/FORMATS.md", "MOST_EVENTS", RECORDS, r"at most ([\d,]+) events"),
+    ("docs/MAP.md", "MOST_EVENTS", RECORDS, r"with room for ([\d,]+) events"),
+    ("docs/THEOREM.md", "MOST_EVENTS", RECORDS, r"It has the first ([\d,]+)"),
+]
 # The libraries that the crates stand on have no file here.
 OUTSIDE = set("std core alloc".split())
 
@@ -166,7 +195,12 @@ def check_options(page):
 # ---- statuses
 
 def check_statuses(page):
-    code = {n: name for name, n in re.findall(r"Fault::(\w+) => (\d+)", read("crates/zr_kinds/src/fault.rt"))}
+    fault = read("crates/zr_kinds/src/fault.rt")
+    code = {n: name for name, n in re.findall(r"(?m)^    (\w+) = (\d+),$", fault)}
+    defined = {n: name for name, n in re.findall(r"(?m)^number_of (\w+) = (\d+)$", read("crates/zr_kinds/specs/Fault.antt"))}
+    compare("status", {"fault.rt": code, "Fault.antt": defined})
+    listed = re.findall(r"Fault::(\w+),", re.search(r"ALL: \[Fault; \d+\] = \[(.*?)\]", fault, re.S).group(1))
+    compare("the faults", {"fault.rt": list(code.values()), "its list ALL": listed})
     table = {row[0]: row[1].strip("`") for row in rows(read("docs/USE.md"), "Statuses") if row[0] != "0"}
     compare("status", {"fault.rt": code, "docs/USE.md": table})
 
@@ -178,13 +212,26 @@ def check_statuses(page):
     manual = {head: numbers_in(text.split("\n.PP", 1)[0]) for head, text in entries(page, "EXIT STATUS")}
     compare("the numbers of status", {"docs/USE.md": use, "docs/zcrx.1": manual})
 
-    theorem = read("crates/top_call/specs/StreamTheorem.antt")
-    listed = re.search(r"IsStatus status = list_any \(λ n\. n == status\) \(([^[]*)\[\]", theorem).group(1)
-    usage = next(n for n, name in code.items() if name == "Usage")
+    # A replay answers by how its reading ended, or that a shelf or the sink failed.
+    reading = read("crates/frames_read/specs/Reading.antt")
+    endings = re.findall(r"(?m)^IsEnding \(Some (\w+)\) = Unit", reading)
     compare("statuses of a replay", {
-        "fault.rt": sorted([0, *(int(n) for n, name in code.items() if n != usage and name not in OF_NO_REPLAY)]),
-        "StreamTheorem.antt": sorted(map(int, re.findall(r"\d+", listed))),
+        "fault.rt": sorted(name for name in code.values() if name not in OF_NO_REPLAY),
+        "Reading.antt": sorted([*endings, "Write"]),
     })
+
+
+# ---- limits
+
+def check_limits():
+    """Each limit that a document names: its constant, the file that has the constant, and the document's text."""
+    for document, constant, file, text in LIMITS:
+        limit = number(re.search(rf"const {constant}: \w+ = ([\d_]+);", read(file)).group(1))
+        found = re.search(text, " ".join(plain(read(document)).split()))
+        if not found:
+            say(document, f"no '{text}', for {constant}")
+        elif number(found.group(1)) != limit + (")th" in text and "after" not in text):
+            say(document, f"{constant} is {limit}, but it says '{found.group(0)}'")
 
 
 # ---- the report
@@ -394,6 +441,7 @@ def main():
     page = plain(read("docs/zcrx.1"))
     options = check_options(page)
     check_statuses(page)
+    check_limits()
     check_report(page)
     check_crates()
     check_names(options)

@@ -69,7 +69,7 @@ read_of st = read_out st.due st.leaked.items
 abbrev pub loan_len : Lending → ℕ
 loan_len l = l.loan.len
 
--- how many of these don't have 1 to 65,515 bytes in one buffer
+-- how many of these don't have bytes in one buffer, no more than a payload may have
 abbrev pub odd_loans : Shape → List LentPiece → ℕ
 odd_loans layout loans = total (λ l. is_odd layout l.place) loans
 

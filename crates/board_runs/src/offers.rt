@@ -13,7 +13,7 @@ use plain_board::PlainBoard;
 use std::alloc::{AllocError, Global};
 use std::process::Abort;
 use std::test::*;
-use zr_kinds::Note;
+use zr_kinds::{LONGEST_PAYLOAD, Note};
 
 /// A step of the card or of the application.
 #[derive(Clone, Copy)]
@@ -129,7 +129,7 @@ fn offer<F: NicFace>(face: &mut F, pool: &mut Pool, ended: bool, frame: u32, pay
     ensures ended { (F.seen face.new).ended ≡ ended }
     ensures beside { F.beside face.new ≡ F.beside face.old }
 {
-    if ended || payload.is_empty() || payload.len() > 65_515 || face.apps() == 0 {
+    if ended || payload.is_empty() || payload.len() > LONGEST_PAYLOAD as usize || face.apps() == 0 {
         return Told::Skipped;
     }
     let offer = Offer {

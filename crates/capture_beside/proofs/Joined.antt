@@ -3,7 +3,7 @@ use Rattle.std.proofs.Common.{◌≡◌, ◌≢◌, ◌⊎◌, ⊎_elim, inl, in
 use Rattle.std.specs.Prelude.{All, option_to_list}
 use Rattle.std.proofs.{Common.{refl, sym, ap, subst, ◌∙◌, length-append, arith, ◌||◌, if◌then◌else◌, ◌==◌}, lemmas.Bool.{true≢false}}
 use Rattle.zr_kinds.specs.declared.fault.Fault.{Fault, TheVariants.{Memory, Usage, NotPcap, Version, LinkType, Cut, LongRecord, Read, Write, TooManyFlows}}
-use Rattle.zr_kinds.specs.{declared.fault.Fault.TheVariants.{TooManyFrames, BadBlock, BadRun}, Limits.{most_records}}
+use Rattle.zr_kinds.specs.{declared.fault.Fault.TheVariants.{TooManyFrames, BadBlock, BadRun}, Limits.{most_flows, most_records}}
 use Rattle.flow_table.specs.{Flows.{Flow, flows_of, number_of_flow}, Steered.{SteeredTcp}}
 use Rattle.frames_read.{specs.{Ending.{ending_at, flow_ending, steered_in, steered_next}, Reading.{EndsAt, HasEnded}}, proofs.Framing.{ending-flow}}
 use Rattle.board_face.specs.declared.views.nic.NicView.{NicView}
@@ -24,7 +24,7 @@ IsOwn end = (end ≡ Some Memory) ⊎ (end ≡ Some TooManyFlows)
 
 flow-own : (flows : List Flow) (next : Option SteeredTcp) (fault : Fault) → flow_ending flows next ≡ Some fault → fault ≡ TooManyFlows
 flow-own flows None fault is = absurd (cc)
-flow-own flows (Some s) fault is = by_number (number_of_flow flows s == 65535) is
+flow-own flows (Some s) fault is = by_number (number_of_flow flows s == most_flows) is
   where
     by_number : (limit : Bool) → (if limit then Some TooManyFlows else None) ≡ Some fault → fault ≡ TooManyFlows
     by_number true is = cc

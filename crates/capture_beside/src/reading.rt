@@ -14,13 +14,10 @@ use run_loops::{BEGINNING, IDLE, Loops};
 use std::alloc::{AllocError, Global};
 use std::sync::Wait;
 use zr_io::Source;
-use zr_kinds::Fault;
+use zr_kinds::{Fault, MOST_RECORDS};
 
 /// How many messages, or vectors, a ring has room for.
 const RINGS: usize = 256;
-
-/// How many records are read at most.
-const MOST_RECORDS: u32 = 16_777_216;
 
 /// A reading that has read nothing, and the card's ends of its rings.
 #[derive(Drop)]

@@ -2,7 +2,7 @@
 use Rattle.std.proofs.Common.{◌≡◌, ◌≢◌, inl, inr, ℕ, ◌-◌, ◌^◌, ◌<◌, ◌≤◌, List, length, Bool, true, false, not, Option, Some, None}
 use Rattle.std.{proofs.{Common.{option_map, Ok, Err, refl, sym, ap, ◌∙◌, arith, if◌then◌else◌}, lemmas.Bool.{eq-eqb, ne_eqb}}, specs.List.{slice_get}}
 use Rattle.std.proofs.{lemmas.List.{length-take-le}, Math.Nat.{min-le_left}}
-use Rattle.zr_kinds.specs.{declared.fault.Fault.TheVariants.{Memory, TooManyFlows}, CopyingReceiver.{lead}}
+use Rattle.zr_kinds.specs.{declared.fault.Fault.TheVariants.{Memory, TooManyFlows}, CopyingReceiver.{lead}, Limits.{most_flows}}
 use Rattle.frame_headers.specs.FrameClass.{TcpSegment}
 use Rattle.page_pool.specs.Frames.{Offered}
 use Rattle.flow_table.specs.{Steered.{SteeredTcp, app_of, steer_to, first_byte}, CountedPart.{FlowClose, before_fin, counted_len, counted_part}}
@@ -41,9 +41,9 @@ module _ (old : KnownFlows) (segment : TcpSegment) (number : ℕ) where
   abbrev pub next : Option SteeredTcp
   next = steer_to number segment (app_of old.ports segment.dport)
 
-  not_last : (app : ℕ) → number_of_flow old.flows (steered_to app segment number) ≢ 65535 → flow_ending old.flows
+  not_last : (app : ℕ) → number_of_flow old.flows (steered_to app segment number) ≢ most_flows → flow_ending old.flows
       (Some (steered_to app segment number)) ≡ None
-  not_last app few = let test = ne_eqb (number_of_flow old.flows (steered_to app segment number)) 65535 few in rw test refl
+  not_last app few = let test = ne_eqb (number_of_flow old.flows (steered_to app segment number)) most_flows few in rw test refl
 
   number-is : (app : ℕ) → app_of old.ports segment.dport ≡ Some app
       → number_for old segment number ≡ Some (number_of_flow old.flows (steered_to app segment number))
@@ -66,7 +66,7 @@ module _ (old : KnownFlows) (segment : TcpSegment) (number : ℕ) where
       segment len (rw is at counts)
 
   -- there is no room to note that it was refused
-  pub no_room : (split len : ℕ) → app_of old.ports segment.dport ≢ None → number_for old segment number ≢ Some 65535
+  pub no_room : (split len : ℕ) → app_of old.ports segment.dport ≢ None → number_for old segment number ≢ Some most_flows
       → counted_for old segment number ≡ Some len → split < len → Steers split old old next (Err Memory)
   no_room split len steered few counts long =
       let (app, is) = some_app (app_of old.ports segment.dport) steered in
@@ -78,7 +78,7 @@ module _ (old : KnownFlows) (segment : TcpSegment) (number : ℕ) where
       )
 
   -- there is no memory for the flow that begins
-  pub no_flow : (split : ℕ) (new : KnownFlows) → number_for old segment number ≡ Some (length old.flows) → number_for old segment number ≢ Some 65535
+  pub no_flow : (split : ℕ) (new : KnownFlows) → number_for old segment number ≡ Some (length old.flows) → number_for old segment number ≢ Some most_flows
       → new ≡ old → Steers split old new next (Err Memory)
   no_flow split new begins few same = by_app (app_of old.ports segment.dport) refl
     where
@@ -89,7 +89,7 @@ module _ (old : KnownFlows) (segment : TcpSegment) (number : ℕ) where
           let here : number_of_flow old.flows (steered_to app segment number) ≡ length old.flows = (let both = sym (number-is app is) ∙ begins in cc) in
           rw is (not_last app (λ last. few (number-is app is ∙ ap Some last)), inl here, same)
 
-  pub too_many : (split : ℕ) (new : KnownFlows) → number_for old segment number ≡ Some 65535 → new ≡ old → Steers split old new next
+  pub too_many : (split : ℕ) (new : KnownFlows) → number_for old segment number ≡ Some most_flows → new ≡ old → Steers split old new next
       (Err TooManyFlows)
   too_many split new last same = by_app (app_of old.ports segment.dport) refl
     where
@@ -97,8 +97,8 @@ module _ (old : KnownFlows) (segment : TcpSegment) (number : ℕ) where
       by_app None is = absurd (let none : number_for old segment number ≡ None = ap
           (option_map (λ a. number_of_flow old.flows (steered_to a segment number))) is in cc)
       by_app (Some app) is =
-          let here : number_of_flow old.flows (steered_to app segment number) ≡ 65535 = (let both = sym (number-is app is) ∙ last in cc) in
-          let test = eq-eqb (number_of_flow old.flows (steered_to app segment number)) 65535 here in
+          let here : number_of_flow old.flows (steered_to app segment number) ≡ most_flows = (let both = sym (number-is app is) ∙ last in cc) in
+          let test = eq-eqb (number_of_flow old.flows (steered_to app segment number)) most_flows here in
           rw (is, test) (refl, same)
 
   pub known_is : (k : KnownFlows) (ports : List ℕ) (flows : List Flow) → k.ports ≡ ports → k.flows ≡ flows
@@ -111,7 +111,7 @@ module _ (old : KnownFlows) (segment : TcpSegment) (number : ℕ) where
 
   -- the segment goes to its flow
   pub goes : (split : ℕ) (new : KnownFlows) (r : Route) → IsPlaced old new segment r.flow r.app r.base r.seq r.len r.fin → new.ports ≡ old.ports
-      → number_for old segment number ≢ Some 65535 → r.frame ≡ number
+      → number_for old segment number ≢ Some most_flows → r.frame ≡ number
       → Steers split old new next (Ok (Some r))
   goes split new r placed ports few frame =
       let s : SteeredTcp = steered_to r.app segment number in

@@ -1,7 +1,7 @@
 //! The card's part of a replay: what it keeps from turn to turn.
 
 ghost use Rattle.std.specs.{Prelude.{◌≡◌, ◌<◌, ◌≤◌, true, length, get_or, is_some, IfOk, None, Some, option_map, vec_len}, List.{slice_get}};
-ghost use Rattle.zr_kinds.specs.Limits.{most_records};
+ghost use Rattle.zr_kinds.specs.Limits.{most_flows, most_records};
 ghost use Rattle.flow_table.specs.{Flows.{Flow}, Placing.{info_of}};
 ghost use Rattle.card_feed.specs.{Plan.{IsPlan}, Feed.{IsReady, new_feed, end_of}, Coming.{is_over}, Hand.{HaveApps}, Outcomes.{AreLinesOf, HavePorts, IsOutcomeOf, flow_end, line_of}};
 ghost use Rattle.board_face.specs.{NicCalls.{apps_of, IsOpen, HasNoToken}, declared.views.nic.NicView.{NicView}};
@@ -103,7 +103,7 @@ impl Feed {
     /// How many flows there are so far.
     pub fn flows(&self) -> u32
         ensures count { result ≡ length self.now.flows }
-        ensures most { result ≤ 65535 }
+        ensures most { result ≤ most_flows }
     {
         self.intake.table.count()
     }

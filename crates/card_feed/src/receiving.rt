@@ -1,7 +1,7 @@
 //! What arrives is taken: its frame is counted, steered to its flow, and at hand where it is offered.
 
 ghost use Rattle.std.specs.Prelude.{◌≡◌, ◌≢◌, ℕ, ◌+◌, ◌<◌, ◌≤◌, ◌↔◌, List, length, true, false, None, Some, Err, IfOk, IfSome, IsTrue, vec_capacity, MatchResult};
-ghost use Rattle.zr_kinds.specs.{Limits.{longest_payload}, declared.fault.Fault.TheVariants.{Memory}};
+ghost use Rattle.zr_kinds.specs.{Limits.{longest_payload, most_flows}, declared.fault.Fault.TheVariants.{Memory}};
 ghost use Rattle.frame_headers.specs.Seen.{shown, segment_seen};
 ghost use Rattle.flow_table.specs.{Steered.{steer as steered}, Placing.{number_for, counted_for}};
 ghost use Rattle.card_feed.specs.{Hand.{HaveApps, HasRoom, RouteFits, with_payload}, Offered.{WantsRoom, payload_of}, Coming.{Arrives, ComesTo, is_over}, Feed.{one_if}, Intake.{OnlyOpens, Steers, TakesFrame, TakesIn, IsReadable, IsTimely, Knows, counts_as}, declared.arrived.Arrived.TheVariants.{Nothing}};
@@ -21,7 +21,7 @@ fn may_be_refused(table: &FlowTable, split: u32, segment: &Segment<'_>) -> bool
         → Steers split table.now table.now
         (steered table.now.ports frame (Some (shown segment.now))) (Err Memory) }
     ensures short { result ≡ false → (frame len : ℕ)
-        → number_for table.now (shown segment.now) frame ≢ Some 65535
+        → number_for table.now (shown segment.now) frame ≢ Some most_flows
         → counted_for table.now (shown segment.now) frame ≡ Some len → len ≤ split }
 {
     matches!(table.admits(segment), Some(len) if len > split)

@@ -4,7 +4,7 @@ ghost use Rattle.face_table.specs.CardHand.{IsCardHand};
 
 use crate::{Answer, Text};
 use board_face::{NicFace, Own, Piece};
-use zr_kinds::{Note, Place};
+use zr_kinds::{LONGEST_PAYLOAD, Note, Place};
 
 /// A call of the card, by the name of the face's call, with what it takes but for tokens.
 #[derive(Clone, Copy)]
@@ -238,7 +238,7 @@ fn is_split_note(note: &Note) -> bool
     ensures { IsTrue result ↔ IsSplitNote note.now }
 {
     note.split
-        && note.total <= 65_515
+        && note.total <= LONGEST_PAYLOAD
         && note.at <= note.total
         && note.place.len <= note.total - note.at
 }

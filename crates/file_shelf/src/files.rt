@@ -7,13 +7,12 @@ use std::fs::OpenOptions;
 use std::io::{self, BufWriter, ErrorKind, Write};
 use std::num::NonZeroUsize;
 use std::rt::Files;
-
-/// How many flows have a bit in `made`.
-const FLOWS: usize = 65_536;
+use zr_kinds::MOST_FLOWS;
 
 /// The flows that have a file of this run, and the files that are open.
 #[derive(Drop)]
 pub(crate) struct FlowFiles<F: Write + Drop> {
+    /// A bit for each flow that there may be.
     made: Vec<u8>,
     open: LruCache<u32, BufWriter<F>>,
     /// No more files than this are open at a time.
@@ -31,7 +30,7 @@ impl<F: Write + Drop> FlowFiles<F> {
     ) -> Result<FlowFiles<F>, AllocError> {
         let most = NonZeroUsize::new(most).unwrap_or(NonZeroUsize::MIN);
         Ok(FlowFiles {
-            made: vec![in rt.alloc(); 0u8; FLOWS / 8]?,
+            made: vec![in rt.alloc(); 0u8; MOST_FLOWS as usize / 8 + 1]?,
             open: LruCache::new(rt.alloc(), most)?,
             most: most.get(),
             gathered,
@@ -98,10 +97,10 @@ impl<F: Write + Drop> FlowFiles<F> {
         rt: &R,
         flow: u32,
     ) -> io::Result<(F, bool)> {
-        let byte = self
-            .made
-            .get_mut(flow as usize / 8)
-            .ok_or(io::Error::from(ErrorKind::InvalidInput))?;
+        let byte = match self.made.get_mut(flow as usize / 8) {
+            Some(byte) if flow < MOST_FLOWS => byte,
+            _ => return Err(ErrorKind::InvalidInput.into()),
+        };
         let bit = 1u8 << (flow % 8);
         let made = *byte & bit == 0;
         let mut options = OpenOptions::new();

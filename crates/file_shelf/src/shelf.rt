@@ -19,10 +19,10 @@ pub struct Lost {
     pub error: io::Error,
 }
 
-/// Keeps flow n in the file `flow-n.bin` of the current folder, for n up to 65,535. The file is made anew at the flow's first
+/// Keeps flow n in the file `flow-n.bin` of the current folder, for n below `MOST_FLOWS`. The file is made anew at the flow's first
 /// append. What is appended is gathered, up to so many bytes of each open file, and written as there is more, as the file is
 /// closed, and at `flush`. It tells no bytes, and counts the errors of the system and of memory, and the bytes of the appends that
-/// went well; an append to a flow from 65,536 on counts as an error.
+/// went well; an append to any other flow counts as an error.
 #[derive(Drop)]
 pub struct FileShelf<'a, R: Files + AllocGlobal> {
     rt: R,

@@ -40,7 +40,8 @@ lies_out layout p = nat_le (buffers_of layout) p.buffer || nat_lt (size_of layou
 abbrev pub is_odd : Shape → Place → ℕ
 is_odd layout p = if (p.len == 0) || (nat_lt longest_payload p.len || lies_out layout p) then 1 else 0
 
--- Each byte of a buffer lies in one piece or loan at most, and each of these has 1 to 65,515 bytes in one buffer.
+-- Each byte of a buffer lies in one piece or loan at most, and each of these has bytes in one buffer, no more than a payload
+-- may have.
 pub record LieApart (v : AppView) : Type 0 where
   pub once : (b x : ℕ) → total (λ h. has_at b x h.place) v.helds + total (λ l. has_at b x l.place) v.loans ≤ 1
   pub some : total (λ h. is_odd v.setting.layout h.place) v.helds + total (λ l. is_odd v.setting.layout l.place) v.loans ≡ 0

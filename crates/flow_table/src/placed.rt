@@ -31,7 +31,7 @@ pub enum FlowFault {
     /// Want of memory.
     #[error("want of memory")]
     Memory,
-    /// The segment would begin the 65,536th flow.
+    /// The segment would begin a flow more than there may be.
     #[error("more flows than can be numbered")]
     TooManyFlows,
 }

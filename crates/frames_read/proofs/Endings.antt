@@ -1,7 +1,7 @@
 -- How the reading stands after one more record, and how it ends.
 use Rattle.std.proofs.Common.{◌≡◌, ◌≢◌, ℕ, List, [], ◌∷◌, ◌++◌, length, Option, None, Some, refl, sym, ap, subst, ◌∙◌}
 use Rattle.std.{proofs.{Common.{⊎_elim, inl, inr, append_assoc, append-nil, arith}, lemmas.Bool.{cond_both}}, specs.{Prelude.{IfSome, ◌==◌}, Io.KnownBytes.{IsAtEnd}}}
-use Rattle.zr_kinds.specs.{Limits.{most_records}, declared.fault.Fault.{Fault}}
+use Rattle.zr_kinds.specs.{Limits.{most_flows, most_records}, declared.fault.Fault.{Fault}}
 use Rattle.zr_kinds.specs.declared.fault.Fault.TheVariants.{Memory, Usage, NotPcap, Version, LinkType, Cut, LongRecord, Read, Write, TooManyFlows}
 use Rattle.zr_kinds.specs.declared.fault.Fault.TheVariants.{TooManyFrames, BadBlock, BadRun}
 use Rattle.zr_io.{specs.Moved.{Rose, Took}, proofs.Moved.{Took-then, Took-weaker, Rose-earlier}}
@@ -56,7 +56,7 @@ IsNoneOr (Some fault) = IsFrameEnding fault
 
 flow-kind : (flows : List Flow) (s : Option SteeredTcp) → IsNoneOr (flow_ending flows s)
 flow-kind flows None = tt
-flow-kind flows (Some s) = cond_both (number_of_flow flows s == 65535) _ _ IsNoneOr (λ _. tt) (λ _. tt)
+flow-kind flows (Some s) = cond_both (number_of_flow flows s == most_flows) _ _ IsNoneOr (λ _. tt) (λ _. tt)
 
 ending-kind : (ports : List ℕ) (frames : List (List ℕ)) (frame : List ℕ) → IsNoneOr (ending_at ports frames frame)
 unfolding ending_at

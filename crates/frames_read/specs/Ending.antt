@@ -1,6 +1,6 @@
 -- Where the reading of a list of frames ends, and which frames came before.
 use Rattle.std.specs.Prelude.{◌≡◌, ℕ, suc, List, [], ◌∷◌, ◌++◌, length, map, ◌==◌, if◌then◌else◌, Option, Some, None}
-use Rattle.zr_kinds.specs.{Limits.{most_records}, declared.fault.Fault.{Fault, TheVariants.{TooManyFlows, TooManyFrames}}}
+use Rattle.zr_kinds.specs.{Limits.{most_flows, most_records}, declared.fault.Fault.{Fault, TheVariants.{TooManyFlows, TooManyFrames}}}
 use Rattle.pcap_reader.specs.Records.{Captured}
 use Rattle.pcapng_reader.specs.Records.{records_of}
 use Rattle.frame_headers.specs.{FrameClass.{class_of}, Seen.{segment_of}}
@@ -14,10 +14,10 @@ steered_in ports frames = steered_of ports (segments_of frames)
 abbrev pub steered_next : List ℕ → List (List ℕ) → List ℕ → Option SteeredTcp
 steered_next ports before frame = steer ports (suc (length before)) (segment_of (class_of frame))
 
--- a segment that would begin the 65,536th flow ends the reading
+-- a segment that would begin a flow too many ends the reading
 abbrev pub flow_ending : List Flow → Option SteeredTcp → Option Fault
 flow_ending flows None = None
-flow_ending flows (Some steered) = if number_of_flow flows steered == 65535 then Some TooManyFlows else None
+flow_ending flows (Some steered) = if number_of_flow flows steered == most_flows then Some TooManyFlows else None
 
 -- a flow begins with the segment
 abbrev pub BeginsFlow : List Flow → Option SteeredTcp → Type 0

@@ -6,10 +6,7 @@ ghost use Rattle.frame_headers.specs.Seen.{class_seen};
 ghost use Rattle.frames_read.specs.Tally.{no_tally, counted};
 
 use frame_headers::Seen;
-use zr_kinds::Tally;
-
-/// How many records are read at most.
-const MAX_RECORDS: u32 = 16_777_216;
+use zr_kinds::{MOST_RECORDS, Tally};
 
 /// The records so far. There are no more than are read at most.
 #[derive(Clone, Copy, Debug)]
@@ -41,7 +38,7 @@ impl Counting {
     pub fn is_full(&self) -> bool
         ensures { IsTrue result ↔ (self.now.tally.records ≡ most_records) }
     {
-        self.tally.records == MAX_RECORDS
+        self.tally.records == MOST_RECORDS
     }
 
     /// Counts a record by what was seen of its frame, and whether that is a steered segment.

@@ -4,8 +4,9 @@ ghost use Rattle.zr_kinds.specs.Limits.{longest_payload};
 ghost use Rattle.board_face.specs.NicCalls.{apps_of};
 ghost use Rattle.note_stream.specs.Halves.{IsSender, IsSenderWith};
 
-use crate::texts::{MOST_BYTES, note_of, write_text};
+use crate::texts::{note_of, write_text};
 use board_face::{Entry, NicFace, Own, Piece};
+use zr_kinds::LONGEST_PAYLOAD;
 
 /// A card that sends as many notes to each application, in turn, each with a text of as many bytes.
 #[derive(Drop)]
@@ -78,7 +79,7 @@ impl Sender {
             return false;
         };
         let place = piece.place();
-        if place.len > MOST_BYTES {
+        if place.len > LONGEST_PAYLOAD {
             self.piece = Some(piece);
             return false;
         }

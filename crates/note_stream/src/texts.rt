@@ -5,9 +5,6 @@ ghost use Rattle.board_face.specs.Texts.{IsSplitNote};
 
 use zr_kinds::{Note, Place};
 
-/// How many bytes a note may tell of.
-pub const MOST_BYTES: u32 = 65_515;
-
 /// The first byte of a text. The others count on from it.
 fn first_byte(app: u32, number: u32) -> u8 {
     let [low, ..] = number.to_le_bytes();

@@ -57,7 +57,8 @@ abbrev pub frame_notes : ℕ → Offer → List Place → List SentNote
 frame_notes split o places =
     if nat_le (len_of o) split then record { app = o.app; note = short_note o; bytes = payload_of o } ∷ [] else split_notes o 0 places
 
--- The card may offer this: it has not ended, the application is one of the board's, and the payload has 1 to 65,515 bytes.
+-- The card may offer this: it has not ended, the application is one of the board's, and the payload has bytes, no more than one
+-- may have.
 pub record MayOffer (v : NicView) (o : Offer) : Type 0 where
   pub open_is : IsOpen v
   pub app : o.app < apps_of v.setting

@@ -21,7 +21,7 @@ pub record PiecesStand (pieces : List Pending) (v : NicView) : Type 0 where
 abbrev pub part_of : Offer → ℕ → Place → Pending
 part_of o at place = record { app = o.app; note = split_note o at place; piece = place }
 
--- So many bytes from `at` on are a part of the payload, which is no longer than 65,515 bytes.
+-- So many bytes from `at` on are a part of the payload, which is no longer than one may be.
 pub record IsPart (o : Offer) (at len : ℕ) : Type 0 where
   pub some : 0 < len
   pub within : at + len ≤ len_of o

@@ -170,7 +170,7 @@ pub(crate) fn place_split<F: NicFace>(
     Ok(())
 }
 
-/// Offers a frame with 1 to 65,515 bytes of payload. It sends what is pending first. A payload of at most `split` bytes
+/// Offers a frame with a payload of a byte at least. It sends what is pending first. A payload of at most `split` bytes
 /// travels in its note; a longer one is placed in the area, by packing. Where fresh buffers are needed their search is counted, as
 /// one with what was searched ahead for the frame.
 pub fn nic_offer<F: NicFace>(face: &mut F, pool: &mut Pool, offer: &Offer<'_>) -> Verdict

@@ -1,10 +1,11 @@
 use std::process::Abort;
 use zr_kinds::Fault;
 
-// Each fault has the number that stands beside it.
+// Each fault has the number that stands beside it, and comes back by it.
 fn expect_numbers(rt: &impl Abort, rows: &[(Fault, u8)]) {
     for (fault, number) in rows {
         assert!(rt; fault.number() == *number, "{fault:?}");
+        assert!(rt; Fault::numbered(*number) == Some(*fault), "{fault:?}");
     }
 }
 
@@ -29,4 +30,7 @@ fn faults_have_their_numbers(rt: HostRuntime) {
             (Fault::BadRun, 14),
         ],
     );
+    for number in [0, 12, 15, u8::MAX] {
+        assert!(rt; Fault::numbered(number).is_none(), "{number}");
+    }
 }

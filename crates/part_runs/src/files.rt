@@ -47,7 +47,7 @@ fn a_shelf_keeps_flows_in_files(rt: HostRuntime) -> Result<(), Fail> {
     let flows = AtomicU64::new(0);
     let mut shelf = FileShelf::new(&rt, 64, 0, &flows)?;
     assert!(rt; write_hello(&mut shelf).is_ok());
-    expect_appends(&rt, &mut shelf, &[(65_536, b"x", Err(Failed))]);
+    expect_appends(&rt, &mut shelf, &[(65_535, b"x", Err(Failed))]);
     expect_file(&rt, 7, b"hello")?;
     assert!(rt; flows.load(Ordering::SeqCst) == 65);
     remove_others(&rt)?;

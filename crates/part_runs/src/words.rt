@@ -1,7 +1,11 @@
 ghost use Rattle.std.specs.Prelude.{◌≡◌, ◌≤◌, ◌+◌, true, false, [], length};
+ghost use Rattle.word_rings.specs.Slots.{note_width, payload_bytes};
 
 use std::process::Abort;
-use word_rings::{NOTE_FIELDS, note_read, note_words, payload_read, refill_read, refill_words};
+use word_rings::{
+    NOTE_FIELDS, NOTE_WORDS, PAYLOAD_BYTES, PAYLOAD_WORDS, note_read, note_words, payload_read,
+    refill_read, refill_words,
+};
 use zr_kinds::{Note, Place, Rqe};
 
 /// How many notes and entries are drawn.
@@ -15,13 +19,13 @@ fn draw(state: &mut u32) -> u32 {
     *state
 }
 
-/// The note of a slot, and the 256 bytes behind its fields.
-fn read(words: &[u64; 39]) -> (Note, [u8; 256]) {
+/// The note of a slot, and the bytes behind its fields.
+fn read(words: &[u64; NOTE_WORDS]) -> (Note, [u8; PAYLOAD_BYTES]) {
     let mut fields = [0; NOTE_FIELDS];
     fields.copy_from_slice(&words[..NOTE_FIELDS]);
-    let mut payload = [0; 32];
+    let mut payload = [0; PAYLOAD_WORDS];
     payload.copy_from_slice(&words[NOTE_FIELDS..]);
-    let mut linear = [1; 256];
+    let mut linear = [1; PAYLOAD_BYTES];
     payload_read(&payload, &mut linear);
     (note_read(&fields), linear)
 }
@@ -66,8 +70,8 @@ fn unsplit_note(state: &mut u32, total: u32) -> Note
 }
 
 /// From the word `at` on the slot has these, and behind them zeros.
-fn expect_words(rt: &impl Abort, slot: &[u64; 39], at: usize, words: &[u64])
-    requires { at + length words.now ≤ 39 }
+fn expect_words(rt: &impl Abort, slot: &[u64; NOTE_WORDS], at: usize, words: &[u64])
+    requires { at + length words.now ≤ note_width }
 {
     let mut wanted = *slot;
     wanted[at..].fill(0);
@@ -76,10 +80,10 @@ fn expect_words(rt: &impl Abort, slot: &[u64; 39], at: usize, words: &[u64])
 }
 
 /// The slot has this note and these bytes, and behind them zeros.
-fn expect_slot(rt: &impl Abort, slot: &[u64; 39], note: &Note, payload: &[u8])
-    requires { length payload.now ≤ 256 }
+fn expect_slot(rt: &impl Abort, slot: &[u64; NOTE_WORDS], note: &Note, payload: &[u8])
+    requires { length payload.now ≤ payload_bytes }
 {
-    let mut wanted = [0; 256];
+    let mut wanted = [0; PAYLOAD_BYTES];
     wanted[..payload.len()].copy_from_slice(payload);
     let (back, linear) = read(slot);
     assert!(rt; back == *note && linear == wanted);

@@ -6,11 +6,9 @@ use crate::capture::Record;
 use crate::filling::{fill, fill_whole};
 use crate::order::ByteOrder;
 use zr_io::Source;
-use zr_kinds::Fault;
+use zr_kinds::{Fault, LONGEST_RECORD};
 
 const HEADER_LEN: usize = 16;
-
-const MAX_CAPTURED: u32 = 262_144;
 
 /// Reads the header of the next record. `Ok(None)` is the end.
 pub(crate) fn read_record<S: Source>(
@@ -34,7 +32,7 @@ pub(crate) fn read_record<S: Source>(
         captured: order.number32(&header[8..]),
         original: order.number32(&header[12..]),
     };
-    if record.captured > MAX_CAPTURED {
+    if record.captured > LONGEST_RECORD {
         return Err(Fault::LongRecord);
     }
     Ok(Some(record))

@@ -7,6 +7,7 @@ use Rattle.std.specs.{Prelude.{Bool, true, false, ◌==◌, ◌&&◌, ◌||◌, 
 use Rattle.zr_kinds.specs.{Limits.{longest_record}, declared.fault.Fault.{Fault, TheVariants.{Version, LinkType, Cut, LongRecord, BadBlock}}}
 use Rattle.pcap_reader.specs.{declared.order.ByteOrder.{TheVariants.{Little, Big}, ByteOrder}, Records.{number, Records, no_record, with_record}}
 pub use Rattle.pcapng_reader.specs.declared.{kind.Kind.{Kind}, section.Interface.{Interface}}
+use Rattle.pcapng_reader.specs.declared.section.TheConstants.{MAX_OTHERS}
 use Rattle.pcapng_reader.specs.declared.kind.Kind.TheVariants.{SectionHeader, InterfaceDescription, EnhancedPacket, SimplePacket, Other}
 
 -- how a section goes on: the order of its numbers, its interfaces, and how many blocks that are no packets came in the
@@ -117,9 +118,12 @@ packet_fault (Some i) captured room =
 
 -- ---- a block's fault, by the rules in their order
 
--- of blocks that are no packets there are 16,777,216 at most
+-- how many blocks that are no packets a capture may have
+abbrev pub most_others : ℕ
+most_others = MAX_OTHERS
+
 abbrev pub is_too_many : Section → Kind → Bool
-is_too_many s kind = not (is_packet kind) && nat_le 16777216 s.others
+is_too_many s kind = not (is_packet kind) && nat_le most_others s.others
 
 abbrev pub misfits : Kind → ℕ → Bool
 misfits kind total = nat_lt total (fixed_len kind + 4) || not (total % 4 == 0)

@@ -54,7 +54,7 @@ impl AnyCapture {
     }
 
     /// Reads the next record. `into` becomes the captured bytes; where no record is answered it holds any bytes. Blocks
-    /// that are no packets are passed over, of which a capture has 16,777,216 at most.
+    /// that are no packets are passed over, of which a capture has `most_others` at most.
     pub fn next<S: Source>(
         &mut self,
         source: &mut S,

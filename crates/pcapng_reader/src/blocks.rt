@@ -2,7 +2,7 @@ ghost use Rattle.std.specs.Prelude.{◌≡◌, ◌<◌, ◌≤◌, ◌++◌, IsT
 ghost use Rattle.zr_kinds.specs.{Limits.{longest_record}, declared.fault.Fault.TheVariants.{Memory}};
 ghost use Rattle.zr_io.specs.Moved.{Took};
 ghost use Rattle.pcap_reader.specs.Capture.{HasReadCause};
-ghost use Rattle.pcapng_reader.specs.{Blocks.{is_packet, is_section_header}, Records.{blocks}, Capture.{Gives, WantsMemory, WantsHere}, Steps.{told, head_bytes, IsHead, IsHeaderFault, IsInterfaceFault, PassesBlock, TakesPacket, TakesBlock, TakesStart, OpensBlocks}, declared.kind.Kind.TheVariants.{SectionHeader, InterfaceDescription, Other}};
+ghost use Rattle.pcapng_reader.specs.{Blocks.{is_packet, is_section_header, most_others}, Records.{blocks}, Capture.{Gives, WantsMemory, WantsHere}, Steps.{told, head_bytes, IsHead, IsHeaderFault, IsInterfaceFault, PassesBlock, TakesPacket, TakesBlock, TakesStart, OpensBlocks}, declared.kind.Kind.TheVariants.{SectionHeader, InterfaceDescription, Other}};
 
 use crate::fill::{fill_part, read_end};
 use crate::head::{Head, START_LEN, read_head};
@@ -133,7 +133,7 @@ fn read_block<S: Source>(
         (λ taken. WantsHere (told section.old) (start ++ taken)) }
     ensures most { IfOk result (λ found. IfSome found (λ one. one.captured ≤ longest_record)) }
     ensures counts { IfOk result (λ found. IfNone found
-        ((section.old.others < section.new.others) × (section.new.others ≤ 16777216))) }
+        ((section.old.others < section.new.others) × (section.new.others ≤ most_others))) }
 {
     let head = read_head(source, section, start)?;
     match head.kind {

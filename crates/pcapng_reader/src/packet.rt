@@ -5,11 +5,9 @@ use crate::head::Head;
 use crate::kind::Kind;
 use crate::section::{Interface, OpenSection};
 use pcap_reader::Record;
-use zr_kinds::Fault;
+use zr_kinds::{Fault, LONGEST_RECORD};
 
 const ETHERNET: u16 = 1;
-
-const MAX_CAPTURED: u32 = 262_144;
 
 /// The lengths of a packet that may be read.
 pub(crate) fn packet_in(section: &OpenSection, head: &Head) -> Result<Record, Fault>
@@ -60,7 +58,7 @@ fn judge(interface: Option<&Interface>, captured: u32, room: u32) -> Result<(), 
     if interface.link_type != ETHERNET {
         return Err(Fault::LinkType);
     }
-    if captured > MAX_CAPTURED {
+    if captured > LONGEST_RECORD {
         return Err(Fault::LongRecord);
     }
     if (captured + 3) / 4 * 4 > room {

@@ -9,12 +9,10 @@ ghost use Rattle.replay_turns.specs.{Events.{room_of}, Following.{IsNewRun}, Run
 use card_feed::{Feed, Plan, new_feeds_stand};
 use plain_board::PlainBoard;
 use run_account::{Run, new_workers};
+use run_records::MOST_EVENTS;
 use std::alloc::{AllocError, Global};
 use std::collections::hash_map::RandomState;
 use zr_io::{Shelf, Source};
-
-/// How many events a log has room for.
-const MOST_EVENTS: u32 = 1_000_000;
 
 /// For how many events the board's log has room.
 fn room(plan: &Plan) -> u32

@@ -46,7 +46,7 @@ pub fn run_turns<S: Source, T: Shelf>(
         turns.now (told_of it.0) it.1) }
     // Each sweep of the free list was made by a search that is counted as one that swept it.
     ensures swept { IfOk result (λ it. sweeping_in it.0.pool ≡ sweeps_in it.1.nic.view) }
-    // The board is sound, and its log tells of it, which has room for 1,000,000 events where the plan asks for a log.
+    // The board is sound, and its log tells of it, which has room for the most events where the plan asks for a log.
     ensures leaves { IfOk result (λ it. LeavesBoard plan.now it.1) }
     // Want of memory comes before the first turn or behind the last.
     ensures lacks { OnErr result

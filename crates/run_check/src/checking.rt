@@ -8,12 +8,10 @@ use crate::lines::Lines;
 use crate::setting::RunSetting;
 use crate::unfit::Unfit;
 use crate::words::{event_of, is_word};
+use run_records::MOST_EVENTS;
 use std::alloc::Global;
 use zr_io::Source;
 use zr_kinds::Fault;
-
-/// The most events of a record.
-const MOST_EVENTS: u32 = 1_000_000;
 
 /// What a check says of a record.
 #[derive(Clone, Copy, Debug, PartialEq, Eq)]

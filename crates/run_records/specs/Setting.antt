@@ -1,6 +1,7 @@
 -- The setting of a run: its buffers, as areas, and how many applications there are. Pool buffers are numbered from 0
 -- through all areas in order. Behind them stand the reserves, one for each application, which have area 0's size.
 use Rattle.std.specs.{Prelude.{ℕ, ◌+◌, ◌-◌, ◌*◌, ◌≤◌, List, [], ◌∷◌, length, map, sum, nat_lt, if◌then◌else◌, All}, Int.{IsPowerOfTwo}}
+use Rattle.run_records.specs.declared.event.TheConstants.{MOST_EVENTS}
 
 -- each area with its number of pool buffers and their size in bytes
 pub record Setting : Type 0 where
@@ -54,4 +55,4 @@ pub record IsSetting (setting : Setting) : Type 0 where
 
 -- how many events a record of a run has at most
 abbrev pub most_events : ℕ
-most_events = 1000000
+most_events = MOST_EVENTS

@@ -1,6 +1,9 @@
 ghost use Rattle.std.specs.Prelude.{◌≡◌};
 ghost use Rattle.run_records.specs.EventFields.{bytes_of, counts_of};
 
+/// How many events a record of a run has at most.
+pub const MOST_EVENTS: u32 = 1_000_000;
+
 /// What happened to the holders of one buffer. `pool` is the buffer's pool count behind the event, and `user` the user
 /// count of the application and the buffer. Offsets and lengths are bytes.
 #[derive(Clone, Copy, Debug, PartialEq, Eq)]

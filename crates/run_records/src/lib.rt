@@ -5,5 +5,5 @@
 mod event;
 mod holding;
 
-pub use event::{Event, Log};
+pub use event::{Event, Log, MOST_EVENTS};
 pub use holding::Holding;

@@ -66,22 +66,22 @@ says = all_cases Says (λ lost end is. inl refl)
 
 -- each way of ending by its number
 IsNumbered : Option Fault → Type 0
-IsNumbered end = IsStatus (end_number end) × (end_number end ≢ 9) × (end_number end ≡ 8 → end ≡ Some Read) × (end_number end ≡ 0 → end ≡ None)
+IsNumbered end = (end_number end ≢ 9) × (end_number end ≡ 8 → end ≡ Some Read) × (end_number end ≡ 0 → end ≡ None)
 
 numbered : (end : Option Fault) → IsEnding end → IsNumbered end
 unfolding IsNumbered
 numbered = ending_cases IsNumbered
-    (refl, (λ e. omega arith), (λ e. absurd (omega arith)), (λ e. refl))
-    (refl, (λ e. omega arith), (λ e. absurd (omega arith)), (λ e. absurd (omega arith)))
-    (refl, (λ e. omega arith), (λ e. absurd (omega arith)), (λ e. absurd (omega arith)))
-    (refl, (λ e. omega arith), (λ e. absurd (omega arith)), (λ e. absurd (omega arith)))
-    (refl, (λ e. omega arith), (λ e. absurd (omega arith)), (λ e. absurd (omega arith)))
-    (refl, (λ e. omega arith), (λ e. absurd (omega arith)), (λ e. absurd (omega arith)))
-    (refl, (λ e. omega arith), (λ e. absurd (omega arith)), (λ e. absurd (omega arith)))
-    (refl, (λ e. omega arith), (λ e. refl), (λ e. absurd (omega arith)))
-    (refl, (λ e. omega arith), (λ e. absurd (omega arith)), (λ e. absurd (omega arith)))
-    (refl, (λ e. omega arith), (λ e. absurd (omega arith)), (λ e. absurd (omega arith)))
-    (refl, (λ e. omega arith), (λ e. absurd (omega arith)), (λ e. absurd (omega arith)))
+    ((λ e. omega arith), (λ e. absurd (omega arith)), (λ e. refl))
+    ((λ e. omega arith), (λ e. absurd (omega arith)), (λ e. absurd (omega arith)))
+    ((λ e. omega arith), (λ e. absurd (omega arith)), (λ e. absurd (omega arith)))
+    ((λ e. omega arith), (λ e. absurd (omega arith)), (λ e. absurd (omega arith)))
+    ((λ e. omega arith), (λ e. absurd (omega arith)), (λ e. absurd (omega arith)))
+    ((λ e. omega arith), (λ e. absurd (omega arith)), (λ e. absurd (omega arith)))
+    ((λ e. omega arith), (λ e. absurd (omega arith)), (λ e. absurd (omega arith)))
+    ((λ e. omega arith), (λ e. refl), (λ e. absurd (omega arith)))
+    ((λ e. omega arith), (λ e. absurd (omega arith)), (λ e. absurd (omega arith)))
+    ((λ e. omega arith), (λ e. absurd (omega arith)), (λ e. absurd (omega arith)))
+    ((λ e. omega arith), (λ e. absurd (omega arith)), (λ e. absurd (omega arith)))
 
 -- ---- what the bytes show
 
@@ -236,10 +236,8 @@ module _ {S T : Type 0} {left : S → Option (List ℕ)} {failed : S → ℕ} {k
   causes = has_causes wanting lost outcome.end is replayed.ended.kind
 
   kind-of : IsStatus answer
-  unfolding IsNumbered
-  kind-of = ⊎_elim (λ one. subst IsStatus (sym one) refl)
-      (λ others. ⊎_elim (λ (nine, why). subst IsStatus (sym nine) refl)
-      (λ number. subst IsStatus (sym number) (numbered outcome.end replayed.ended.kind).0) others) causes.cases
+  kind-of = ⊎_elim (λ one. inr (Some Memory, tt, one))
+      (λ others. ⊎_elim (λ (nine, why). inl nine) (λ number. inr (outcome.end, replayed.ended.kind, number)) others) causes.cases
 
   ending-of : (all : List ℕ) → ShowsEnding (ended_of plan.ports.items all) replayed.before outcome.end → IsStatusOf answer
       (ended_of plan.ports.items all).fault
@@ -299,7 +297,7 @@ module _ {S T : Type 0} {left : S → Option (List ℕ)} {failed : S → ℕ} {k
   unfolding IsNumbered
   whole-of zero = ⊎_elim (λ one. absurd (omega arith)) (λ others. ⊎_elim (λ (nine, why). absurd (omega arith))
       (λ number.
-      let at_end : outcome.end ≡ None = (numbered outcome.end replayed.ended.kind).3 (sym number ∙ zero) in
+      let at_end : outcome.end ≡ None = (numbered outcome.end replayed.ended.kind).2 (sym number ∙ zero) in
       subst (λ s. IsReadToEnd (left source) (left s)) (ahead.same (λ e. cc) (λ e. cc)) (replayed.ended.at_end at_end)) others) causes.cases
 
   read-of : answer ≡ 8 → Rose (failed source) (failed source_now)
@@ -307,7 +305,7 @@ module _ {S T : Type 0} {left : S → Option (List ℕ)} {failed : S → ℕ} {k
   unfolding IsNumbered
   read-of eight = ⊎_elim (λ one. absurd (omega arith)) (λ others. ⊎_elim (λ (nine, why). absurd (omega arith))
       (λ number.
-      let by_read : outcome.end ≡ Some Read = (numbered outcome.end replayed.ended.kind).2 (sym number ∙ eight) in
+      let by_read : outcome.end ≡ Some Read = (numbered outcome.end replayed.ended.kind).1 (sym number ∙ eight) in
       subst (λ s. Rose (failed source) (failed s) × Took (left source) (left s) (λ taken. IsBrokenOff (ended_of plan.ports.items taken).fault))
       (ahead.same (λ e. cc) (λ e. cc)) (
         replayed.ended.cause by_read,
@@ -372,7 +370,7 @@ module _ {S T : Type 0} {left : S → Option (List ℕ)} {failed : S → ℕ} {k
   unfolding IsNumbered
   lost-of nine = ⊎_elim (λ one. absurd (omega arith)) (λ others. ⊎_elim
       (λ (at_nine, why). ⊎_elim (λ shelf. inl (shelf-failed shelf)) (λ sink. inr sink) why)
-      (λ number. absurd ((numbered outcome.end replayed.ended.kind).1 (sym number ∙ nine))) others) causes.cases
+      (λ number. absurd ((numbered outcome.end replayed.ended.kind).0 (sym number ∙ nine))) others) causes.cases
 
   -- ---- what an answer shows by none of its faults
 
@@ -442,7 +440,7 @@ module _ {S T : Type 0} {left : S → Option (List ℕ)} {failed : S → ℕ} {k
   unfolding IsNumbered
   all_read-of zero all told_all = ⊎_elim (λ one. absurd (omega arith)) (λ others. ⊎_elim (λ (nine, why). absurd (omega arith))
       (λ number.
-      let at_end : outcome.end ≡ None = (numbered outcome.end replayed.ended.kind).3 (sym number ∙ zero) in
+      let at_end : outcome.end ≡ None = (numbered outcome.end replayed.ended.kind).2 (sym number ∙ zero) in
       let shows : ShowsEnding (ended_of plan.ports.items all) replayed.before outcome.end = rw told_all at replayed.ended.shown in
       subst (λ e. ShowsEnding (ended_of plan.ports.items all) replayed.before e) at_end shows) others) causes.cases
 

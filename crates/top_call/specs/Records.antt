@@ -44,12 +44,12 @@ pub record TellsRun (plan : Plan) (outcome : Told) (sides : AllSides) (log : Kep
   pub holdings : Holdings
   pub reached : all_after (setting_of plan) no_holdings all ≡ Some holdings
   pub over : (buffer : ℕ) → holdings buffer ≡ []
-  -- The record has the first 1,000,000 of them, and ends with `end` where these are all, and else with `more`.
+  -- The record has the first `most_events` of them, and ends with `end` where these are all, and else with `more`.
   pub log_is : log ≡ log_of most_events all
   pub legal : IsLegalRun (setting_of plan) log.events log.whole
   -- The report counts what they tell, up to the greatest number that it can say.
   pub told : IsReportOf capped outcome all
-  -- So where the record ends with `end` the report counts exactly what its lines tell, and where it ends with `more` it has 1,000,000.
+  -- So where the record ends with `end` the report counts exactly what its lines tell, and where it ends with `more` it has `most_events`.
   pub exact : log.whole ≡ true → IsReportOf (λ n. n) outcome log.events
   pub full : log.whole ≡ false → length log.events ≡ most_events
 

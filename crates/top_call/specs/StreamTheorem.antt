@@ -1,12 +1,12 @@
 -- What a replay leaves: the streams on their shelves, the report, the status, and the board of the run.
-use Rattle.std.specs.Prelude.{◌≡◌, ◌≢◌, ℕ, ◌≤◌, List, [], ◌∷◌, ◌++◌, length, ◌==◌, Bool, true, Option, Some, None, Result, IfOk, IfSome, OnErr, OnOk, ◌⊎◌, ⊤, option_map}
-use Rattle.std.specs.{List.{list_any, slice_get}, Io.KnownBytes.{Keeps}}
-use Rattle.zr_kinds.specs.declared.{fault.Fault.{Fault, TheVariants.{Cut}}, outcome.AppLine.{AppLine}}
+use Rattle.std.specs.Prelude.{◌≡◌, ◌≢◌, ℕ, ◌≤◌, List, [], ◌∷◌, ◌++◌, length, Bool, true, Option, Some, None, Result, IfOk, IfSome, OnErr, OnOk, ◌⊎◌, ⊤, option_map}
+use Rattle.std.specs.{List.{slice_get}, Io.KnownBytes.{Keeps}}
+use Rattle.zr_kinds.specs.{Fault.{number_of}, declared.{fault.Fault.{Fault, TheVariants.{Cut, Write}}, outcome.AppLine.{AppLine}}}
 use Rattle.zr_io.specs.Moved.{Gained, Rose, Took, raised_by}
 use Rattle.flow_table.specs.{Flows.{Flow, flows_of}, Stream.{stream_of}}
 use Rattle.board_face.specs.declared.views.{nic.NicSide.{NicSide}, app.AppSide.{AppSide}}
 use Rattle.command_words.specs.{Words.{ReplayShown, Shown, replay, make, check}, declared.options.Options.{Options}}
-use Rattle.frames_read.specs.{Ending.{ended_of, steered_in}, Reading.{IsReadToEnd}}
+use Rattle.frames_read.specs.{Ending.{ended_of, steered_in}, Reading.{IsEnding, IsReadToEnd}}
 use Rattle.zr_kinds.specs.declared.behaviour.Stopped.TheVariants as stop
 use Rattle.card_feed.specs.{declared.{plan.Plan.{Plan}, outcome.Outcome.{Outcome}}, Counts.{sweeping_in, sweeps_in}, Need.{buffers_of, need_in}, Offered.{offers_of}}
 use Rattle.card_feed.specs.Plan.{TakesTurns}
@@ -21,9 +21,9 @@ use Rattle.top_call.specs.Worlds.{Ends, IsUntouched, Seen, ShelfSeen, Streams, S
 abbrev pub IsStatusOf : ℕ → Option Fault → Type 0
 IsStatusOf status end = (status ≡ end_number end) ⊎ ((status ≡ 1) ⊎ ((status ≡ 8) ⊎ (status ≡ 9)))
 
--- the statuses of a replay
+-- the statuses of a replay: that of a shelf or a sink that failed, and those of how a reading may end
 abbrev pub IsStatus : ℕ → Type 0
-IsStatus status = list_any (λ n. n == status) (0 ∷ 1 ∷ 3 ∷ 4 ∷ 5 ∷ 6 ∷ 7 ∷ 8 ∷ 9 ∷ 10 ∷ 11 ∷ 13 ∷ []) ≡ true
+IsStatus status = (status ≡ number_of Write) ⊎ ((end : Option Fault) × IsEnding end × (status ≡ end_number end))
 
 -- the bytes end at a record's end, or within what they begin
 abbrev pub IsBrokenOff : Option Fault → Type 0

@@ -5,7 +5,7 @@ use Rattle.zr_kinds.specs.declared.ring.Rqe.{Rqe}
 use Rattle.area_layout.specs.Layout.{IsLayout, total}
 use Rattle.board_face.specs.{NicCalls.{apps_of, DealtWith}, AppCalls.{CanScrub, MaySpare, NamesNoLoan}, AppEvents.{reserve_of}, SlotSteps.{next_slot}, Used.{PicksAreGiven}}
 use Rattle.board_face.specs.declared.{answers.Entry.{Entry}, views.{nic.{Judged.{Judged}, SentNote.{SentNote}}, app.WrittenEntry.{WrittenEntry}}}
-use Rattle.word_rings.specs.Slots.{IsBlankFrom, entry_body}
+use Rattle.word_rings.specs.Slots.{payload_width, IsBlankFrom, entry_body}
 use Rattle.ref_words.specs.{Rings.{EntryFits, NoteFits, takes_entry_at, writes_note_at, takes_note_at, writes_entry_at, left_in_note, note_so_far}, Sides.{HasScrubLists}}
 use Rattle.word_board.specs.Board.{TheNic, TheApp}
 
@@ -37,7 +37,7 @@ pub record WritesEntryAt (app : TheApp) (slot : ℕ) : Type 0 where
 -- other than 0.
 pub record IsUnstored (card : TheNic) (a left : ℕ) : Type 0 where
   pub unstored : (next_slot card.side.inside.note_slots a).words ≡ []
-  pub few : left ≤ 32
+  pub few : left ≤ payload_width
   pub blank : IsBlankFrom left (left_in_note card.board.setting card.side a)
 
 -- The card stored these words of a note into that slot, which it saw free, and each of its fields fits into its part.

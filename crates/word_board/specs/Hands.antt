@@ -5,7 +5,7 @@ use Rattle.std.specs.Prelude.{replicate, slice_index, Option, Some, None, MatchO
 use Rattle.area_layout.specs.Layout.{LiesIn, pool_buffers, total, size_of}
 use Rattle.board_face.specs.{NicCalls.{apps_of}, Returns.{loans_out}, Used.{PicksAreGiven}, declared.views.{parts.Setting.{Setting}, nic.NicSide.{NicSide}}}
 use Rattle.board_face.specs.{declared.views.{app.AppSide.{AppSide}, nic.SentNote.{SentNote}, parts.Slot.{Slot}}, SlotSteps.{next_slot}}
-use Rattle.word_rings.specs.Slots.{note_width, IsBlankFrom}
+use Rattle.word_rings.specs.Slots.{note_width, payload_width, IsBlankFrom}
 use Rattle.ref_words.specs.{Rings.{left_for, words_of_note, writes_note_at, takes_note_at, writes_entry_at, takes_entry_at}, Sides.{HasScrubLists}}
 
 -- ---- the card
@@ -35,7 +35,7 @@ pub record NicKeeps (setting : Setting) (nic : NicSide) (kept notes entries : Li
 -- slots to an application in turn, 256 numbers for each.
 pub record KnowsLeft (setting : Setting) (sent : List SentNote) (slots : List Slot) (filled : List ℕ) : Type 0 where
   pub many : length filled ≡ 2048
-  pub most : (i : ℕ) → slice_index filled i ≤ 32
+  pub most : (i : ℕ) → slice_index filled i ≤ payload_width
   pub blank : (a k : ℕ) → a < apps_of setting → length (filter (λ s. s.app == a) sent) ≤ k
       → k < length (filter (λ s. s.app == a) sent) + setting.places
       → IsBlankFrom (slice_index filled (256 * a + k % setting.places))

@@ -5,6 +5,7 @@ use crate::unfit::Words;
 use command_words::{USAGE, what_is_wrong};
 use file_shelf::FileShelf;
 use run_check::Checked;
+use std::fmt;
 use std::rt::Files;
 use zr_kinds::Fault;
 
@@ -28,45 +29,31 @@ fn look_of(front: &[u8]) -> FrontLook {
     }
 }
 
-/// What an input that is no capture is, and what to do about it.
-fn no_capture(front: &[u8]) -> &'static str {
-    match look_of(front) {
-        FrontLook::Gzip => "standard input is compressed by gzip (gzip -dc FILE | zcrx ..)",
-        FrontLook::Text => "standard input is text, and no capture",
-        FrontLook::Nothing | FrontLook::Unknown => "standard input is no pcap or pcapng capture",
+/// What the input's first bytes say of a fault, in place of what the fault says itself.
+fn told_by(front: &[u8], fault: Fault) -> Option<&'static str> {
+    match (fault, look_of(front)) {
+        (Fault::NotPcap, FrontLook::Gzip) => {
+            Some("standard input is compressed by gzip (gzip -dc FILE | zcrx ..)")
+        }
+        (Fault::NotPcap, FrontLook::Text) => Some("standard input is text, and no capture"),
+        (Fault::Cut, FrontLook::Nothing) => Some("standard input is empty"),
+        _ => None,
     }
 }
 
-/// What an input is that ends too early.
-fn cut_short(front: &[u8]) -> &'static str {
-    match look_of(front) {
-        FrontLook::Nothing => "standard input is empty",
-        _ =>
-            "the capture ends within a header, a frame or a block; what came before it was replayed",
-    }
+/// What a status says. The input began with `front`.
+#[derive(Clone, Copy)]
+struct Meaning<'a> {
+    fault: Fault,
+    front: &'a [u8],
 }
 
-/// What a status says, and what to do about it. The input began with `front`.
-fn meaning(fault: Fault, front: &[u8]) -> &'static str {
-    match fault {
-        Fault::Memory => "there was no memory for all of it",
-        Fault::Usage => "the words have no reading",
-        Fault::NotPcap => no_capture(front),
-        Fault::Version =>
-            "the capture's major version isn't 2, or that of a pcapng section isn't 1",
-        Fault::LinkType => "the capture, or an interface of its packets, isn't of Ethernet",
-        Fault::Cut => cut_short(front),
-        Fault::LongRecord =>
-            "a record states more than 262144 bytes, so the capture is damaged there; what came before it was replayed",
-        Fault::Read => "standard input or the system's random bytes couldn't be read",
-        Fault::Write => "standard output or a stream couldn't be written",
-        Fault::TooManyFlows =>
-            "there are more than 65535 flows to these ports; what came before was replayed",
-        Fault::TooManyFrames =>
-            "there are more than 16777216 records; what came before was replayed",
-        Fault::BadBlock =>
-            "a block of the pcapng capture is out of form; what came before it was replayed",
-        Fault::BadRun => "the run record isn't that of a legal run",
+impl fmt::Display for Meaning<'_> {
+    fn fmt<W: fmt::Write>(&self, f: &mut fmt::Formatter<W>) -> fmt::Result {
+        match told_by(self.front, self.fault) {
+            Some(text) => f.write_str(text),
+            None => write!(f, "{}", self.fault),
+        }
     }
 }
 
@@ -80,27 +67,6 @@ fn advice(fault: Fault, place: Option<LastSeen>) -> &'static str {
         (Fault::LinkType, _) => "; capture at one interface, not at 'any'",
         _ => "",
     }
-}
-
-/// The fault of a status, if it is one.
-fn fault_of(status: u8) -> Option<Fault> {
-    [
-        Fault::Memory,
-        Fault::Usage,
-        Fault::NotPcap,
-        Fault::Version,
-        Fault::LinkType,
-        Fault::Cut,
-        Fault::LongRecord,
-        Fault::Read,
-        Fault::Write,
-        Fault::TooManyFlows,
-        Fault::TooManyFrames,
-        Fault::BadBlock,
-        Fault::BadRun,
-    ]
-    .into_iter()
-    .find(|fault| fault.number() == status)
 }
 
 /// Whether the reading stood within what the fault is of when it ended.
@@ -120,10 +86,10 @@ pub(crate) fn say_status(
     front: &[u8],
     place: Option<LastSeen>,
 ) {
-    let Some(fault) = fault_of(status) else {
+    let Some(fault) = Fault::numbered(status) else {
         return;
     };
-    let meaning = meaning(fault, front);
+    let meaning = Meaning { fault, front };
     let advice = if replays { advice(fault, place) } else { "" };
     let _ = match place {
         Some(place) if is_within(fault) => {

@@ -1,7 +1,7 @@
 //! Why a line of a run's record is bad, in words.
 
 use run_check::{Lack, Unfit};
-use run_records::Event;
+use run_records::{Event, MOST_EVENTS};
 use std::fmt;
 
 /// The words for it.
@@ -16,7 +16,7 @@ impl fmt::Display for Words {
                 f.write_str("it isn't the first line of a record, as 'run 64:4096 2'")
             }
             Unfit::NoEvent => f.write_str("it says no event, and neither 'end' nor 'more'"),
-            Unfit::TooMany => f.write_str("there are more than 1000000 events"),
+            Unfit::TooMany => write!(f, "there are more than {MOST_EVENTS} events"),
             Unfit::Held => f.write_str("a buffer has a holder still"),
             Unfit::Behind => f.write_str("the record ended before it"),
             Unfit::Event {

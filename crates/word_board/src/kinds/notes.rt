@@ -9,7 +9,7 @@ use crate::stepper::CardStepper;
 use crate::steps::Op;
 use ref_words::laws;
 use std::marker::Brand;
-use word_rings::{NOTE_FIELDS, note_words};
+use word_rings::{NOTE_FIELDS, NOTE_WORDS, note_words};
 use zr_kinds::Note;
 
 /// The card looks at the flag of the next note slot of an application, into which it has stored nothing yet. `true` says that
@@ -47,7 +47,7 @@ pub(crate) fn store_note(card: &mut CardStepper, app: u32, slot: u32, at: u32, n
 }
 
 /// It stores so many of a note's words into the slot, which it saw free.
-fn store_words(card: &mut CardStepper, app: u32, slot: u32, body: &[u64; 39], many: usize)
+fn store_words(card: &mut CardStepper, app: u32, slot: u32, body: &[u64; NOTE_WORDS], many: usize)
     requires slot { WritesNoteAt card.old app slot }
     requires slots { length card.old.side.inside.note_slots ≡ apps_of card.old.board.setting }
     requires seen { next_slot card.old.side.inside.note_slots app ≡ seen_with [] }

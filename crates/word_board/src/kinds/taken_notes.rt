@@ -1,6 +1,6 @@
 ghost use Rattle.std.specs.Prelude.{◌≡◌, ◌+◌, ◌<◌, ◌≤◌, [], ◌∷◌, ◌++◌, true, false, length, take, drop, MatchBool};
 ghost use Rattle.board_face.specs.{AppCalls.{TookNote}, AppEvents.{took_note, app_gist}, Texts.{IsLinearNote}, SlotSteps.{seen_with, at_slot, side_slot_loaded, side_took_note, side_took_linear}, declared.answers.Polled.TheVariants.{Empty as got_none}};
-ghost use Rattle.word_rings.specs.Slots.{note_width, note_fields};
+ghost use Rattle.word_rings.specs.Slots.{note_width, note_fields, payload_width};
 ghost use Rattle.ref_words.specs.{Rings.{loaded_note, loaded_bytes, note_loads}};
 ghost use Rattle.word_board.specs.{AtHand.{TakesNoteAt}, Board.{side_full_taken}, Polls.{Polls}, Told.{SawNotEnded, SawNoNote}};
 
@@ -10,11 +10,8 @@ use crate::steps::Op;
 use board_face::{Held, Polled};
 use ref_words::laws;
 use std::marker::Brand;
-use word_rings::{NOTE_FIELDS, NOTE_WORDS, note_read, payload_read};
+use word_rings::{NOTE_FIELDS, PAYLOAD_WORDS, note_read, payload_read};
 use zr_kinds::Note;
-
-/// How many words of a slot have an unsplit note's bytes.
-const PAYLOAD_WORDS: usize = NOTE_WORDS - NOTE_FIELDS;
 
 /// An application loads the next word of its next note slot, which it saw full.
 pub(crate) fn load_slot(app: &mut AppStepper, slot: u32, at: u32) -> u64
@@ -30,7 +27,7 @@ pub(crate) fn load_slot(app: &mut AppStepper, slot: u32, at: u32) -> u64
 }
 
 /// It loads the words of the fields from the slot, which it saw full, and answers them behind the flag.
-fn load_fields(app: &mut AppStepper, slot: u32) -> [u64; 7]
+fn load_fields(app: &mut AppStepper, slot: u32) -> [u64; NOTE_FIELDS]
     requires slot { TakesNoteAt app.old slot }
     requires seen { app.old.side.inside.note_slot ≡ seen_with [] }
     ensures event { app.new ≡ record app.old {
@@ -46,17 +43,17 @@ fn load_fields(app: &mut AppStepper, slot: u32) -> [u64; 7]
 }
 
 /// It loads so many words behind the fields, and answers them with zeros behind.
-fn load_payload(app: &mut AppStepper, slot: u32, many: usize) -> [u64; 32]
+fn load_payload(app: &mut AppStepper, slot: u32, many: usize) -> [u64; PAYLOAD_WORDS]
     requires slot { TakesNoteAt app.old slot }
     requires seen { app.old.side.inside.note_slot.seen ≡ true }
     requires fields { 1 + length app.old.side.inside.note_slot.words ≡ note_fields }
-    requires many { many ≤ 32 }
+    requires many { many ≤ payload_width }
     ensures { app.new ≡ record app.old {
       side = at_slot app.old.side
           (seen_with (app.old.side.inside.note_slot.words ++ take many result));
     } }
 {
-    let mut payload = [0; 32];
+    let mut payload = [0; PAYLOAD_WORDS];
     for k in 0..many {
         payload[k] = load_slot(app, slot, NOTE_FIELDS as u32 + k as u32);
     }

@@ -15,9 +15,9 @@ returns-then-filled-lt-HEADER_LEN-clause-takes g c =
     let fills = c.in_ok-filled.ensures.fills in
     Stops-cut c.args.order _ _ c.fill.new.into c.in_ok-filled.filled (omega arith) (omega arith) fills.0 fills.1 (fills.2 (omega arith))
 
-pub returns-then-record-gt-MAX_CAPTURED-clause-takes :
-    goal.returns-then-record-gt-MAX_CAPTURED-clause-takes
-returns-then-record-gt-MAX_CAPTURED-clause-takes g c =
+pub returns-then-record-gt-LONGEST_RECORD-clause-takes :
+    goal.returns-then-record-gt-LONGEST_RECORD-clause-takes
+returns-then-record-gt-LONGEST_RECORD-clause-takes g c =
     let fills = c.in_ok-filled.ensures.fills in
     let whole : length c.fill.new.into ≡ 16 = omega arith in
     let stated = number_in c.args.order 8 8 c.fill.new.into c.number32.result whole c.number32.ensures in

@@ -1,7 +1,7 @@
 -- What was taken so far is whole blocks that were passed over. Each is one more of those that a capture may have.
 use Rattle.std.proofs.Common.{◌≡◌, ◌-◌}
 use Rattle.zr_io.specs.Moved.{Took}
-use Rattle.pcapng_reader.{specs.Steps.{told}, proofs.Passing.{Over, BreaksBefore}}
+use Rattle.pcapng_reader.{specs.{Blocks.{most_others}, Steps.{told}}, proofs.Passing.{Over, BreaksBefore}}
 use Rattle.pcapng_reader.proofs.blocks.read_next.Given as goal
 
 abbrev pub invariant-loop-start : goal.invariant-loop-start
@@ -12,4 +12,4 @@ invariant-loop-start g l = record {
 }
 
 abbrev pub decreases-loop-start : goal.decreases-loop-start
-decreases-loop-start g l = 16777216 - l.section.others
+decreases-loop-start g l = most_others - l.section.others
