@@ -10,7 +10,8 @@ bench/RESULTS.md:
   bounds of layout.rt of area_layout; their names and the commands in completions/ too, and the usage in wrong.rt;
 - the statuses: docs/USE.md, docs/zcrx.1, fault.rt and Fault.antt of zr_kinds, and how a reading may end by Reading.antt of
   frames_read, from which the top call's theorem has the statuses of a replay;
-- the limits that the documents name (LIMITS below): each number is that of its constant;
+- the limits that the documents name (LIMITS below): each number is that of its constant; the words of slots in docs/BOARDS.md are
+  those of slots.rt of word_rings;
 - the lines of the report: docs/USE.md, docs/zcrx.1, and run_report; each report that is shown has them, and README's is the
   demo capture's;
 - the crates: each of crates.txt has its paragraph in docs/MAP.md, and what it stands on isn't told there again;
@@ -43,7 +44,7 @@ OTHER_OPTIONS = set("--help --version --name --from --to".split())
 MADE_FILES = set("made.pcap flow-N.bin proofs/PATH/OF/FUNCTION/Answers.antt".split())
 # Faults that no replay ends with.
 OF_NO_REPLAY = {"Usage", "BadRun"}
-KINDS, RECORDS = "crates/zr_kinds/src/limits.rt", "crates/run_records/src/event.rt"
+KINDS, RECORDS, BLOCKS = "crates/zr_kinds/src/limits.rt", "crates/run_records/src/event.rt", "crates/pcapng_reader/src/section.rt"
 # What documents say of a limit. A `th` is one more than it.
 LIMITS = [
     ("README.md", "MOST_FLOWS", KINDS, r"follows up to ([\d,]+) flows"),
@@ -61,6 +62,7 @@ LIMITS = [
     ("docs/zcrx.1", "LONGEST_RECORD", KINDS, r"states more than ([\d,]+) captured bytes"),
     ("docs/FORMATS.md", "LONGEST_RECORD", KINDS, r"captured length is above ([\d,]+): `LongRecord`"),
     ("docs/MAP.md", "LONGEST_RECORD", KINDS, r"some 260 at most, of up to ([\d,]+) bytes"),
+    ("docs/FORMATS.md", "MAX_OTHERS", BLOCKS, r"this is the ([\d,]+)th block"),
     ("docs/BOARDS.md", "LONGEST_PAYLOAD", KINDS, r"payload of ([\d,]+) bytes at most"),
     ("docs/MAP.md", "LONGEST_PAYLOAD", KINDS, r"payload has at most ([\d,]+) bytes"),
     ("docs/PROOFS.md", "LONGEST_PAYLOAD", KINDS, r"a payload has ([\d,]+) at most"),
@@ -232,6 +234,20 @@ def check_limits():
             say(document, f"no '{text}', for {constant}")
         elif number(found.group(1)) != limit + (")th" in text and "after" not in text):
             say(document, f"{constant} is {limit}, but it says '{found.group(0)}'")
+
+
+def check_slots():
+    """The words of a slot of each ring, in the table of words."""
+    fields, payload, refill = (
+        number(re.search(rf"const {name}: usize = ([\d_]+);", read("crates/word_rings/src/slots.rt")).group(1))
+        for name in ("NOTE_FIELDS", "PAYLOAD_WORDS", "REFILL_WORDS")
+    )
+    for row in (
+        f"| note slots | n * p * {fields + payload} | a flag, {fields - 1} words of fields, {payload} words of bytes |",
+        f"| refill slots | n * p * {refill} |",
+    ):
+        if row not in read("docs/BOARDS.md"):
+            say("docs/BOARDS.md", f"no row '{row}'")
 
 
 # ---- the report
@@ -442,6 +458,7 @@ def main():
     options = check_options(page)
     check_statuses(page)
     check_limits()
+    check_slots()
     check_report(page)
     check_crates()
     check_names(options)

@@ -1,6 +1,6 @@
 -- How far a run has come, and how far it can come.
 use Rattle.std.specs.Prelude.{◌≡◌, ◌≢◌, ◌<◌, true, false, ℕ, suc, ◌+◌, ◌*◌, ◌≤◌, List, [], ◌∷◌, length, Option}
-use Rattle.zr_kinds.specs.Limits.{most_records}
+use Rattle.zr_kinds.specs.Limits.{longest_payload, most_records}
 use Rattle.board_face.specs.declared.views.app.AppView.{AppView}
 use Rattle.plain_board.specs.Board.{Board, side_of}
 use Rattle.app_worker.specs.{State.{app_steps, one_if}, Turns.{Turns}, declared.turn.{Turn.{Turn, TheVariants.{Idle, Finished}}, Why.{Why}}}
@@ -34,9 +34,9 @@ TurnsRise =
 
 -- ---- how far it can come
 
--- A record has a payload of at most 65,515 bytes. Each note shows one of them at least, and each loan is of one at least.
+-- How many bytes the payloads of all records have at most. Each note shows one of them at least, and each loan is of one at least.
 abbrev pub most_bytes : ℕ
-most_bytes = 1099159306240
+most_bytes = longest_payload * most_records
 
 -- Each loan comes to four places, and its entry is followed by at most `stray` others. The 7 are for the loan that is due, for
 -- the end of its notes, for its scrub, and twice each for having nothing any more and for having left.

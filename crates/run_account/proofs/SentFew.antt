@@ -54,9 +54,9 @@ settled-few (Some o) offers settled awaits = omega (arith, ap length awaits, len
 
 -- ---- notes
 
--- A record has a payload of at most 65,515 bytes, and no more than 16,777,216 are read.
+-- how many bytes the payloads of all records have at most
 abbrev pub most_sent : ℕ
-most_sent = 1099159306240
+most_sent = longest_payload * most_records
 
 sent-few : (split : ℕ) (ports : List ℕ) (frames : List (List ℕ)) (refused : List ℕ) (hand : Option Offered) (sent pending : List SentNote)
     → AreSettled split (offers_of (steered_in ports frames)) refused hand (sent ++ pending) → length frames ≤ most_records → All IsProper sent
