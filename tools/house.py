@@ -26,7 +26,7 @@ OFTEN, MANY = 4, 8
 
 CLAUSE = re.compile(r"^\s*(?:requires|ensures)\b")
 FUNCTION = re.compile(r"^\s*(pub(?:\(\w+\))?\s+)?fn\s+(\w+)")
-DEFINED = re.compile(r"^(?:(?:abbrev|record|unfoldable|data) )*pub (?:(?:abbrev|record|data) )*([^\s:{(]+)\s*(.*)$")
+DEFINED = re.compile(r"^(?:(?:abbrev|record|unfoldable|data) )*pub (?!use |mod )(?:(?:abbrev|record|data) )*([^\s:{(]+)\s*(.*)$")
 IMPORT = re.compile(r"^((?:unfoldable )?(?:pub )?|\s*ghost )use Rattle\.(\w+)\.(.*?)(;?)$")
 
 
@@ -77,7 +77,7 @@ def definitions():
             heads = re.sub(r"\n {4,}", " ", file.read_text(encoding="utf-8"))
             for line in heads.split("\n"):
                 found = DEFINED.match(line)
-                if found and "use Rattle" not in line:
+                if found:
                     yield crate.name, found[1], positions(found[2])
 
 

@@ -5,6 +5,7 @@ use Rattle.std.specs.Prelude.{◌≡◌, ◌≢◌, ℕ, ◌+◌, ◌-◌, ◌*�
 use Rattle.std.specs.Prelude.{Some, None, MatchBool}
 use Rattle.zr_kinds.specs.declared.{behaviour.{Behaviour.{Behaviour}, Stopped.{Stopped, TheVariants.{No}}}, ring.Completion.{Completion}}
 use Rattle.zr_kinds.specs.CopyingReceiver.{next_missing}
+pub use Rattle.zr_kinds.specs.Counting.{one_if}
 use Rattle.area_layout.specs.Layout.{Shape, off_of, judged}
 use Rattle.circular_buffer.specs.Buffer.{Buffer}
 use Rattle.completion_ring.specs.Ring.{Ring}
@@ -172,9 +173,6 @@ pub record AppStands (st : State) (v : AppView) : Type 0 where
   pub mode : MatchBool st.bare (Bare st v) (Working st v)
 
 -- ---- how far it has come
-
-abbrev pub one_if : Bool → ℕ
-one_if b = if b then 1 else 0
 
 -- Notes, loans and entries, each at the place that it has come to, and what comes once. Each turn that did something
 -- raises it, and none lowers it.

@@ -3,6 +3,7 @@ use Rattle.std.specs.Prelude.{◌≡◌, ◌≢◌, ℕ, ◌<◌, ◌≤◌, ◌
 use Rattle.zr_kinds.specs.declared.fault.Fault.TheVariants.{Memory as memory_fault, Write as write_fault}
 use Rattle.zr_kinds.specs.declared.behaviour.Stopped.TheVariants as stop
 use Rattle.zr_io.specs.Moved.{Rose}
+pub use Rattle.board_face.specs.Looks.{ScrubsIfQuiet}
 use Rattle.board_face.specs.{Looks.{AppRose}, declared.views.app.{AppLook.{AppLook}, TakenNote.{TakenNote}, AppView.{AppView}}}
 use Rattle.board_face.specs.declared.views.app.AppLook.TheVariants.{NoNote as no_note, CardEnded, RefillInUse, RawOnItsWay, NoSpare, NotQuiet as not_quiet}
 use Rattle.app_worker.specs.declared.turn.{Turn.{Turn, TheVariants.{Did, Idle, Finished, Failed}}, Why.{Why}}
@@ -93,10 +94,6 @@ LooksForOne now old new = TakesOne old new ⊎ (AppRose no_note old new ⊎ (now
 -- It looked for a note: one was taken, or none had come, or none comes any more. Or a refill slot was seen in use.
 abbrev pub PollsOne : AppView → AppView → Type 0
 PollsOne old new = TakesOne old new ⊎ (AppRose no_note old new ⊎ (AppRose CardEnded old new ⊎ AppRose RefillInUse old new))
-
--- Its user counts are scrubbed; or a refill slot was seen in use, and at no look was each seen free.
-abbrev pub ScrubsIfQuiet : AppView → AppView → Type 0
-ScrubsIfQuiet old new = old.scrubbed ≡ false → (new.scrubbed ≡ true) ⊎ (AppRose not_quiet old new × (new.quiet ≡ old.quiet))
 
 -- It has nothing out: it lends, reads, writes and appends nothing, and gives up at once what a note brings. It scrubs, and leaves.
 pub record Rests (was now : State) (old new : AppView) (kept kept_now : ℕ → Option (List ℕ)) : Type 0 where

@@ -1,7 +1,7 @@
 -- Looks. Each answer 'not now' of a face has a count, and comes only in a call in which its count rose. A count never
 -- falls, and is as large as it is: it has no greatest value. What a look tells beyond that is each board's to say, by
 -- `tells` of the face.
-use Rattle.std.specs.Prelude.{ℕ, ◌+◌, ◌<◌, ◌≤◌, Bool, true, false, if◌then◌else◌, List, [], ◌∷◌, ◌==◌, ◌&&◌}
+use Rattle.std.specs.Prelude.{◌≡◌, ℕ, ◌+◌, ◌<◌, ◌≤◌, ◌⊎◌, Bool, true, false, if◌then◌else◌, List, [], ◌∷◌, ◌==◌, ◌&&◌}
 use Rattle.board_face.specs.declared.views.nic.NicLook.{NicLook, TheVariants.{RingEmpty, NoteInUse, Swept, NotLeft, HasLeft, NotOwed, Owed, LastHolder, StillHeld}}
 use Rattle.board_face.specs.declared.views.{nic.NicView.{NicView}, app.AppLook.{AppLook}}
 use Rattle.board_face.specs.declared.views.app.{AppLook.TheVariants.{NoNote, CardEnded, RefillInUse, RawOnItsWay, NoneListed, NoSpare, NotQuiet}, AppView.{AppView}}
@@ -61,3 +61,7 @@ NicTold is_so old new = (look : NicLook) → NicRose look old new → is_so look
 
 abbrev pub AppTold : (AppLook → Type 0) → AppView → AppView → Type 0
 AppTold is_so old new = (look : AppLook) → AppRose look old new → is_so look
+
+-- An application's user counts are scrubbed; or a refill slot was seen in use, and at no look was each seen free.
+abbrev pub ScrubsIfQuiet : AppView → AppView → Type 0
+ScrubsIfQuiet old new = old.scrubbed ≡ false → (new.scrubbed ≡ true) ⊎ (AppRose NotQuiet old new × (new.quiet ≡ old.quiet))

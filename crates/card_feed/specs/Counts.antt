@@ -1,12 +1,9 @@
 -- What the pool's counts say of the frames that were offered and of the entries that were dealt with.
-use Rattle.std.specs.Prelude.{◌≡◌, ℕ, ◌+◌, ◌-◌, ◌^◌, ◌<◌, ◌≤◌, ◌⊎◌, ◌==◌, ◌&&◌, nat_lt, min, Bool, List, length, count_by, Option, option_to_list, IfSome}
+use Rattle.std.specs.Prelude.{◌≡◌, ℕ, ◌+◌, ◌-◌, ◌^◌, ◌<◌, ◌≤◌, ◌⊎◌, ◌==◌, ◌&&◌, nat_lt, Bool, List, length, count_by, Option, option_to_list, IfSome}
 use Rattle.zr_kinds.specs.declared.outcome.PoolStats.{PoolStats}
+pub use Rattle.zr_kinds.specs.Counting.{capped}
 use Rattle.board_face.specs.declared.views.nic.{Dealt.{Dealt}, NicView.{NicView}, SentNote.{SentNote}}
 use Rattle.page_pool.specs.{Dealing.{strays_in}, Frames.{Offered}, Pool.{PoolState}, declared.search_end.SearchEnd.{SearchEnd, TheVariants.{Fast, Refill, Slow, Empty}}}
-
--- a count that stays at the end of its type
-abbrev pub capped : ℕ → ℕ
-capped n = min n (2 ^ 64 - 1)
 
 -- the payload is longer than `split`
 abbrev pub is_long : ℕ → Offered → Bool

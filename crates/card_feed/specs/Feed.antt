@@ -1,6 +1,7 @@
 -- What the card keeps between its turns, and how that stands to the source and to what its face has seen.
 use Rattle.std.specs.Prelude.{◌≡◌, ◌≢◌, ℕ, ◌+◌, ◌<◌, Bool, true, false, if◌then◌else◌, List, [], length, Option, None}
 use Rattle.zr_kinds.specs.declared.{fault.Fault.{Fault}, outcome.Tally.{Tally}}
+pub use Rattle.zr_kinds.specs.Counting.{one_if}
 use Rattle.flow_table.specs.Flows.{Flow, flows_of}
 use Rattle.board_face.specs.{NicCalls.{apps_of, IsOpen}, declared.views.nic.NicView.{NicView}}
 use Rattle.page_pool.specs.{Frames.{Offered}, Pool.{PoolState, PoolStands, HasNonePending, pending_count, all_notes, new_pool}}
@@ -88,9 +89,6 @@ NewFeedsStand {S} left faults =
     → FeedStands left faults source source ports split [] (new_feed ports split) v
 
 -- ---- how far the card has come
-
-abbrev pub one_if : Bool → ℕ
-one_if b = if b then 1 else 0
 
 abbrev pub card_steps : Bool → NicView → ℕ
 card_steps closed v = length v.sent + length v.dealt + one_if closed

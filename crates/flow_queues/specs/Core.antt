@@ -5,16 +5,13 @@ use Rattle.zr_kinds.specs.{Limits.{longest_payload}, declared.{place.Place.{Plac
 use Rattle.zr_kinds.specs.CopyingReceiver.{Placed, nothing_placed, next_missing, lead, accepts, filled, value_at, values_from}
 use Rattle.area_layout.specs.Layout.{Shape, size_of, total as buffers_of}
 use Rattle.tcp_reorder.specs.{Queue.{Queue}, Values.{Holds}}
+pub use Rattle.board_face.specs.Lists.{total}
 use Rattle.board_face.specs.declared.views.app.{Origin.{Origin, TheVariants.{Note as of_note, Copied as of_copy}}, HeldPiece.{HeldPiece}, LentPiece.{LentPiece}}
 use Rattle.board_face.specs.{AppCalls.{IsHere}, declared.views.app.{Reading.{Reading}, TakenNote.{TakenNote}, AppView.{AppView}}}
 use Rattle.flow_queues.specs.declared.queues.{NotePiece.{NotePiece}, Short.{Short}, Waiting.{Waiting, TheVariants.{InArea, Copied}}, Lending.{Lending}}
 use Rattle.flow_queues.specs.{declared.queues.FlowQueue.{FlowQueue}, Marks.{Mark, marks_from, Numbered, numbered, of_flow, marks_of_note}}
 
--- ---- sums over lists, by recursion, so that they compute
-
-abbrev pub total : {A : Type 0} → (A → ℕ) → List A → ℕ
-total f [] = 0
-total f (x ∷ xs) = f x + total f xs
+-- ---- of lists, by recursion, so that it computes
 
 -- each of these
 abbrev pub Each : {A : Type 0} → (A → Type 0) → List A → Type 0

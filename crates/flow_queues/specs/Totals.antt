@@ -1,12 +1,9 @@
 -- What is counted of an application: of what its face has seen, and of its flows.
-use Rattle.std.specs.Prelude.{◌≡◌, ◌≢◌, ◌↔◌, ℕ, ◌+◌, ◌-◌, ◌^◌, ◌≤◌, ◌==◌, min, if◌then◌else◌, List, Option, Some, None}
+use Rattle.std.specs.Prelude.{◌≡◌, ◌≢◌, ◌↔◌, ℕ, ◌+◌, ◌-◌, ◌≤◌, ◌==◌, min, if◌then◌else◌, List, Option, Some, None}
 use Rattle.zr_kinds.specs.declared.behaviour.Stopped.{Stopped, TheVariants.{Quit}}
+pub use Rattle.zr_kinds.specs.Counting.{capped}
 use Rattle.board_face.specs.declared.views.app.{LentPiece.{LentPiece}, TakenNote.{TakenNote}, AppView.{AppView}}
 use Rattle.flow_queues.specs.{declared.queues.FlowQueue.{FlowQueue}, Core.{total}}
-
--- a count stays at 2^64 - 1
-abbrev pub capped : ℕ → ℕ
-capped n = min n (2 ^ 64 - 1)
 
 -- how many bytes the note's piece has
 abbrev pub taken_len : TakenNote → ℕ

@@ -2,6 +2,7 @@
 use Rattle.std.specs.Prelude.{ℕ, ◌+◌, List, length, filter, Bool, true, false}
 use Rattle.frame_headers.specs.FrameClass.{FrameClass, Tcp, Other, Fragment, CutShort, Bad, class_of}
 use Rattle.zr_kinds.specs.declared.outcome.Tally.{Tally}
+pub use Rattle.zr_kinds.specs.Counting.{one_if}
 use Rattle.frames_read.specs.Ending.{steered_in}
 
 abbrev pub is_tcp : FrameClass → Bool
@@ -57,10 +58,6 @@ tally_of ports frames = record {
 
 abbrev pub no_tally : Tally
 no_tally = record { records = 0; tcp = 0; steered = 0; other = 0; fragment = 0; cut = 0; bad = 0 }
-
-abbrev pub one_if : Bool → ℕ
-one_if true = 1
-one_if false = 0
 
 -- the tally with one more record, of this class
 abbrev pub counted : Tally → FrameClass → Bool → Tally

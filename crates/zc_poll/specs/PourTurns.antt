@@ -4,8 +4,8 @@ use Rattle.std.specs.List.Sorted.{IsStrictlySortedBy}
 use Rattle.zr_kinds.specs.declared.{place.Place.{Place}, behaviour.Behaviour.{Behaviour}}
 use Rattle.zr_kinds.specs.declared.behaviour.Stopped.TheVariants as stop
 use Rattle.futures.specs.declared.task.Poll.{Poll, TheVariants.{Ready, Pending}}
-use Rattle.board_face.specs.{AppCalls.{AppOnlySaw}, AppEvents.{abandoned, gave}, Looks.{AppRose}, NotNow.{HasWritten, HasWrittenRingful}}
-use Rattle.board_face.specs.declared.views.app.AppLook.{AppLook}
+pub use Rattle.board_face.specs.Looks.{ScrubsIfQuiet}
+use Rattle.board_face.specs.{AppCalls.{AppOnlySaw}, AppEvents.{abandoned, gave}, NotNow.{HasWritten, HasWrittenRingful}, declared.views.app.AppLook.{AppLook}}
 use Rattle.board_face.specs.declared.views.app.{AppLook.TheVariants.{RefillInUse, NotQuiet as not_quiet}, AppView.{AppView}}
 use Rattle.zr_io.specs.Moved.{ShelfCounts}
 use Rattle.flow_queues.specs.{Core.{Each, OnlyReads}, Ends.{AppEnd, HasLeft}, Returned.{HasReturned}}
@@ -81,10 +81,6 @@ Idles RefillFull was now = (was.due ≢ None) × (now.due ≡ was.due) × (now.d
 Idles NotQuiet was now = (was.due ≡ None) × (now.due ≡ None) × (now.desk ≡ was.desk) × (was.desk.ended ≡ true)
     × AppOnlySaw not_quiet was.view now.view × HasWritten was.view
 Idles NoNotice was now = ⊥
-
--- Its user counts are scrubbed; or a refill slot was seen in use, and at no look was each seen free.
-abbrev pub ScrubsIfQuiet : AppView → AppView → Type 0
-ScrubsIfQuiet old new = old.scrubbed ≡ false → (new.scrubbed ≡ true) ⊎ (AppRose not_quiet old new × (new.quiet ≡ old.quiet))
 
 -- so it is of the look on which it rests
 abbrev pub IsSoOf : (AppLook → Type 0) → Rests → Type 0

@@ -1,3 +1,4 @@
+pub mod Counting
 pub mod CopyingReceiver
 pub mod Fault
 pub mod ReceiverLaws
