@@ -2,3 +2,4 @@ pub mod CopyingReceiver
 pub mod Fault
 pub mod ReceiverLaws
 pub mod Limits
+pub mod Options

@@ -5,6 +5,7 @@
 
 mod behaviour;
 mod fault;
+mod options;
 mod outcome;
 mod place;
 mod receiver;
@@ -12,6 +13,7 @@ mod ring;
 
 pub use behaviour::{Behaviour, Stopped};
 pub use fault::Fault;
+pub use options::Options;
 pub use outcome::{AppLine, Ended, FlowEnd, FlowLine, PoolStats, Tally};
 pub use place::{Note, Place};
 pub use receiver::{lead_is_signed_distance, next_missing_is_least, receiver_looks_at_no_value};
