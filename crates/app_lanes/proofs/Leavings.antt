@@ -1,11 +1,11 @@
 -- What an application leaves, by whatever it took its turns.
 use Rattle.std.{proofs.Common.{◌≡◌, ℕ, true, List, Option, Some, None, refl, ap, subst}, specs.Option.{is_some}}
-use Rattle.zr_kinds.specs.declared.behaviour.Behaviour.{Behaviour}
+use Rattle.zr_kinds.specs.{Options.{plain_behaviour}, declared.behaviour.Behaviour.{Behaviour}}
 use Rattle.zr_io.specs.Moved.{ShelfCounts}
 use Rattle.board_face.specs.declared.views.app.AppView.{AppView}
 use Rattle.flow_queues.specs.{Ends.{AppEnd, HasLeft}, Returned.{HasReturned}}
 use Rattle.zc_poll.specs.declared.to_shelf.Poured.{Poured}
-use Rattle.card_feed.specs.{Plan.{plain_behaviour}, declared.plan.Plan.{Plan}}
+use Rattle.card_feed.specs.declared.plan.Plan.{Plan}
 use Rattle.run_account.{proofs.Leaving.{has-left, has-returned}, specs.Ways.{ForwardedSince, HasCome, PolledSince, by_forwards, by_polls, by_turns}}
 use Rattle.app_lanes.specs.declared.seated.Seated.{Seated, TheVariants.{Turning, Pouring, Forwarding}}
 use Rattle.app_lanes.specs.Seated.{Comes, Fits, ForwardsSince, PoursSince, Runs, RunsOn, StandsOn, end_of, is_gone, poll_moment, poured_end, seat_of, shelf_of, stage_now}

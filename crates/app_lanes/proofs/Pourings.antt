@@ -1,11 +1,10 @@
 -- A turn of what has its loans polled goes on with its part of the run, or leaves.
 use Rattle.std.proofs.Common.{◌≡◌, ℕ, List, Option, Some, None, refl, sym, subst}
-use Rattle.zr_kinds.specs.declared.behaviour.Behaviour.{Behaviour}
+use Rattle.zr_kinds.specs.{declared.behaviour.Behaviour.{Behaviour}, Options.{plain_behaviour}}
 use Rattle.zr_io.specs.Moved.{ShelfCounts}
 use Rattle.board_face.specs.declared.views.app.AppView.{AppView}
 use Rattle.flow_queues.specs.{Ends.{HasLeft}, Returned.{HasReturned}}
 use Rattle.zc_poll.specs.{PourTurns.{pour_end}, declared.to_shelf.Poured.{Poured}}
-use Rattle.card_feed.specs.Plan.{plain_behaviour}
 use Rattle.app_lanes.specs.{declared.seated.{Forwarding.{Forwarding}, Pouring.{Pouring}}, Seated.{ForwardsSince, SeatedGoes, PoursSince, RunsOn, StandsOn, forward_moment, poll_moment}}
 use Rattle.run_account.specs.{Behind.{behind}, Ways.{ForwardTurns, PollTurns}}
 use Rattle.app_lanes.specs.declared.seated.Seated.TheVariants as seated

@@ -1,6 +1,6 @@
 -- What sits in the lanes of the applications, and how it goes on there.
 use Rattle.std.specs.{Prelude.{◌≡◌, ℕ, ◌≤◌, Bool, true, List, [], length, Option, Some, None}, List.{slice_get}, Option.{is_some}}
-use Rattle.zr_kinds.specs.declared.behaviour.Behaviour.{Behaviour}
+use Rattle.zr_kinds.specs.{Options.{plain_behaviour}, declared.behaviour.Behaviour.{Behaviour}}
 use Rattle.zr_kinds.specs.declared.behaviour.Stopped.TheVariants as stop
 use Rattle.zr_io.specs.Moved.{ShelfCounts}
 use Rattle.board_face.specs.declared.views.app.AppView.{AppView}
@@ -8,7 +8,7 @@ use Rattle.flow_queues.specs.{Ends.{AppEnd, HasLeft}, Returned.{HasReturned}}
 use Rattle.app_worker.specs.{State.{State}, StateOf.{end_of as worker_end}}
 use Rattle.zc_forward.specs.{Carriage.{Carriage, pace_of}, Forwarding.{ForwardStands}, Turns.{ForwardView, Stage, stage_of}}
 use Rattle.zc_poll.specs.{Pouring.{PourStands}, PourTurns.{PourView, pour_end, pour_stage}, declared.to_shelf.Poured.{Poured}}
-use Rattle.card_feed.specs.{Plan.{TakesTurns, how_of, plain_behaviour}, declared.plan.Plan.{Plan}}
+use Rattle.card_feed.specs.{Plan.{TakesTurns, how_of}, declared.plan.Plan.{Plan}}
 use Rattle.run_account.specs.Running.{IsNew, WorkerFits, WorkerRuns}
 use Rattle.run_account.specs.Ways.{DidOwn, DidPoll, ForwardMoment, ForwardTurns, ForwardedSince, OwnMoment, OwnTurn, PollMoment, PollTurns, PolledSince, TurnedSince}
 use Rattle.word_board.specs.Board.{TheApp}
@@ -143,8 +143,8 @@ pub record SeatedGoes {T : Type 0} (kept : T → ℕ → Option (List ℕ)) (los
 -- what the application with this number begins with, by its plan
 abbrev pub IsStart : Plan → ℕ → Start → Type 0
 IsStart plan a (start.Turning worker) = TakesTurns plan × IsNew plan a worker
-IsStart plan a start.Pouring = (how_of plan ≡ plain_behaviour) × (plan.polled ≡ true)
-IsStart plan a (start.Forwarding delay) = (how_of plan ≡ plain_behaviour) × (delay ≤ 63) × (plan.forward ≡ Some delay)
+IsStart plan a start.Pouring = (how_of plan ≡ plain_behaviour) × (plan.options.polled ≡ true)
+IsStart plan a (start.Forwarding delay) = (how_of plan ≡ plain_behaviour) × (delay ≤ 63) × (plan.options.forward ≡ Some delay)
 
 -- one for each port
 pub record AreStarts (plan : Plan) (starts : List Start) : Type 0 where

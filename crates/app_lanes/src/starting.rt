@@ -14,10 +14,10 @@ fn new_start(alloc: Global, plan: &Plan, app: u32) -> Result<Start, AllocError>
     requires app { app < length plan.now.ports.items }
     ensures { IfOk result (IsStart plan.now app) }
 {
-    if plan.polled {
+    if plan.options.polled {
         return Ok(Start::Pouring);
     }
-    if let Some(delay) = plan.forward {
+    if let Some(delay) = plan.options.forward {
         return Ok(Start::Forwarding(delay));
     }
     Ok(Start::Turning(new_worker(alloc, plan, app)?))

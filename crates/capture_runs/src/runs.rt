@@ -12,7 +12,7 @@ use std::process::Abort;
 use std::random::RandomSource;
 use std::test::*;
 use zr_io::{MemShelf, MemSource};
-use zr_kinds::Behaviour;
+use zr_kinds::{Behaviour, Options};
 
 /// How many flows a shelf has room for.
 pub const FLOWS: u32 = 12;
@@ -96,12 +96,14 @@ pub fn plan_of(alloc: Global, setup: &Setup) -> Result<Plan, Fail>
     let plan = Plan {
         ports: ports_of(alloc, setup.both)?,
         areas: vec![in alloc; (buffers, size)]?,
-        ring,
-        split,
-        how,
-        polled: false,
-        forward: None,
-        events: false,
+        options: Options {
+            ring,
+            split,
+            how,
+            polled: false,
+            forward: None,
+            events: false,
+        },
     };
     if plan.layout().is_none() {
         return Err(Fail::from("no layout"));

@@ -48,7 +48,7 @@ give_streams kept shelves shelves_now plan frames left_out nic apps lines strays
     Gained-weaker (kept_in kept shelves flow.app number) (kept_in kept shelves_now flow.app number) (IsFlowRead app line.stopped number)
     (IsStreamedTo line.stopped (stream_of (steered_in ports frames) left_out number))
     (λ got read.
-    let streamed = stream_accounted plan.split number left_out (steered_in ports frames) flow os (sent_to flow.app nic) app.view got known own.notes
+    let streamed = stream_accounted plan.options.split number left_out (steered_in ports frames) flow os (sent_to flow.app nic) app.view got known own.notes
     (ascends 1 os rises) bytes
     (app-filter number flow all are) (first-base number flow os (AreOfFlow-filter number flow _ all are)) own.taken reads read.front in
     record {

@@ -258,9 +258,9 @@ none-lacked buffers least split offers refused enough lacked = none refused refl
 
 -- so it is of the plan whose board it is, once no frame is at hand
 pub refuses-by-need : (plan : Plan) (setting : Setting) (offers : List Offered) (refused : List ℕ) (notes : List SentNote) (used : List ℕ)
-    → setting ≡ record { layout = layout_of plan; places = plan.ring }
-    → AreNeeded setting.layout plan.split offers refused None notes used → RefusesByNeed plan offers refused
+    → setting ≡ record { layout = layout_of plan; places = plan.options.ring }
+    → AreNeeded setting.layout plan.options.split offers refused None notes used → RefusesByNeed plan offers refused
 refuses-by-need plan setting offers refused notes used is are =
-    let lacked = subst (λ (s : Setting). All (λ n. pool_buffers s.layout < need_with (least_size s.layout) plan.split offers refused n) refused) is
+    let lacked = subst (λ (s : Setting). All (λ n. pool_buffers s.layout < need_with (least_size s.layout) plan.options.split offers refused n) refused) is
     are.lacked in
-    record { lacked = lacked; enough = λ fits. none-lacked _ _ plan.split offers refused fits lacked }
+    record { lacked = lacked; enough = λ fits. none-lacked _ _ plan.options.split offers refused fits lacked }

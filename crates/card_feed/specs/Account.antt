@@ -50,14 +50,14 @@ pub record AppAccounts (how : Behaviour) (split : ℕ) (steered : List SteeredTc
 -- accounts for its frames, what the shelves gained is what was read there, and the strays are those that were judged.
 pub record AccountsFor {T : Type 0} (kept : T → ℕ → Option (List ℕ)) (shelves shelves_now : List T) (plan : Plan) (frames : List (List ℕ))
     (left_out : List ℕ) (nic : NicSide) (apps : List AppSide) (lines : List AppLine) (strays : ℕ) : Type 0 where
-  pub opened : nic.view.setting ≡ record { layout = layout_of plan; places = plan.ring }
+  pub opened : nic.view.setting ≡ record { layout = layout_of plan; places = plan.options.ring }
   pub ended : nic.view.ended ≡ true
   pub many_apps : length apps ≡ length plan.ports.items
   pub numbers : AreNumbered 0 apps
   pub one_setting : HaveOneSetting nic apps
   pub many_lines : length lines ≡ length apps
   pub app : (a : ℕ) (app : AppSide) (line : AppLine) → IsApp apps a app → slice_get lines a ≡ Some line
-      → AppAccounts (how_of plan) plan.split (steered_in plan.ports.items frames) left_out nic a app line
+      → AppAccounts (how_of plan) plan.options.split (steered_in plan.ports.items frames) left_out nic a app line
   pub flow : (number : ℕ) (flow : Flow) (app : AppSide) (line : AppLine) → slice_get (flows_of (steered_in plan.ports.items frames)) number ≡ Some flow
       → IsApp apps flow.app app → slice_get lines flow.app ≡ Some line
       → Gained (kept_in kept shelves flow.app number) (kept_in kept shelves_now flow.app number) (IsFlowRead app line.stopped number)

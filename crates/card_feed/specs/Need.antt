@@ -38,10 +38,10 @@ abbrev pub buffers_of : Plan → ℕ
 buffers_of plan = pool_buffers (layout_of plan)
 
 abbrev pub need_in : Plan → List Offered → ℕ
-need_in plan offers = need_of (least_size (layout_of plan)) plan.split offers
+need_in plan offers = need_of (least_size (layout_of plan)) plan.options.split offers
 
 -- Enough area: a frame is refused only where the need of it, and of the frames before it that weren't, is above the number of
 -- buffers. So where there are as many as all of them need none is.
 pub record RefusesByNeed (plan : Plan) (offers : List Offered) (refused : List ℕ) : Type 0 where
-  pub lacked : All (λ number. buffers_of plan < need_with (least_size (layout_of plan)) plan.split offers refused number) refused
+  pub lacked : All (λ number. buffers_of plan < need_with (least_size (layout_of plan)) plan.options.split offers refused number) refused
   pub enough : need_in plan offers ≤ buffers_of plan → refused ≡ []

@@ -40,7 +40,7 @@ impl Feed {
     /// A feed that has read nothing. The keys of the flows are hashed with `random`.
     pub fn new(alloc: Global, random: RandomState, plan: &Plan) -> Result<Feed, AllocError>
         requires { IsPlan plan.now }
-        ensures value { IfOk result (λ feed. feed ≡ new_feed plan.now.ports.items plan.now.split) }
+        ensures value { IfOk result (λ feed. feed ≡ new_feed plan.now.ports.items plan.now.options.split) }
         // It fits each face that is open and has no token out.
         ensures ready { IfOk result
             (λ feed. (v : NicView) → IsOpen v → HasNoToken v
@@ -55,10 +55,10 @@ impl Feed {
                 table: FlowTable::new(alloc, random, &plan.ports)?,
                 refused: Vec::new(alloc),
                 hand: None,
-                split: plan.split,
+                split: plan.options.split,
                 alloc,
             },
-            pool: Pool::new(plan.split),
+            pool: Pool::new(plan.options.split),
             closed: false,
         })
     }

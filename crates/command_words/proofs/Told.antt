@@ -5,7 +5,7 @@ use Rattle.clap.specs.{Matches.{found_of, first_value, matched_of, raw_values}, 
 use Rattle.command_words.specs.{Asking.{Answers, flag_in, port_id}, Assigned.{Text, Said, if_any, is_among, value_said}, Numbers.{ports_of}}
 use Rattle.command_words.specs.{Options.{AreTurns, are_turns, behaviour_of, flag_names, option_names, options_of, stand_together, turns_of}, Areas.{pool_of}}
 use Rattle.command_words.specs.{Words.{IsReplay, ReplayShown, replay_of, replay_shown, told_of, told_with}, declared.reading.Replay.{Replay as Told}}
-use Rattle.command_words.proofs.{Porting.{ports_read}, AreaRanges.{pool-makes}, Ranges.{turns_of-turns}, Ways.{logged-turns, options_of-in_range, own-turns}}
+use Rattle.command_words.proofs.{Porting.{ports_read}, AreaRanges.{pool-makes}, Ranges.{turns_of-turns}, Ways.{logged-turns, options_of-in_range, options_of-plain, own-turns}}
 
 its_turns : (apps : ℕ) (turns : Option (Bor Text)) → IfSome (option_map (λ text. text.now) turns) (AreTurns apps)
     → IfSome turns (λ text. AreTurns apps text.now)
@@ -56,6 +56,7 @@ told-replay value flag words told is =
       ports = are_ports;
       areas = pool-makes (length told.ports.items) (are_ports.some, are_ports.most) value told.areas.items (areas_are ∙ ap Some same_areas);
       options = options_of-in_range value flag told.options together.0 are_options;
+      plain = options_of-plain value flag told.options together.0 are_options;
       turns = its_turns (length told.ports.items) told.turns
           (turns_of-turns (length told.ports.items) (value (codes "turns")) _ are_turns);
       logged = its_record (length told.ports.items) (value (codes "turns")) told.turns _ are_turns

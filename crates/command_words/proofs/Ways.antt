@@ -1,9 +1,10 @@
 -- Applications go by one way: what is said of turns of their own, of polling and of forwarding.
 use Rattle.std.proofs.Common.{ℕ, ◌≡◌, ◌∙◌, ◌≤◌, ◌||◌, not, Bool, true, false, refl, sym, subst, arith, codes, Option, Some, None, is_some, option_map}
 use Rattle.std.{specs.{Prelude.{IfSome}, List.{list_any}}, proofs.lemmas.{Option.{option_and_then_some, same_Some}, Bool.{and_parts, or_parts}}}
+use Rattle.zr_kinds.specs.{Options.{AreInRange, BehavesPlainly, GoesByTurns}, declared.options.Options.{Options}}
 use Rattle.command_words.specs.{Assigned.{Text}, Numbers.{up_to, value_of}}
-use Rattle.command_words.specs.Options.{AreInRange, GoesByTurns, at_most_one, behaviour_of, delay_of, number_or, options_of, own_names, stand_together}
-use Rattle.command_words.{specs.declared.options.Options.{Options}, proofs.{Matching.{none_of}, Ranges.{AreKept, behaviour_of-kept, number_or-within, read-within}}}
+use Rattle.command_words.specs.Options.{at_most_one, behaviour_of, delay_of, number_or, options_of, own_names, stand_together}
+use Rattle.command_words.proofs.{Matching.{none_of}, Ranges.{AreKept, behaviour_of-kept, number_or-within, read-within}}
 
 record IsOneAtMost (a b c : Bool) : Type 0 where
   pub first : a ≡ true → (b ≡ false) × (c ≡ false)
@@ -70,11 +71,9 @@ module _ (value : Text → Option Text) (flag : Text → Bool) (options : Option
   apart : IsOneAtMost (list_any (λ name. is_some (value name)) own_names) (flag (codes "polled")) (is_some (value (codes "forward")))
   apart = one_at_most _ _ _ ways.0
 
-  -- where applications are polled or forward
-  plain-how : (options.polled || is_some options.forward) ≡ true
-      → options.how ≡ record { hold = 0; leak = 0; stray = 0; quit = None }
+  pub options_of-plain : BehavesPlainly options
   unfolding behaviour_of
-  plain-how other =
+  options_of-plain other =
       let unsaid = apart.others (rw parts.polled at (rw forward_said at other)) in
       let turns = or_parts _ _ unsaid in
       let hold = or_parts _ _ turns.1 in
@@ -100,7 +99,6 @@ module _ (value : Text → Option Text) (flag : Text → Bool) (options : Option
         leak = kept.1;
         stray = kept.2;
         one_way = λ polled. none_of options.forward (forward_said ∙ apart.second (sym parts.polled ∙ polled));
-        plain = plain-how;
         delay = (delay_of-delay (value (codes "forward")) options.forward parts.forward).1;
       }
 

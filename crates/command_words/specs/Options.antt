@@ -1,8 +1,8 @@
 -- The options and flags of `replay`: each option with its range, and what stands for it where it isn't said.
 use Rattle.std.specs.Prelude.{ℕ, ◌≤◌, ◌<◌, ◌≡◌, ◌+◌, ◌⊎◌, Bool, List, [], ◌∷◌, length, nat_le, nat_lt, ◌==◌, ◌&&◌, ◌||◌, true, false, not, is_some, IfSome}
 use Rattle.std.specs.{Prelude.{if◌then◌else◌, Option, Some, None, option_map, option_and_then, codes, All}, List.{list_all, list_any}}
-use Rattle.zr_kinds.specs.declared.behaviour.Behaviour.{Behaviour}
-use Rattle.command_words.specs.{Assigned.{Text}, Numbers.{in_range, up_to, value_of}, declared.options.Options.{Options}}
+use Rattle.zr_kinds.specs.declared.{behaviour.Behaviour.{Behaviour}, options.Options.{Options}}
+use Rattle.command_words.specs.{Assigned.{Text}, Numbers.{in_range, up_to, value_of}}
 
 -- the options of `replay`, without their dashes
 abbrev pub option_names : List Text
@@ -93,22 +93,6 @@ turns_of apps None = Some None
 turns_of apps (Some text) = if are_turns apps text then Some (Some text) else None
 
 -- ---- what these may be
-
--- the numbers are in their ranges; and applications that are polled or forward keep nothing and never quit
-pub record AreInRange (options : Options) : Type 0 where
-  pub ring : (1 ≤ options.ring) × (options.ring ≤ 256)
-  pub split : options.split ≤ 256
-  pub hold : options.how.hold ≤ 4096
-  pub leak : options.how.leak ≤ 4096
-  pub stray : options.how.stray ≤ 16
-  pub one_way : options.polled ≡ true → options.forward ≡ None
-  pub delay : IfSome options.forward (λ delay. delay ≤ 63)
-  pub plain : (options.polled || is_some options.forward) ≡ true → options.how ≡ record { hold = 0; leak = 0; stray = 0; quit = None }
-
--- its applications take turns of their own
-pub record GoesByTurns (options : Options) : Type 0 where
-  pub unpolled : options.polled ≡ false
-  pub unforwarded : options.forward ≡ None
 
 -- 1 to 4,096 characters, each `n` or the digit of one of so many applications
 pub record AreTurns (apps : ℕ) (text : Text) : Type 0 where

@@ -1,10 +1,11 @@
 -- What the command's words mean.
 use Rattle.std.specs.Prelude.{ℕ, ◌≡◌, ◌≤◌, ⊤, true, List, [], ◌∷◌, length, nat_eq, if◌then◌else◌, Option, Some, None, option_and_then, option_map}
 use Rattle.std.specs.{Prelude.{codes, All, IfSome, IsSome, Bool}, List.{IsDistinct}, Str.{bytes_eq}}
+use Rattle.zr_kinds.specs.{Options.{AreInRange, BehavesPlainly, GoesByTurns}, declared.options.Options.{Options}}
 use Rattle.area_layout.specs.Layout.{MakeLayout}
-use Rattle.command_words.specs.{declared.{reading.{Command.{Command}, Replay.{Replay}}, making.Make.{Make}, options.Options.{Options}}, Numbers.{ports_of, up_to}}
+use Rattle.command_words.specs.{declared.{reading.{Command.{Command}, Replay.{Replay}}, making.Make.{Make}}, Numbers.{ports_of, up_to}}
 use Rattle.command_words.specs.Assigned.{Text, Said, is_among, sorted, value_said}
-use Rattle.command_words.specs.{Options.{AreInRange, AreTurns, GoesByTurns, flag_names, given, option_names, options_of, stand_together, turns_of}, Areas.{pool_of}}
+use Rattle.command_words.specs.{Options.{AreTurns, flag_names, given, option_names, options_of, stand_together, turns_of}, Areas.{pool_of}}
 
 -- what `replay` is told: its ports, in the order given, its areas, each by its number of buffers and their size, its other
 -- numbers, and whose turns it goes by, if that is said
@@ -86,6 +87,7 @@ pub record IsReplay (told : Replay) : Type 0 where
   pub ports : IsPortList told.ports.items
   pub areas : MakeLayout told.areas.items (length told.ports.items)
   pub options : AreInRange told.options
+  pub plain : BehavesPlainly told.options
   pub turns : IfSome told.turns (λ text. AreTurns (length told.ports.items) text.now)
   pub own : IfSome told.turns (λ text. GoesByTurns told.options)
   -- the record of a run is asked for only with a text of turns

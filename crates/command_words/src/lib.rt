@@ -13,6 +13,5 @@ mod wrong;
 
 pub use laws::{areas_are_read, one_area_is_read, pools_make_layouts};
 pub use making::Make;
-pub use options::Options;
 pub use reading::{Command, Replay, read_words};
 pub use wrong::{USAGE, Wrong, what_is_wrong};

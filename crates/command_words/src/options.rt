@@ -8,24 +8,7 @@ use crate::areas::few_areas;
 use crate::numbers;
 use area_layout::{MAX_BUFFERS, MAX_SIZE, MIN_SIZE};
 use clap::ArgMatches;
-use zr_kinds::Behaviour;
-
-/// The numbers of a replay, but for those of its areas.
-#[derive(Clone, Copy, Debug, PartialEq, Eq)]
-pub struct Options {
-    /// How many places each ring has.
-    pub ring: u32,
-    /// The greatest payload that travels in its note, in bytes.
-    pub split: u32,
-    /// How each application behaves, where it takes turns of its own.
-    pub how: Behaviour,
-    /// Whether each application is polled as a stream of loans.
-    pub polled: bool,
-    /// Where each application hands its loans to a carrier, how far the carrier's notices stay behind.
-    pub forward: Option<u32>,
-    /// Whether the record of the run goes out behind its report.
-    pub events: bool,
-}
+use zr_kinds::{Behaviour, Options};
 
 /// The names of the options, without their dashes.
 pub static NAMES: [&str; 11] = [

@@ -6,7 +6,7 @@ ghost use Rattle.command_words.specs.{Numbers.{ports_of}, Assigned.{if_any, sort
 
 use crate::areas::read_pool;
 use crate::making::{Make, read_make};
-use crate::options::{FLAGS, NAMES, Options, read_options, read_turns, stand_together};
+use crate::options::{FLAGS, NAMES, read_options, read_turns, stand_together};
 use crate::{assign, numbers};
 use clap::ArgMatches;
 use std::alloc::{AllocError, Global};

@@ -11,12 +11,12 @@ use Rattle.app_lanes.specs.{Seated.{AreStarts}, declared.seated.Start.{Start}}
 -- The board is the plan's, and its desk gave nothing.
 pub record IsOpenedFor (plan : Plan) (board : TheBoard) (desk : TheDesk) : Type 0 where
   pub desk_is : desk ≡ new_desk board
-  pub setting : board.setting ≡ record { layout = layout_of plan; places = plan.ring }
+  pub setting : board.setting ≡ record { layout = layout_of plan; places = plan.options.ring }
 
 -- The card begins with a feed that has read nothing, with which it is ready at each board on which nothing has happened, and each
 -- application with what the plan says of it.
 pub record BeginWith (plan : Plan) (feed : FeedState) (starts : List Start) : Type 0 where
-  pub new : feed ≡ new_feed plan.ports.items plan.split
+  pub new : feed ≡ new_feed plan.ports.items plan.options.split
   pub ready : (v : NicView) → IsOpen v → HasNoToken v → length plan.ports.items ≡ apps_of v.setting → IsReady feed v
   pub starts_are : AreStarts plan starts
 

@@ -50,7 +50,7 @@ struct Begun {
 
 /// How many buffers are free at first for the card alone: none where applications take some to copy into.
 fn free_at_first(plan: &Plan, layout: &Layout) -> u32 {
-    if plan.split == 0 { layout.buffers() } else { 0 }
+    if plan.options.split == 0 { layout.buffers() } else { 0 }
 }
 
 /// All turns of the run of a plan, from a board at which nothing has happened, until every role is back at the desk. It takes
@@ -154,7 +154,7 @@ pub fn run_threads<S: Source + Send, T: Shelf + Send, G: Gate + Sync, R: Threads
         (told_of it.0) (card_of it.2.view) it.2.view.apps) }
     // The board is the plan's, and every role is back at its desk, so it may be finished.
     ensures setting { IfOk result
-        (λ it. it.1.setting ≡ record { layout = layout_of plan.now; places = plan.now.ring }) }
+        (λ it. it.1.setting ≡ record { layout = layout_of plan.now; places = plan.now.options.ring }) }
     ensures back { IfOk result (λ it. (it.2.board ≡ it.1) × AllAreBack it.1.setting it.2.view) }
     // Want of memory comes before the first turn or behind the last.
     ensures lacks { OnErr result
@@ -163,7 +163,7 @@ pub fn run_threads<S: Source + Send, T: Shelf + Send, G: Gate + Sync, R: Threads
 {
     let layout = plan.layout().unwrap();
     let apps = plan.ports.len();
-    let (board, mut desk) = WordBoard::open(alloc, layout, apps as u32, plan.ring)?;
+    let (board, mut desk) = WordBoard::open(alloc, layout, apps as u32, plan.options.ring)?;
     let feed = Feed::new(alloc, random, plan)?;
     let starts = new_starts(alloc, plan)?;
     let lefts = Vec::with_capacity(alloc, apps)?;

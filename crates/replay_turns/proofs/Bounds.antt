@@ -132,8 +132,8 @@ module _ (board : Board) (run : Run) (shelves : ℕ) (fits : RunFits board run s
 pub runs-within : {S T : Type 0} (left : S → Option (List ℕ)) (faults : S → ℕ) (kept : T → ℕ → Option (List ℕ)) (losses : T → ShelfCounts)
     → RunsStayWithin left faults kept losses
 runs-within left faults kept losses source source_now shelves shelves_now plan board run fits runs =
-    let notes = notes-few left faults source source_now plan.ports.items plan.split runs.frames run.feed board.nic.view runs.feed runs.records
+    let notes = notes-few left faults source source_now plan.ports.items plan.options.split runs.frames run.feed board.nic.view runs.feed runs.records
     fits.sound.notes in
     let dealt = subst (λ n. All (λ (d : Dealt). d.app < n) board.nic.view.dealt) (sym runs.many) runs.dealt in
-    subst (λ n. run_steps board run ≤ run_most n plan.how.stray) runs.many
-    (run-within board run (length shelves_now) fits runs.records dealt notes plan.how.stray (λ a w at. ap (λ how. how.stray) (runs.worker a w at).runs.how_is))
+    subst (λ n. run_steps board run ≤ run_most n plan.options.how.stray) runs.many
+    (run-within board run (length shelves_now) fits runs.records dealt notes plan.options.how.stray (λ a w at. ap (λ how. how.stray) (runs.worker a w at).runs.how_is))

@@ -34,18 +34,18 @@ module _ {S T : Type 0} (left : S → Option (List ℕ)) (faults : S → ℕ) (k
   still-of = record { first = of.first; firsts = of.firsts; plan = of.plan; runs = plays.runs of.first of.firsts of.plan of.runs }
 
   most-is : (run : Run) (mid : S) (there : List T) (at : Board) → Running left faults kept losses of.first mid of.firsts there of.plan at.nic at.apps run
-      → most_of run ≡ run_most (length of.plan.ports.items) of.plan.how.stray
+      → most_of run ≡ run_most (length of.plan.ports.items) of.plan.options.how.stray
   most-is run mid there at runs =
       let some = runs.plan_is.some in
       let many = runs.many in
       ap (λ n. run_most n (stray_of run.workers.items)) many
-      ∙ ap (run_most (length of.plan.ports.items)) (stray-is run.workers.items of.plan.how.stray (omega (arith, some, many))
+      ∙ ap (run_most (length of.plan.ports.items)) (stray-is run.workers.items of.plan.options.how.stray (omega (arith, some, many))
       (λ a w is. ap (λ how. how.stray) (runs.worker a w is).runs.how_is))
 
   pub left-falls : run_steps board was < run_steps board_now now → steps_left board_now now < steps_left board was
   unfolding still-of
   left-falls rises =
       let later = still-of.runs in
-      comes-down (most_of was) (most_of now) (run_most (length of.plan.ports.items) of.plan.how.stray) (run_steps board was) (run_steps board_now now)
+      comes-down (most_of was) (most_of now) (run_most (length of.plan.ports.items) of.plan.options.how.stray) (run_steps board was) (run_steps board_now now)
       (most-is was source shelves board of.runs) (most-is now source_now shelves_now board_now later) rises
       (runs-within left faults kept losses of.first source_now of.firsts shelves_now of.plan board_now now plays.fits later)

@@ -44,16 +44,16 @@ module _ {S T : Type 0} (left : S → Option (List ℕ)) (faults : S → ℕ) (k
     (source source_now : S) (shelves shelves_now : List T) (plan : Plan) (turns : List ℕ) (told : Told) (board_now : Board)
     (by : RunsBy left faults kept losses source source_now shelves shelves_now plan turns told board_now) where
   at-first : (opened : Board) (begun : Run) → IsNewRun plan opened begun
-      → SweptSoFar left faults source plan.ports.items plan.split (moment source shelves opened begun)
+      → SweptSoFar left faults source plan.ports.items plan.options.split (moment source shelves opened begun)
   at-first opened begun new = record {
     frames = [];
-    stands = rw (new.feed_is, new.board_is) (feeds_stand left faults source plan.ports.items plan.split _ refl refl refl);
+    stands = rw (new.feed_is, new.board_is) (feeds_stand left faults source plan.ports.items plan.options.split _ refl refl refl);
     all = rw (new.feed_is, new.board_is) (record { ahead = refl; sweeps = inl refl });
   }
 
   all-swept : AreAllSwept by.last.feed.pool board_now.nic.view
   all-swept =
-      let last = followed left faults kept losses source plan.ports.items plan.split _ _ _ by.follows (at-first by.opened by.begun by.new) in last.all
+      let last = followed left faults kept losses source plan.ports.items plan.options.split _ _ _ by.follows (at-first by.opened by.begun by.new) in last.all
 
   pub each-swept : searches_in told.pool ≤ most_records → sweeping_in told.pool ≡ sweeps_in board_now.nic.view
   each-swept few =

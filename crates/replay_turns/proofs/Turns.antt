@@ -51,8 +51,8 @@ module _ (board board_now : Board) (was now : Run) (workers : now.workers.items 
   pub card-on : {S T : Type 0} (left : S → Option (List ℕ)) (faults : S → ℕ) (kept : T → ℕ → Option (List ℕ)) (losses : T → ShelfCounts)
       (first source source_now : S) (firsts shelves : List T) (plan : Plan) → RunFits board was (length shelves)
       → (runs : Running left faults kept losses first source firsts shelves plan board.nic board.apps was)
-      → (more : List (List ℕ)) → FeedStands left faults first source_now plan.ports.items plan.split more now.feed board_now.nic.view
-      → CardActs plan.ports.items plan.split (card_moment runs.frames was.feed board.nic.view) (card_moment more now.feed board_now.nic.view)
+      → (more : List (List ℕ)) → FeedStands left faults first source_now plan.ports.items plan.options.split more now.feed board_now.nic.view
+      → CardActs plan.ports.items plan.options.split (card_moment runs.frames was.feed board.nic.view) (card_moment more now.feed board_now.nic.view)
       → now.feed.tally.records ≤ most_records → All (λ (d : Dealt). d.app < length plan.ports.items) board_now.nic.view.dealt
       → Running left faults kept losses first source_now firsts shelves plan board_now.nic board_now.apps now
   card-on left faults kept losses first source source_now firsts shelves plan fits runs more stands acts records dealt =
@@ -79,7 +79,7 @@ module _ (board board_now : Board) (was now : Run) (workers : now.workers.items 
   pub card-runs : {S T : Type 0} (left : S → Option (List ℕ)) (faults : S → ℕ) (kept : T → ℕ → Option (List ℕ)) (losses : T → ShelfCounts)
       (first source source_now : S) (firsts shelves : List T) (plan : Plan) → RunFits board was (length shelves)
       → (runs : Running left faults kept losses first source firsts shelves plan board.nic board.apps was)
-      → FeedTurns left faults first source_now plan.ports.items plan.split runs.frames was.feed now.feed board.nic.view board_now.nic.view
+      → FeedTurns left faults first source_now plan.ports.items plan.options.split runs.frames was.feed now.feed board.nic.view board_now.nic.view
       → now.feed.tally.records ≤ most_records
       → Running left faults kept losses first source_now firsts shelves plan board_now.nic board_now.apps now
   card-runs left faults kept losses first source source_now firsts shelves plan fits runs turn records =
@@ -141,8 +141,8 @@ module _ (board board_now : Board) (was now : Run) (app : ℕ) (w_was w_now : Wo
         by_turns = runs.by_turns;
         frames = runs.frames;
         turns = rw (feed_is, nic_is) runs.turns;
-        feed = subst (λ f. FeedStands left faults first source plan.ports.items plan.split runs.frames f board_now.nic.view) (sym feed_is)
-            (subst (λ nic. FeedStands left faults first source plan.ports.items plan.split runs.frames was.feed nic.view) (sym nic_is) runs.feed);
+        feed = subst (λ f. FeedStands left faults first source plan.ports.items plan.options.split runs.frames f board_now.nic.view) (sym feed_is)
+            (subst (λ nic. FeedStands left faults first source plan.ports.items plan.options.split runs.frames was.feed nic.view) (sym nic_is) runs.feed);
         setting = ap (λ nic. nic.view.setting) nic_is ∙ runs.setting;
         many = many-now ∙ runs.many;
         worker = λ a w is. elim (get-now a w is) [

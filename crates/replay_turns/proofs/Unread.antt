@@ -33,17 +33,17 @@ module _ (board board_now : Board) (was now : Run) (workers : now.workers.items 
       → Running left faults kept losses first source firsts shelves plan board_now.nic board_now.apps now
   card-waits left faults kept losses first source firsts shelves plan fits runs =
       let ports = plan.ports.items in
-      let step = steps ports plan.split runs.frames runs.feed.knows in
+      let step = steps ports plan.options.split runs.frames runs.feed.knows in
       let stage = step.stage_is ∙ ap (λ (f : FeedState). f.stage) step.receives.0 in
-      let knows = subst (λ frames. FeedKnows ports plan.split frames now.feed board_now.nic.view) step.receives.1 step.knows in
+      let knows = subst (λ frames. FeedKnows ports plan.options.split frames now.feed board_now.nic.view) step.receives.1 step.knows in
       let many : apps_of board.nic.view.setting ≡ length ports =
       ap (λ (s : Setting). s.layout.reserves) fits.sound.set.card ∙ sym fits.many ∙ runs.many in
       card-on board board_now was now workers apps sound_now ready left faults kept losses first source source firsts shelves plan fits runs runs.frames
       (record {
         knows = knows;
-        comes = subst (λ (s : Stage). ComesTo (WantsRoom plan.split ports) left faults first source ports s runs.frames) (sym stage) runs.feed.comes;
+        comes = subst (λ (s : Stage). ComesTo (WantsRoom plan.options.split ports) left faults first source ports s runs.frames) (sym stage) runs.feed.comes;
       })
-      (subst (λ frames. CardActs ports plan.split (card_moment runs.frames was.feed board.nic.view) (card_moment frames now.feed board_now.nic.view))
+      (subst (λ frames. CardActs ports plan.options.split (card_moment runs.frames was.feed board.nic.view) (card_moment frames now.feed board_now.nic.view))
       step.receives.1 (acts Nothing now.feed board_now.nic.view tt step))
       (subst (λ (t : Tally). t.records ≤ most_records) (runs.feed.knows.tally_is ∙ sym knows.tally_is) runs.records)
       (⊎_elim

@@ -6,7 +6,7 @@ use Rattle.card_feed.specs.declared.plan.Plan.{Plan}
 
 -- it has room for so many events where the plan asks for a log, and for none else
 abbrev pub room_of : Plan → ℕ
-room_of plan = if plan.events then most_events else 0
+room_of plan = if plan.options.events then most_events else 0
 
 -- The board that a run of this plan leaves is sound, and its log tells of it.
 pub record LeavesBoard (plan : Plan) (board : Board) : Type 0 where

@@ -88,8 +88,8 @@ rounds_of apps (suc n) = rounds_of apps n ++ round_of apps
 
 -- Nobody has taken a turn.
 pub record IsNewRun (plan : Plan) (board : Board) (run : Run) : Type 0 where
-  pub board_is : board ≡ new_board (layout_of plan) plan.ring (room_of plan)
-  pub feed_is : run.feed ≡ new_feed plan.ports.items plan.split
+  pub board_is : board ≡ new_board (layout_of plan) plan.options.ring (room_of plan)
+  pub feed_is : run.feed ≡ new_feed plan.ports.items plan.options.split
   pub workers : AreNew plan run.workers.items
 
 -- A run by a text of turns: nobody had taken a turn, the turns were those of the text, one a letter, and then whole rounds, until all

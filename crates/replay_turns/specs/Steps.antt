@@ -55,4 +55,4 @@ abbrev pub RunsStayWithin : {S T : Type 0} → (S → Option (List ℕ)) → (S 
 RunsStayWithin {S} {T} left faults kept losses =
     (source source_now : S) (shelves shelves_now : List T) (plan : Plan) (board : Board) (run : Run)
     → RunFits board run (length shelves_now) → Running left faults kept losses source source_now shelves shelves_now plan board.nic board.apps run
-    → run_steps board run ≤ run_most (length plan.ports.items) plan.how.stray
+    → run_steps board run ≤ run_most (length plan.ports.items) plan.options.how.stray

@@ -19,7 +19,7 @@ fn room(plan: &Plan) -> u32
     ensures room { result ≡ room_of plan.now }
     ensures most { result ≤ most_events }
 {
-    if plan.events { MOST_EVENTS } else { 0 }
+    if plan.options.events { MOST_EVENTS } else { 0 }
 }
 
 /// Opens the board of a plan, at which nobody has taken a turn. The keys of the flows are hashed with `random`.
@@ -41,7 +41,7 @@ pub fn open<S: Source, T: Shelf>(
 {
     let layout = plan.layout().unwrap();
     let apps = plan.ports.len() as u32;
-    let board = PlainBoard::open_logged(alloc, layout, apps, plan.ring, room(plan))?;
+    let board = PlainBoard::open_logged(alloc, layout, apps, plan.options.ring, room(plan))?;
     let feed = Feed::new(alloc, random, plan)?;
     let workers = new_workers(alloc, plan)?;
     board.sound();

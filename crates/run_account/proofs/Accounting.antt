@@ -44,11 +44,11 @@ module _ {S T : Type 0} (left : S → Option (List ℕ)) (faults : S → ℕ) (k
   side-is a within = IsApp-at apps a blank_app ended.numbers (omega (arith, within, sides))
 
   pub told : (a : ℕ) (app : AppSide) → IsApp apps a app
-      → IsTold plan.split (steered_in plan.ports.items runs.frames) feed.refused nic a app
+      → IsTold plan.options.split (steered_in plan.ports.items runs.frames) feed.refused nic a app
   told a app here =
       let one : IsServed nic app = subst (IsServed nic) here.is (ended.served a app here.there) in
-      let shown : ShowFrames plan.split (offered_to a feed.refused (steered_in plan.ports.items runs.frames)) (sent_to a nic) =
-      closed_show left faults source source_now plan.ports.items plan.split runs.frames feed nic runs.stands runs.ready runs.closed a in
+      let shown : ShowFrames plan.options.split (offered_to a feed.refused (steered_in plan.ports.items runs.frames)) (sent_to a nic) =
+      closed_show left faults source source_now plan.ports.items plan.options.split runs.frames feed nic runs.stands runs.ready runs.closed a in
       let taken : app.view.taken ≡ map as_taken (sent_to a nic) =
       subst (λ b. app.view.taken ≡ map as_taken (sent_to b nic)) here.number one.taken in
       let proper : All IsProper (sent_to a nic) = All-filter (λ s. s.app == a) IsProper nic.view.sent ended.proper in
@@ -58,8 +58,8 @@ module _ {S T : Type 0} (left : S → Option (List ℕ)) (faults : S → ℕ) (k
         reads = subst (λ b. All (IsAsSent (sent_to b nic)) app.view.reads) here.number one.reads;
         no_stray = one.strays;
         whole = subst FramesStandTogether (sym taken)
-            (notes-whole plan.split plan.ports.items runs.frames feed.refused a (sent_to a nic) shown proper);
-        own = notes-own plan.split plan.ports.items runs.frames feed.refused a (sent_to a nic) shown;
+            (notes-whole plan.options.split plan.ports.items runs.frames feed.refused a (sent_to a nic) shown proper);
+        own = notes-own plan.options.split plan.ports.items runs.frames feed.refused a (sent_to a nic) shown;
       }
 
   pub left-at : (a : ℕ) (app : AppSide) (end : AppEnd) → IsApp apps a app → slice_get ends a ≡ Some end
@@ -87,12 +87,12 @@ module _ {S T : Type 0} (left : S → Option (List ℕ)) (faults : S → ℕ) (k
       }
 
   app-accounts : (a : ℕ) (app : AppSide) (line : AppLine) → IsApp apps a app → slice_get (lines_of plan.ports.items ends) a ≡ Some line
-      → AppAccounts (how_of plan) plan.split (steered_in plan.ports.items runs.frames) feed.refused nic a app line
+      → AppAccounts (how_of plan) plan.options.split (steered_in plan.ports.items runs.frames) feed.refused nic a app line
   app-accounts a app line here at =
       let known = line-known a line at in
       let went = left-at a app known.end here known.end_at in
       let has = told a app here in
-      subst (λ (l : AppLine). AppAccounts (how_of plan) plan.split (steered_in plan.ports.items runs.frames) feed.refused nic a app l) (sym known.is)
+      subst (λ (l : AppLine). AppAccounts (how_of plan) plan.options.split (steered_in plan.ports.items runs.frames) feed.refused nic a app l) (sym known.is)
       (record {
         has_left = went.left;
         notes = has.notes;

@@ -55,7 +55,7 @@ module _ {S T : Type 0} (left : S → Option (List ℕ)) (faults : S → ℕ) (k
   here-is = side-is left faults kept losses source source_now shelves shelves_now plan nic apps feed ends ended runs
 
   told-at : (a : ℕ) → a < length plan.ports.items
-      → IsTold plan.split (steered_in plan.ports.items runs.frames) feed.refused nic a (side_in apps a)
+      → IsTold plan.options.split (steered_in plan.ports.items runs.frames) feed.refused nic a (side_in apps a)
   told-at a within = told left faults kept losses source source_now shelves shelves_now plan nic apps feed ends ended runs a (side_in apps a)
       (here-is a within)
 
@@ -84,30 +84,30 @@ module _ {S T : Type 0} (left : S → Option (List ℕ)) (faults : S → ℕ) (k
       → slice_get told_is.apps a ≡ Some (line_of port end)
   app-line-at a port end port_at end_at = ap (λ lines. slice_get lines a) tells.apps_are ∙ line-at plan.ports.items ends a port end port_at end_at
 
-  refused-are : AreRefused plan.split (offers_of (steered_in plan.ports.items runs.frames)) told_is.refused
+  refused-are : AreRefused plan.options.split (offers_of (steered_in plan.ports.items runs.frames)) told_is.refused
   refused-are =
-      let settled : AreSettled plan.split (offers_of (steered_in plan.ports.items runs.frames)) feed.refused None _ =
+      let settled : AreSettled plan.options.split (offers_of (steered_in plan.ports.items runs.frames)) feed.refused None _ =
       rw (runs.ready.fits.none runs.closed) at runs.stands.knows.settled in
-      subst (AreRefused plan.split (offers_of (steered_in plan.ports.items runs.frames))) (sym tells.refused)
-      (subst (λ offers. AreRefused plan.split offers feed.refused) settled.awaits settled.refused_are)
+      subst (AreRefused plan.options.split (offers_of (steered_in plan.ports.items runs.frames))) (sym tells.refused)
+      (subst (λ offers. AreRefused plan.options.split offers feed.refused) settled.awaits settled.refused_are)
 
-  counted : AreCounted plan.split (offers_of (steered_in plan.ports.items runs.frames)) told_is.refused None nic.view.dealt told_is.pool
+  counted : AreCounted plan.options.split (offers_of (steered_in plan.ports.items runs.frames)) told_is.refused None nic.view.dealt told_is.pool
   counted =
-      let pool : AreCounted plan.split (offers_of (steered_in plan.ports.items runs.frames)) feed.refused None nic.view.dealt _ =
+      let pool : AreCounted plan.options.split (offers_of (steered_in plan.ports.items runs.frames)) feed.refused None nic.view.dealt _ =
       rw (runs.ready.fits.none runs.closed) at runs.stands.knows.counted in
-      subst (λ refused. AreCounted plan.split (offers_of (steered_in plan.ports.items runs.frames)) refused None nic.view.dealt told_is.pool)
+      subst (λ refused. AreCounted plan.options.split (offers_of (steered_in plan.ports.items runs.frames)) refused None nic.view.dealt told_is.pool)
       (sym tells.refused)
-      (subst (λ (stats : PoolStats). AreCounted plan.split (offers_of (steered_in plan.ports.items runs.frames)) feed.refused None
+      (subst (λ (stats : PoolStats). AreCounted plan.options.split (offers_of (steered_in plan.ports.items runs.frames)) feed.refused None
       nic.view.dealt stats) (sym tells.pool) pool)
 
   by-need : RefusesByNeed plan (offers_of (steered_in plan.ports.items runs.frames)) told_is.refused
   by-need =
-      let needed : AreNeeded nic.view.setting.layout plan.split (offers_of (steered_in plan.ports.items runs.frames)) feed.refused None _ _ =
+      let needed : AreNeeded nic.view.setting.layout plan.options.split (offers_of (steered_in plan.ports.items runs.frames)) feed.refused None _ _ =
       rw (runs.ready.fits.none runs.closed) at runs.stands.knows.needed in
       subst (RefusesByNeed plan (offers_of (steered_in plan.ports.items runs.frames))) (sym tells.refused)
       (refuses-by-need plan nic.view.setting _ feed.refused _ _ runs.setting needed)
 
-  searched : searches_in told_is.pool ≤ long_in plan.split (offers_of (steered_in plan.ports.items runs.frames))
+  searched : searches_in told_is.pool ≤ long_in plan.options.split (offers_of (steered_in plan.ports.items runs.frames))
   searched = omega (arith, counted.searches)
 
   strays-few : told_is.pool.strays ≤ (how_of plan).stray * all_loans told_is.apps
@@ -118,14 +118,14 @@ module _ {S T : Type 0} (left : S → Option (List ℕ)) (faults : S → ℕ) (k
   -- there are too few searches for a count to stop
   pub searches-few : searches_in told_is.pool ≤ most_records
   searches-few =
-      let few : long_in plan.split (offers_of (steered_in plan.ports.items runs.frames)) ≤ length (offers_of (steered_in plan.ports.items runs.frames)) =
-      count_by-le-length (is_long plan.split) (offers_of (steered_in plan.ports.items runs.frames)) in
+      let few : long_in plan.options.split (offers_of (steered_in plan.ports.items runs.frames)) ≤ length (offers_of (steered_in plan.ports.items runs.frames)) =
+      count_by-le-length (is_long plan.options.split) (offers_of (steered_in plan.ports.items runs.frames)) in
       omega (
         arith,
         searched,
         few,
         offers-few plan.ports.items runs.frames,
-        frames-read left faults source source_now plan.ports.items plan.split runs.frames feed nic.view runs.stands runs.records,
+        frames-read left faults source source_now plan.ports.items plan.options.split runs.frames feed nic.view runs.stands runs.records,
       )
 
   -- as many found too few as frames were refused

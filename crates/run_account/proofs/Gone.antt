@@ -16,7 +16,7 @@ side-at apps a app here = get_or_default apps a blank_app app here.there ∙ her
 
 -- at a board that was opened by the plan there are as many sides as ports
 pub many-sides : (plan : Plan) (nic : NicSide) (apps : List AppSide) → HaveOneSetting nic apps
-    → nic.view.setting ≡ record { layout = layout_of plan; places = plan.ring } → length apps ≡ length plan.ports.items
+    → nic.view.setting ≡ record { layout = layout_of plan; places = plan.options.ring } → length apps ≡ length plan.ports.items
 many-sides plan nic apps one opened = one.many ∙ ap (λ (s : Setting). apps_of s) opened
 
 module _ (nic : NicSide) (apps : List AppSide) (run : Run) (fits : RolesFit nic apps run) (over : AreOver run) where

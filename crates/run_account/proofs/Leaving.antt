@@ -95,7 +95,7 @@ module _ (first kept : ℕ → Option (List ℕ)) (losses losses_now : ShelfCoun
 -- ---- all of them
 
 -- one that takes turns behaves as the plan says
-pub behaves-so : (plan : Plan) → TakesTurns plan → plan.how ≡ how_of plan
+pub behaves-so : (plan : Plan) → TakesTurns plan → plan.options.how ≡ how_of plan
 behaves-so plan turning = rw (turning.unpolled, turning.unforwarded) refl
 
 -- what an application left is what one's state says
@@ -122,8 +122,8 @@ has-run left faults kept losses source source_now shelves shelves_now plan nic a
       (sym (slice_get-map (λ (u : Worker). end_of u.state) run.workers.items a) ∙ at) in
       subst (λ how. HasLeft how (kept_in kept shelves a) (kept_in kept shelves_now a) (losses_in losses shelves a) (losses_in losses shelves_now a)
       (side_in apps a).view end) (behaves-so plan runs.by_turns)
-      (subst (HasLeft plan.how _ _ _ _ (side_in apps a).view) is
-      (has-left _ _ _ _ plan.how (side_in apps a).view w (fits.worker a w w_at) (runs.worker a w w_at).runs (worker-left nic apps run fits over a w w_at)));
+      (subst (HasLeft plan.options.how _ _ _ _ (side_in apps a).view) is
+      (has-left _ _ _ _ plan.options.how (side_in apps a).view w (fits.worker a w w_at) (runs.worker a w w_at).runs (worker-left nic apps run fits over a w w_at)));
   came = λ a end at.
       let (w, w_at, is) = worker-of (slice_get run.workers.items a) end
       (sym (slice_get-map (λ (u : Worker). end_of u.state) run.workers.items a) ∙ at) in
@@ -131,8 +131,8 @@ has-run left faults kept losses source source_now shelves shelves_now plan nic a
   returned = λ a end at.
       let (w, w_at, is) = worker-of (slice_get run.workers.items a) end (sym (slice_get-map (λ (u : Worker). end_of u.state) run.workers.items a) ∙ at) in
       subst (λ how. HasReturned how end.stopped end.written (side_in apps a).view) (behaves-so plan runs.by_turns)
-      (subst (λ (e : AppEnd). HasReturned plan.how e.stopped e.written (side_in apps a).view) is
-      (has-returned _ _ _ _ plan.how (side_in apps a).view w (fits.worker a w w_at) (runs.worker a w w_at).runs (worker-left nic apps run fits over a w w_at)));
+      (subst (λ (e : AppEnd). HasReturned plan.options.how e.stopped e.written (side_in apps a).view) is
+      (has-returned _ _ _ _ plan.options.how (side_in apps a).view w (fits.worker a w w_at) (runs.worker a w w_at).runs (worker-left nic apps run fits over a w w_at)));
   many_shelves = runs.many_shelves;
   beyond = runs.beyond;
   records = runs.records;

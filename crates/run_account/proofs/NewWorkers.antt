@@ -37,9 +37,9 @@ module _ (plan : Plan) (s : Setting) (a : ℕ) (v : AppView) (w : Worker) (is : 
   new-fits = rw is (record { stands = new.stands _ (fresh s a); here = λ left. refl; gone = λ left. absurd (stays left) })
 
   writes : w.state.stopped ≡ stop.Write → ⊥
-  writes is_write = no-write (is_nothing plan.how.quit) (sym (ap (λ st. st.stopped) new.state_is) ∙ is_write)
+  writes is_write = no-write (is_nothing plan.options.how.quit) (sym (ap (λ st. st.stopped) new.state_is) ∙ is_write)
 
-  pub new-runs : (kept : ℕ → Option (List ℕ)) (losses : ShelfCounts) → WorkerRuns kept kept losses losses plan.how v w
+  pub new-runs : (kept : ℕ → Option (List ℕ)) (losses : ShelfCounts) → WorkerRuns kept kept losses losses plan.options.how v w
   new-runs kept losses = record {
     how_is = ap (λ st. st.how) new.state_is;
     shelved = λ not. new.shelved kept v;

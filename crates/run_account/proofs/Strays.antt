@@ -94,7 +94,7 @@ module _ {S T : Type 0} (left : S → Option (List ℕ)) (faults : S → ℕ) (k
   took-few : (a : ℕ) (end : AppEnd) → slice_get ends a ≡ Some end → total taken_len (side_in apps a).view.taken ≤ most_sent
   took-few a end at =
       let v = (side_in apps a).view in
-      let few = notes-few left faults source source_now plan.ports.items plan.split runs.frames feed nic.view runs.stands runs.records ended.proper in
+      let few = notes-few left faults source source_now plan.ports.items plan.options.split runs.frames feed nic.view runs.stands runs.records ended.proper in
       let taken : total taken_len v.taken ≡ total note_len (sent_to v.app nic) =
       ap (total taken_len) (served-at a end at).taken ∙ taken-sum (sent_to v.app nic) in
       let own = own-few v.app nic.view.sent in

@@ -134,16 +134,16 @@ pub record Ran {S T : Type 0} (left : S → Option (List ℕ)) (faults : S → �
     (source source_now : S) (shelves shelves_now : List T) (plan : Plan) (told : Told) (nic : NicSide) (apps : List AppSide) : Type 0 where
   -- the frames before the reading ended, and what ended it
   pub before : List (List ℕ)
-  pub ended : HasEnded (WantsRoom plan.split plan.ports.items) (left source) (left source_now) (faults source) (faults source_now)
+  pub ended : HasEnded (WantsRoom plan.options.split plan.ports.items) (left source) (left source_now) (faults source) (faults source_now)
       plan.ports.items before told.end
   pub tally : told.tally ≡ tally_of plan.ports.items before
   -- the frames that were refused: in order, each a steered one of which more than `split` bytes count
-  pub refused : AreRefused plan.split (offers_of (steered_in plan.ports.items before)) told.refused
+  pub refused : AreRefused plan.options.split (offers_of (steered_in plan.ports.items before)) told.refused
   -- each only where its need, with that of the frames before it that weren't, is above the number of buffers
   pub need : RefusesByNeed plan (offers_of (steered_in plan.ports.items before)) told.refused
   -- the searches for fresh buffers: no more than frames of which more than `split` bytes count; as many found enough as frames whose
   -- first bytes were put at the begin of a buffer, as the notes sent show; and as many found too few as frames were refused
-  pub searches : searches_in told.pool ≤ long_in plan.split (offers_of (steered_in plan.ports.items before))
+  pub searches : searches_in told.pool ≤ long_in plan.options.split (offers_of (steered_in plan.ports.items before))
   pub found : found_in told.pool ≡ count_by begins_fresh nic.view.sent
   pub empty : told.pool.empty ≡ length told.refused
   -- and no more of them swept the free list than the card did
@@ -172,7 +172,7 @@ pub record Ran {S T : Type 0} (left : S → Option (List ℕ)) (faults : S → �
   pub many_shelves : length shelves_now ≡ length shelves
   pub beyond : drop (length plan.ports.items) shelves_now ≡ drop (length plan.ports.items) shelves
   -- The card came to what is told, and each application to its line, in the way that the plan says; and both to their views.
-  pub turns : CardHasTurned plan.ports.items plan.split before told nic.view
+  pub turns : CardHasTurned plan.ports.items plan.options.split before told nic.view
   pub came : (number port : ℕ) (app : AppLine) → slice_get plan.ports.items number ≡ Some port → slice_get told.apps number ≡ Some app
       → (end : AppEnd) × (app ≡ line_of port end)
       × HasCome plan (kept_in kept shelves number) (kept_in kept shelves_now number) (losses_in losses shelves number)

@@ -34,7 +34,7 @@ pub record RolesFit (nic : NicSide) (apps : List AppSide) (run : Run) : Type 0 w
 -- ---- a run at which nobody has taken a turn
 
 pub record IsNew (plan : Plan) (a : ℕ) (w : Worker) : Type 0 where
-  pub state_is : w.state ≡ new_state a plan.ring plan.how
+  pub state_is : w.state ≡ new_state a plan.options.ring plan.options.how
   pub left_is : w.left ≡ false
   pub stands : (v : AppView) → IsFresh a v → AppStands w.state v
   pub shelved : (kept : ℕ → Option (List ℕ)) (v : AppView) → AreShelved kept kept w.state.flows v
@@ -62,7 +62,7 @@ pub record WorkerRuns (first kept : ℕ → Option (List ℕ)) (losses losses_no
 
 -- So it runs as the plan says, and it came to that by turns of its own.
 pub record WorkerGoes (plan : Plan) (first kept : ℕ → Option (List ℕ)) (losses losses_now : ShelfCounts) (v : AppView) (w : Worker) : Type 0 where
-  pub runs : WorkerRuns first kept losses losses_now plan.how v w
+  pub runs : WorkerRuns first kept losses losses_now plan.options.how v w
   pub came : TurnedSince plan first losses (record { state = w.state; view = v; kept = kept; losses = losses_now })
 
 -- The run so far of a plan whose applications take turns: these frames were read, and the card stands by them and came to that by turns,
@@ -72,9 +72,9 @@ pub record Running {S T : Type 0} (left : S → Option (List ℕ)) (faults : S �
   pub plan_is : IsPlan plan
   pub by_turns : TakesTurns plan
   pub frames : List (List ℕ)
-  pub feed : FeedStands left faults source source_now plan.ports.items plan.split frames run.feed nic.view
-  pub turns : CardTurns plan.ports.items plan.split frames run.feed nic.view
-  pub setting : nic.view.setting ≡ record { layout = layout_of plan; places = plan.ring }
+  pub feed : FeedStands left faults source source_now plan.ports.items plan.options.split frames run.feed nic.view
+  pub turns : CardTurns plan.ports.items plan.options.split frames run.feed nic.view
+  pub setting : nic.view.setting ≡ record { layout = layout_of plan; places = plan.options.ring }
   pub many : length run.workers.items ≡ length plan.ports.items
   pub worker : (a : ℕ) (w : Worker) → slice_get run.workers.items a ≡ Some w
       → WorkerGoes plan (kept_in kept shelves a) (kept_in kept shelves_now a) (losses_in losses shelves a) (losses_in losses shelves_now a)
@@ -101,11 +101,11 @@ pub record HasRun {S T : Type 0} (left : S → Option (List ℕ)) (faults : S �
     (ends : List AppEnd) : Type 0 where
   pub plan_is : IsPlan plan
   pub frames : List (List ℕ)
-  pub stands : FeedStands left faults source source_now plan.ports.items plan.split frames feed nic.view
-  pub turns : CardTurns plan.ports.items plan.split frames feed nic.view
+  pub stands : FeedStands left faults source source_now plan.ports.items plan.options.split frames feed nic.view
+  pub turns : CardTurns plan.ports.items plan.options.split frames feed nic.view
   pub ready : IsReady feed nic.view
   pub closed : feed.closed ≡ true
-  pub setting : nic.view.setting ≡ record { layout = layout_of plan; places = plan.ring }
+  pub setting : nic.view.setting ≡ record { layout = layout_of plan; places = plan.options.ring }
   pub many : length ends ≡ length plan.ports.items
   pub app : (a : ℕ) (end : AppEnd) → slice_get ends a ≡ Some end
       → HasLeft (how_of plan) (kept_in kept shelves a) (kept_in kept shelves_now a) (losses_in losses shelves a) (losses_in losses shelves_now a)

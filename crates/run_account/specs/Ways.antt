@@ -62,17 +62,17 @@ DidPoll turn = ⊤
 
 abbrev pub TurnedSince : Plan → (ℕ → Option (List ℕ)) → ShelfCounts → OwnMoment → Type 0
 TurnedSince plan first count now = TakesTurns plan × (setting : Setting) × (a : ℕ)
-    × Behind OwnTurn (record { state = new_state a plan.ring plan.how; view = new_app_view setting a; kept = first; losses = count }) now
+    × Behind OwnTurn (record { state = new_state a plan.options.ring plan.options.how; view = new_app_view setting a; kept = first; losses = count }) now
 
 abbrev pub PolledSince : Plan → PollMoment → Type 0
-PolledSince plan now = (plan.polled ≡ true) × (setting : Setting) × (a : ℕ)
+PolledSince plan now = (plan.options.polled ≡ true) × (setting : Setting) × (a : ℕ)
     × Behind PollTurns (record { stage = pour_stage None (new_desk a) (new_app_view setting a); poured = None }) now
 
 abbrev pub first_stage : Setting → ℕ → ℕ → ℕ → Stage
 first_stage setting a room delay = stage_of (new_outbox room) (new_desk a) [] (record { delay = delay; looks = 0 }) (new_app_view setting a)
 
 abbrev pub ForwardedSince : Plan → ForwardMoment → Type 0
-ForwardedSince plan now = (setting : Setting) × (a room delay : ℕ) × (plan.forward ≡ Some delay)
+ForwardedSince plan now = (setting : Setting) × (a room delay : ℕ) × (plan.options.forward ≡ Some delay)
     × Behind ForwardTurns (record { stage = first_stage setting a room delay; poured = None }) now
 
 -- An application came to its view, and left with this, in the way that the plan says, since its shelf had `first` and had failed

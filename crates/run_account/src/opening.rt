@@ -15,7 +15,7 @@ pub fn new_worker(alloc: Global, plan: &Plan, app: u32) -> Result<Worker, AllocE
     requires app { app < length plan.now.ports.items }
     ensures { IfOk result (IsNew plan.now app) }
 {
-    let state = AppState::new(alloc, app, plan.ring, plan.how)?;
+    let state = AppState::new(alloc, app, plan.options.ring, plan.options.how)?;
     Ok(Worker { state, left: false })
 }
 

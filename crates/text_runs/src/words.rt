@@ -1,9 +1,10 @@
 //! The words that have a reading, and what it is; and those that have none, and what is wrong with them. A line has words, and
 //! behind `=>` what is told of them.
-use command_words::{Command, Make, Options, Replay, USAGE, read_words, what_is_wrong};
+use command_words::{Command, Make, Replay, USAGE, read_words, what_is_wrong};
 use std::alloc::Global;
 use std::process::Abort;
 use std::test::*;
+use zr_kinds::Options;
 
 /// A number behind its name, where it isn't the usual one.
 fn push(text: &mut String, name: &str, number: u64, usual: u64) -> Result<(), Fail> {

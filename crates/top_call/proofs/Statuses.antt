@@ -9,16 +9,16 @@ use Rattle.zr_kinds.specs.declared.behaviour.Stopped.TheVariants as stop
 use Rattle.zr_io.{specs.Moved.{Rose, ShelfCounts, Took}, proofs.Moved.{Rose-earlier, Took-then, Took-weaker}}
 use Rattle.frames_read.{specs.{Ending.{Ending, ended_of, steered_in}, Reading.{ShowsEnding, BreaksOff, TakenEnds, IsEnding, IsReadToEnd}}, proofs.Endings.{some-weaker}}
 use Rattle.board_face.specs.declared.views.{nic.NicSide.{NicSide}, app.AppSide.{AppSide}}
-use Rattle.card_feed.specs.{Need.{buffers_of, need_in}, Offered.{offers_of, WantsRoom}, declared.plan.Plan.{Plan}, Plan.{how_of, plain_behaviour}}
-use Rattle.card_feed.proofs.OfFlow.{there}
+use Rattle.card_feed.{specs.{Need.{buffers_of, need_in}, Offered.{offers_of, WantsRoom}, declared.plan.Plan.{Plan}, Plan.{how_of}}, proofs.OfFlow.{there}}
 use Rattle.run_account.{specs.{Running.{losses_in, losses_or}, Ran.{HasReadOn, HaveWholeStreams, IsAppLine, Ran, Told}}, proofs.WholeStreams.{whole-streams}}
 use Rattle.run_account.proofs.{AppLines.{found-there, one-value}, Places.{get-within}}
-use Rattle.command_words.specs.{Options.{AreInRange}, Words.{ReplayShown}}
+use Rattle.zr_kinds.specs.Options.{BehavesPlainly, plain_behaviour}
+use Rattle.command_words.specs.Words.{ReplayShown}
 use Rattle.top_call.specs.Worlds.{Ends, Seen, World, left_in, shelf_seen, sink_in, sunk}
 use Rattle.top_call.{specs.{Planned.{IsPlanOf}, Records.{HasRecord, record_in}, declared.card.Card.{Card}}, proofs.{Behind.{ended_of-behind}, Found.{get-same_rest}}}
 use Rattle.top_call.{specs.Flushing.{Flushes, HasLost}, proofs.ToldLines.{record-told, rose-or-same, told-appended, told-flow, told-others, told-streams}}
 use Rattle.top_call.specs.Status.{is_memory, is_write, any_stopped, end_number, status_from, status_of}
-use Rattle.top_call.specs.StreamTheorem.{Finishes, IsStatusOf, IsStatus, IsBrokenOff, RanWith, Replays}
+use Rattle.top_call.specs.StreamTheorem.{Finishes, asked_by, IsStatusOf, IsStatus, IsBrokenOff, RanWith, Replays}
 use Rattle.run_report.specs.{Report.{Reports, answer_of}, declared.report.Unreported.{Unreported}}
 use Rattle.run_report.specs.declared.report.Unreported.TheVariants as unreported
 
@@ -252,11 +252,11 @@ module _ {S T : Type 0} {left : S → Option (List ℕ)} {failed : S → ℕ} {k
   ends-at = ⊎_elim
       (λ same. inl (some-weaker (left source) _ _ replayed.ended.shown (λ all shows.
       Took-weaker (left source) (left at)
-      (λ taken. TakenEnds (WantsRoom plan.split plan.ports.items) plan.ports.items taken replayed.before outcome.end)
+      (λ taken. TakenEnds (WantsRoom plan.options.split plan.ports.items) plan.ports.items taken replayed.before outcome.end)
       (λ taken. ended_of plan.ports.items taken ≡ ended_of plan.ports.items all)
       (λ taken ends. same plan.ports.items taken (ended_of plan.ports.items all) replayed.before ends shows) replayed.ended.taken)))
       (λ hidden. inr hidden)
-      (same-ending (WantsRoom plan.split plan.ports.items) outcome.end replayed.ended.kind)
+      (same-ending (WantsRoom plan.options.split plan.ports.items) outcome.end replayed.ended.kind)
 
   still-at : IsApart outcome.end → at ≡ source_now
   still-at none = ahead.same none.memory none.flows
@@ -265,7 +265,7 @@ module _ {S T : Type 0} {left : S → Option (List ℕ)} {failed : S → ℕ} {k
   ends-now : outcome.end ≡ Some TooManyFlows
       → IfSome (left source) (λ all. Took (left source) (left source_now) (λ taken. ended_of plan.ports.items taken ≡ ended_of plan.ports.items all))
   ends-now flows =
-      let wants = WantsRoom plan.split plan.ports.items in
+      let wants = WantsRoom plan.options.split plan.ports.items in
       let ended : Ending = record { before = replayed.before; fault = Some TooManyFlows } in
       some-weaker (left source) _ _ replayed.ended.shown (λ all shows.
       let all_ends : ended_of plan.ports.items all ≡ ended =
@@ -310,10 +310,10 @@ module _ {S T : Type 0} {left : S → Option (List ℕ)} {failed : S → ℕ} {k
       (ahead.same (λ e. cc) (λ e. cc)) (
         replayed.ended.cause by_read,
         Took-weaker (left source) (left at)
-            (λ taken. TakenEnds (WantsRoom plan.split plan.ports.items) plan.ports.items taken replayed.before outcome.end)
+            (λ taken. TakenEnds (WantsRoom plan.options.split plan.ports.items) plan.ports.items taken replayed.before outcome.end)
             (λ taken. IsBrokenOff (ended_of plan.ports.items taken).fault)
             (λ taken ends. broken_off (ended_of plan.ports.items taken) replayed.before
-            (subst (λ e. TakenEnds (WantsRoom plan.split plan.ports.items) plan.ports.items taken replayed.before e) by_read ends)) replayed.ended.taken,
+            (subst (λ e. TakenEnds (WantsRoom plan.options.split plan.ports.items) plan.ports.items taken replayed.before e) by_read ends)) replayed.ended.taken,
       )) others) causes.cases
 
   -- the line of an application as the run left it
@@ -469,13 +469,17 @@ module _ {S T : Type 0} {left : S → Option (List ℕ)} {failed : S → ℕ} {k
       (whole-streams left failed kept losses source at shelves shelves_run plan outcome nic apps replayed
       (λ number app at. going-of zero number app (ap (λ ls. slice_get ls number) same ∙ at))))
 
+-- the plan is of what it is told itself
+pub same_plan : {plan : Plan} {turns : Option (List ℕ)} → IsPlanOf (asked_by plan turns) plan
+same_plan = record { ports_are = refl; areas_are = refl; options_are = refl }
+
 -- each application behaves as the options say
-how-said : (told : ReplayShown) (plan : Plan) → AreInRange told.options → IsPlanOf told plan → how_of plan ≡ told.options.how
-how-said told plan in_range planned = rw (planned.polled, planned.forward, planned.how) (go (told.options.polled || is_some told.options.forward) refl)
+how-said : (told : ReplayShown) (plan : Plan) → BehavesPlainly told.options → IsPlanOf told plan → how_of plan ≡ told.options.how
+how-said told plan plainly planned = rw planned.options_are (go (told.options.polled || is_some told.options.forward) refl)
   where
     go : (b : Bool) → (told.options.polled || is_some told.options.forward) ≡ b
         → (if told.options.polled || is_some told.options.forward then plain_behaviour else told.options.how) ≡ told.options.how
-    go true other = rw other (sym (in_range.plain other))
+    go true other = rw other (sym (plainly other))
     go false other = rw other refl
 
 -- what was lent as a slice is the vector's again
@@ -492,12 +496,12 @@ told_well refusals refusals_now said answer (Err unreported.Write) still is not_
 
 module _ {S T O : Type 0} {m : Seen S T O} (before : World m) (ends : Ends m.streams) (out_now : O) (card_now : Card) {shelves_run : List T}
     {plan : Plan} {outcome : Told} {answer : ℕ} where
-  replays-so : (told : ReplayShown) → AreInRange told.options → IsPlanOf told plan
+  replays-so : (told : ReplayShown) → BehavesPlainly told.options → IsPlanOf told plan
       → RanWith before.ends (record ends { shelves = shelves_run }) card_now told.turns plan outcome → HasRecord plan outcome card_now
       → (given : List T) → given ≡ shelves_run
       → Finishes m.streams.shelf given ends.shelves (sink_in before) (sunk m.sink out_now) (outcome, record_in plan card_now) answer
       → Replays before (record { ends = ends; out = out_now; card = card_now }) told answer
-  replays-so told in_range planned with recorded given given_is finishes =
+  replays-so told plainly planned with recorded given given_is finishes =
       let ran = with.ran in
       let ahead = with.ahead in
       let tells = finishes.tells in
@@ -549,11 +553,11 @@ module _ {S T O : Type 0} {m : Seen S T O} (before : World m) (ends : Ends m.str
         done = λ zero all told_all. record {
           all_read = rw (← same) (all_read-of ran ahead flushes is zero all told_all);
           enough = rw (← same) (enough-of ran ahead flushes is zero all told_all);
-          streams = rw (← same, ← how-said told plan in_range planned) (streams-of ran ahead flushes is zero all told_all);
+          streams = rw (← same, ← how-said told plan plainly planned) (streams-of ran ahead flushes is zero all told_all);
         };
       }
 
-  pub replays : (told : ReplayShown) → AreInRange told.options → IsPlanOf told plan
+  pub replays : (told : ReplayShown) → BehavesPlainly told.options → IsPlanOf told plan
       → RanWith before.ends (record ends { shelves = shelves_run }) card_now told.turns plan outcome → HasRecord plan outcome card_now
       → (given : List T) → given ≡ shelves_run → (room : ℕ) → room ≡ length shelves_run
       → Finishes m.streams.shelf given ends.shelves (sink_in before) (sunk m.sink out_now) (outcome, record_in plan card_now) answer
@@ -562,7 +566,7 @@ module _ {S T O : Type 0} {m : Seen S T O} (before : World m) (ends : Ends m.str
         out = out_now;
         card = card_now;
       }) told answer
-  replays told in_range planned with recorded given given_is room size finishes =
+  replays told plainly planned with recorded given given_is room size finishes =
       subst (λ them. Replays before (record { ends = record ends { shelves = them }; out = out_now; card = card_now }) told answer)
       (sym (back room ends.shelves shelves_run (finishes.flushes.many ∙ ap length given_is ∙ sym size)))
-      (replays-so told in_range planned with recorded given given_is finishes)
+      (replays-so told plainly planned with recorded given given_is finishes)

@@ -19,7 +19,7 @@ setting_of plan = record { areas = plan.areas.items; apps = length plan.ports.it
 abbrev pub record_in : Plan → Card → List ℕ
 record_in plan Card.Blank = []
 record_in plan (Card.Found found) = []
-record_in plan (Card.Plain board) = if plan.events then text_of (setting_of plan) board.log.events board.log.whole else []
+record_in plan (Card.Plain board) = if plan.options.events then text_of (setting_of plan) board.log.events board.log.whole else []
 record_in plan (Card.Words board desk) = []
 
 -- The report counts what these events tell. An application's loans are its `lend` and `own` lines, and its copies its `own` lines; it
@@ -57,5 +57,5 @@ pub record TellsRun (plan : Plan) (outcome : Told) (sides : AllSides) (log : Kep
 abbrev pub HasRecord : Plan → Told → Card → Type 0
 HasRecord plan outcome Card.Blank = ⊤
 HasRecord plan outcome (Card.Found found) = ⊤
-HasRecord plan outcome (Card.Plain board) = plan.events ≡ true → TellsRun plan outcome (sides_of board) board.log
+HasRecord plan outcome (Card.Plain board) = plan.options.events ≡ true → TellsRun plan outcome (sides_of board) board.log
 HasRecord plan outcome (Card.Words board desk) = ⊤

@@ -5,7 +5,7 @@ use Rattle.zr_kinds.specs.{Fault.{number_of}, declared.{fault.Fault.{Fault, TheV
 use Rattle.zr_io.specs.Moved.{Gained, Rose, Took, raised_by}
 use Rattle.flow_table.specs.{Flows.{Flow, flows_of}, Stream.{stream_of}}
 use Rattle.board_face.specs.declared.views.{nic.NicSide.{NicSide}, app.AppSide.{AppSide}}
-use Rattle.command_words.specs.{Words.{ReplayShown, Shown, replay, make, check}, declared.options.Options.{Options}}
+use Rattle.command_words.specs.Words.{ReplayShown, Shown, replay, make, check}
 use Rattle.frames_read.specs.{Ending.{ended_of, steered_in}, Reading.{IsEnding, IsReadToEnd}}
 use Rattle.zr_kinds.specs.declared.behaviour.Stopped.TheVariants as stop
 use Rattle.card_feed.specs.{declared.{plan.Plan.{Plan}, outcome.Outcome.{Outcome}}, Counts.{sweeping_in, sweeps_in}, Need.{buffers_of, need_in}, Offered.{offers_of}}
@@ -202,9 +202,9 @@ pub record Lacks {S T O : Type 0} {m : Seen S T O} (before after : World m) (tol
   pub planned : IsPlanOf told plan
   pub lacks : LacksMemoryBy before.ends after.ends told.turns plan
 
--- a replay of these ports, areas and options, by these turns
-abbrev pub asked_by : List ℕ → List (ℕ × ℕ) → Options → Option (List ℕ) → ReplayShown
-asked_by ports areas options turns = record { ports = ports; areas = areas; options = options; turns = turns }
+-- a replay by this plan and these turns
+abbrev pub asked_by : Plan → Option (List ℕ) → ReplayShown
+asked_by plan turns = record { ports = plan.ports.items; areas = plan.areas.items; options = plan.options; turns = turns }
 
 -- what a replay leaves, with memory or without
 abbrev pub RepliesTo : {S T O : Type 0} → {m : Seen S T O} → World m → World m → ReplayShown → ℕ → Type 0

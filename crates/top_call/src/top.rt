@@ -1,15 +1,15 @@
 //! The top call: a command's words, a source, eight shelves and a sink.
 
 ghost use Rattle.std.specs.{Prelude.{◌≡◌, ℕ, ◌≤◌, ◌<◌, ◌⊎◌, true, List, Option, None, Some, IfOk, IfErr, MatchResult, OnErr, OnOk, Ok, ◌++◌, map, length, take, vec_len}, Io.KnownBytes.{Appends}};
+ghost use Rattle.zr_kinds.specs.Options.{BehavesPlainly};
 ghost use Rattle.zr_io.specs.Moved.{AddsPiece, HasCause, Rose};
-ghost use Rattle.area_layout.specs.Layout.{MakeLayout};
 ghost use Rattle.cap_make.specs.GeneratedCapture.{generated_capture};
-ghost use Rattle.command_words.specs.{Options.{AreInRange, GoesByTurns}, Words.{IsPortList, reading_of, replay}};
+ghost use Rattle.command_words.specs.Words.{reading_of, replay};
 ghost use Rattle.card_feed.specs.Plan.{IsPlan, TakesTurns};
 ghost use Rattle.run_account.specs.Ran.{told_of};
 ghost use Rattle.run_report.specs.Report.{Reports, report_of};
 ghost use Rattle.replay_turns.specs.Schedule.{AreTurns};
-ghost use Rattle.top_call.specs.{Planned.{IsPlanOf}, Records.{record_in}, StreamTheorem.{Answers, AnswersAlone, Finishes, IsThreaded, Plays, RepliesTo, Tells, asked_by}, Worlds.{IsUntouched, ends_at, seen, shelf_seen, sink_seen, source_seen, streams, sunk, world_at}};
+ghost use Rattle.top_call.specs.{Records.{record_in}, StreamTheorem.{Answers, AnswersAlone, Finishes, IsThreaded, Plays, RepliesTo, Tells, asked_by}, Worlds.{IsUntouched, ends_at, seen, shelf_seen, sink_seen, source_seen, streams, sunk, world_at}};
 
 use crate::card::Card;
 use crate::checking::check_record;
@@ -17,7 +17,7 @@ use crate::flushing::flush_shelves;
 use crate::status::status_of;
 use cap_make::make;
 use card_feed::{Outcome, Plan};
-use command_words::{Command, Options, Replay, read_words};
+use command_words::{Command, Replay, read_words};
 use replay_threads::{Gate, processors, run_threads};
 use replay_turns::{run_rounds, run_turns};
 use run_report::{Report, Unreported, answer, write_record, write_report};
@@ -36,7 +36,7 @@ fn write_events<O: Sink>(plan: &Plan, card: &Card, out: &mut O) -> Result<(), Fa
     ensures cause { HasCause (O.faults out.old) (O.faults out.new) result }
 {
     match card {
-        Card::Plain(board) if plan.events => {
+        Card::Plain(board) if plan.options.events => {
             write_record(&plan.areas, plan.ports.len() as u32, board.log(), out)
         }
         _ => Ok(()),
@@ -109,38 +109,6 @@ fn finish<T: Shelf, O: Sink>(
 {
     let lost = flush_shelves(shelves, &mut outcome.apps);
     tell(alloc, &outcome, lost, plan, card, out)
-}
-
-fn plan_of(command: Asked) -> Plan
-    requires ports { IsPortList command.ports.items }
-    requires areas { MakeLayout command.areas.items (length command.ports.items) }
-    requires options { AreInRange command.options }
-    ensures plan { IsPlan result }
-    ensures told { (turns : Option (List ℕ))
-        → IsPlanOf (asked_by command.ports.items command.areas.items command.options turns) result }
-{
-    let Asked {
-        ports,
-        areas,
-        options: Options {
-            ring,
-            split,
-            how,
-            polled,
-            forward,
-            events,
-        },
-    } = command;
-    Plan {
-        ports,
-        areas,
-        ring,
-        split,
-        how,
-        polled,
-        forward,
-        events,
-    }
 }
 
 /// Runs the plan by the text of turns, on this thread, over the board for one. The board is left in the card.
@@ -218,7 +186,7 @@ fn play_rounds<S: Source, T: Shelf, G: Gate>(
 fn takes_turns(plan: &Plan) -> bool
     ensures { result ≡ true → TakesTurns plan.now }
 {
-    !plan.polled && plan.forward.is_none()
+    !plan.options.polled && plan.options.forward.is_none()
 }
 
 /// Runs the plan without a text of turns: by threads, or where there is one processor and its applications take turns of their own, by
@@ -247,39 +215,29 @@ fn play_freely<S: Source + Send, T: Shelf + Send, G: Gate + Sync, R: Threads + W
     }
 }
 
-/// What a replay is asked for, but its turns.
-#[derive(Drop)]
-struct Asked {
-    ports: Vec<u16>,
-    areas: Vec<(u32, u32)>,
-    options: Options,
-}
-
 /// Replays a capture by a text of turns, flushes the shelves, and writes the report, and the record where it is asked for.
 fn replay_alone<S: Source, T: Shelf, O: Sink>(
     alloc: Global,
     random: RandomState,
-    command: Asked,
+    plan: Plan,
     turns: &str,
     source: &mut S,
     shelves: &mut Vec<T>,
     out: &mut O,
     card: &mut Card,
 ) -> u8
-    requires ports { IsPortList command.ports.items }
-    requires areas { MakeLayout command.areas.items (length command.ports.items) }
-    requires options { AreInRange command.options }
-    requires own { GoesByTurns command.options }
-    requires turns { AreTurns (length command.ports.items) turns.now }
+    requires plan { IsPlan plan }
+    requires plain { BehavesPlainly plan.options }
+    requires turns_only { TakesTurns plan }
+    requires turns { AreTurns (length plan.ports.items) turns.now }
     requires shelves { vec_len shelves.old ≡ 8 }
     requires blank { card.old ≡ Card.Blank }
     ensures replays { let m = seen (source_seen S.left S.faults) (shelf_seen T.kept T.counts)
         (sink_seen O.sent O.faults) in
         RepliesTo (world_at m source.old shelves.old.items out.old card.old)
         (world_at m source.new shelves.new.items out.new card.new)
-        (asked_by command.ports.items command.areas.items command.options (Some turns.now)) result }
+        (asked_by plan (Some turns.now)) result }
 {
-    let plan = plan_of(command);
     match play_turns(alloc, random, source, shelves, &plan, turns, card) {
         Ok(outcome) => finish(alloc, outcome, &plan, card, shelves, out),
         Err(_) => Fault::Memory.number(),
@@ -291,25 +249,23 @@ fn replay<S: Source + Send, T: Shelf + Send, O: Sink, G: Gate + Sync, R: Threads
     rt: &R,
     alloc: Global,
     random: RandomState,
-    command: Asked,
+    plan: Plan,
     source: &mut S,
     shelves: &mut Vec<T>,
     out: &mut O,
     gate: &G,
     card: &mut Card,
 ) -> u8
-    requires ports { IsPortList command.ports.items }
-    requires areas { MakeLayout command.areas.items (length command.ports.items) }
-    requires options { AreInRange command.options }
+    requires plan { IsPlan plan }
+    requires plain { BehavesPlainly plan.options }
     requires shelves { vec_len shelves.old ≡ 8 }
     requires blank { card.old ≡ Card.Blank }
     ensures replays { let m = seen (source_seen S.left S.faults) (shelf_seen T.kept T.counts)
         (sink_seen O.sent O.faults) in
         RepliesTo (world_at m source.old shelves.old.items out.old card.old)
         (world_at m source.new shelves.new.items out.new card.new)
-        (asked_by command.ports.items command.areas.items command.options None) result }
+        (asked_by plan None) result }
 {
-    let plan = plan_of(command);
     match play_freely(rt, alloc, random, source, shelves, &plan, gate, card) {
         Ok(outcome) => finish(alloc, outcome, &plan, card, shelves, out),
         Err(_) => Fault::Memory.number(),
@@ -337,7 +293,7 @@ fn write_capture<O: Sink>(seed: u32, frames: u32, out: &mut O) -> u8
 #[derive(Drop)]
 struct Threaded {
     random: RandomState,
-    command: Asked,
+    plan: Plan,
 }
 
 /// Runs the command of the words on this thread: the answer. A replay by threads is handed back, and nothing was done.
@@ -362,12 +318,9 @@ fn run_alone<S: Source, T: Shelf, O: Sink>(
         (λ answer. IsThreaded (reading_of (map (λ w. w.now) words.now)) → answer ≡ 1) }
     ensures asks { IfErr result
         (λ t. reading_of (map (λ w. w.now) words.now)
-        ≡ Some
-        (replay (asked_by t.command.ports.items t.command.areas.items t.command.options None))) }
+        ≡ Some (replay (asked_by t.plan None))) }
     ensures asked { IfErr result
-        (λ t. IsPortList t.command.ports.items
-        × MakeLayout t.command.areas.items (length t.command.ports.items)
-        × AreInRange t.command.options) }
+        (λ t. IsPlan t.plan × BehavesPlainly t.plan.options) }
     ensures shelves { OnErr result (vec_len shelves.new ≡ 8) }
 {
     match read_words(alloc, words) {
@@ -383,16 +336,16 @@ fn run_alone<S: Source, T: Shelf, O: Sink>(
                 ),
             ),
         ) => {
-            let command = Asked {
+            let plan = Plan {
                 ports,
                 areas,
                 options,
             };
             match turns {
                 Some(text) => Ok(replay_alone(
-                    alloc, random, command, text, source, shelves, out, card,
+                    alloc, random, plan, text, source, shelves, out, card,
                 )),
-                None => Err(Threaded { random, command }),
+                None => Err(Threaded { random, plan }),
             }
         }
         Ok(Some(Command::Make(command))) => Ok(write_capture(command.seed, command.frames, out)),
@@ -452,8 +405,8 @@ pub fn zcrx<S: Source + Send, T: Shelf + Send, O: Sink, G: Gate + Sync, R: Threa
 {
     match run_alone(alloc, random, words, source, shelves, out, card) {
         Ok(answer) => answer,
-        Err(Threaded { random, command }) => {
-            replay(rt, alloc, random, command, source, shelves, out, gate, card)
+        Err(Threaded { random, plan }) => {
+            replay(rt, alloc, random, plan, source, shelves, out, gate, card)
         }
     }
 }

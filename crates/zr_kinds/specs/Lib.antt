@@ -3,3 +3,4 @@ pub mod CopyingReceiver
 pub mod Fault
 pub mod ReceiverLaws
 pub mod Limits
+pub mod Options

@@ -6,6 +6,7 @@
 mod behaviour;
 mod fault;
 mod limits;
+mod options;
 mod outcome;
 mod place;
 mod receiver;
@@ -14,6 +15,7 @@ mod ring;
 pub use behaviour::{Behaviour, Stopped};
 pub use fault::Fault;
 pub use limits::{LONGEST_PAYLOAD, LONGEST_RECORD, MOST_FLOWS, MOST_RECORDS};
+pub use options::Options;
 pub use outcome::{AppLine, Ended, FlowEnd, FlowLine, PoolStats, Tally};
 pub use place::{Note, Place};
 pub use receiver::{lead_is_signed_distance, next_missing_is_least, receiver_looks_at_no_value};

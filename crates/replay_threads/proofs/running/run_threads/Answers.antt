@@ -15,7 +15,7 @@ move_last-requires-clause-keep g c = omega (arith, c.len-apps.ensures, c.require
 pub play_seated-feed-requires-clause-board : goal.play_seated-feed-requires-clause-board
 play_seated-feed-requires-clause-board g c κs within = record {
   desk_is = c.in_ok-board.ensures.desk;
-  setting = subst (λ layout. c.in_ok-board.board.setting ≡ record { layout = layout; places = c.args.plan.now.ring })
+  setting = subst (λ layout. c.in_ok-board.board.setting ≡ record { layout = layout; places = c.args.plan.now.options.ring })
       (laid-out _ _ _ c.unwrap-layout.ensures c.layout.ensures.value) c.in_ok-board.ensures.setting;
 }
 
@@ -110,5 +110,5 @@ tell-requires-clause-many g c =
 
 pub returns-clause-setting : goal.returns-clause-setting
 returns-clause-setting g c =
-    subst (λ layout. c.in_ok-board.board.setting ≡ record { layout = layout; places = c.args.plan.now.ring })
+    subst (λ layout. c.in_ok-board.board.setting ≡ record { layout = layout; places = c.args.plan.now.options.ring })
     (laid-out _ _ _ c.unwrap-layout.ensures c.layout.ensures.value) c.in_ok-board.ensures.setting

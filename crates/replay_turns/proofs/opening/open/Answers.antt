@@ -14,8 +14,8 @@ returns-clause-opened g c =
     subst (λ (r : Option Shape). IfSome r (λ l. l ≡ layout_of c.args.plan.now)) c.unwrap-layout.ensures c.layout.ensures.value in
     record {
       board_is = c.in_ok-board.ensures
-          ∙ ap (λ (l : Shape). new_board l c.args.plan.now.ring c.room.result) layout_is
-          ∙ ap (new_board (layout_of c.args.plan.now) c.args.plan.now.ring) c.room.ensures.room;
+          ∙ ap (λ (l : Shape). new_board l c.args.plan.now.options.ring c.room.result) layout_is
+          ∙ ap (new_board (layout_of c.args.plan.now) c.args.plan.now.options.ring) c.room.ensures.room;
       feed_is = c.in_ok-feed.ensures.value;
       workers = c.in_ok-workers.ensures;
     }
@@ -36,7 +36,7 @@ returns-clause-fits g c shelves enough =
       roles = record {
         ready = rw c.in_ok-board.ensures (c.in_ok-feed.ensures.ready _ refl (record { owns = refl; pieces = refl }) (sym reserves));
         worker = λ a w is. let within = get-within c.in_ok-workers.workers.items a w is in
-            new-fits c.args.plan.now _ a _ w (begun c.in_ok-board.board c.unwrap-layout.result c.args.plan.now.ring c.room.result a c.in_ok-board.ensures
+            new-fits c.args.plan.now _ a _ w (begun c.in_ok-board.board c.unwrap-layout.result c.args.plan.now.options.ring c.room.result a c.in_ok-board.ensures
             (omega (arith, within, many, reserves))) (c.in_ok-workers.ensures.each a w is);
       };
       many = many ∙ sym reserves ∙ sym board_reserves;
@@ -53,7 +53,7 @@ returns-clause-runs g c source shelves enough =
       plan_is = c.requires.plan;
       by_turns = c.requires.turns_only;
       frames = [];
-      feed = rw c.in_ok-feed.ensures.value (c.new_feeds_stand.ensures source c.args.plan.now.ports.items c.args.plan.now.split
+      feed = rw c.in_ok-feed.ensures.value (c.new_feeds_stand.ensures source c.args.plan.now.ports.items c.args.plan.now.options.split
           c.in_ok-board.board.nic.view (ap (λ (b : Board). b.nic.view.sent) c.in_ok-board.ensures)
           (ap (λ (b : Board). b.nic.view.dealt) c.in_ok-board.ensures)
           (ap (λ (b : Board). b.nic.view.used) c.in_ok-board.ensures));
@@ -61,7 +61,7 @@ returns-clause-runs g c source shelves enough =
       many = many;
       turns = (c.in_ok-board.board.nic.view.setting, rw (c.in_ok-feed.ensures.value, c.in_ok-board.ensures) begins);
       worker = λ a w is. let within = get-within c.in_ok-workers.workers.items a w is in
-          new-goes c.args.plan.now _ a _ w (begun c.in_ok-board.board c.unwrap-layout.result c.args.plan.now.ring c.room.result a c.in_ok-board.ensures
+          new-goes c.args.plan.now _ a _ w (begun c.in_ok-board.board c.unwrap-layout.result c.args.plan.now.options.ring c.room.result a c.in_ok-board.ensures
           (omega (arith, within, many, reserves))) (c.in_ok-workers.ensures.each a w is) c.requires.turns_only _ _;
       many_shelves = refl;
       beyond = refl;

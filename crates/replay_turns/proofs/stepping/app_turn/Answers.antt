@@ -90,7 +90,7 @@ returns g c =
             shelf shelf_now shelf_is runs
             (λ was_goes. record {
               runs = goes-on (kept_in g.T.Shelf.kept firsts c.args.app) (g.T.Shelf.kept shelf) (g.T.Shelf.kept shelf_now)
-                  (losses_in g.T.Shelf.counts firsts c.args.app) (g.T.Shelf.counts shelf) (g.T.Shelf.counts shelf_now) plan.how old new w_was w_now
+                  (losses_in g.T.Shelf.counts firsts c.args.app) (g.T.Shelf.counts shelf) (g.T.Shelf.counts shelf_now) plan.options.how old new w_was w_now
                   c.app_step-board.result.1 was_goes.runs turns makes.went.later is_left
                   (record { fronts = makes.shows.fronts _; failed = makes.shows.failed _; whole = makes.shows.whole _; copies = makes.right.copies; counts = makes.right.counts })
                   (λ left. (finished left).2) makes.went.still makes.went.appended;

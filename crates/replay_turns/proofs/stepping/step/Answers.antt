@@ -30,7 +30,7 @@ returns-in-Card g c =
         runs = λ first firsts plan runs.
             card-runs c.args.board c.card_step-turn.result.0 c.args.run.now run_now refl step.apps step.sound step.ready
             g.S.Source.left g.S.Source.faults g.T.Shelf.kept g.T.Shelf.counts first c.args.source.now c.card_step-turn.new.source firsts c.args.shelves.now
-            plan fits runs (step.turns first plan.ports.items plan.split runs.frames runs.feed)
+            plan fits runs (step.turns first plan.ports.items plan.options.split runs.frames runs.feed)
             (subst (λ n. n ≤ most_records) c.records.ensures.count c.records.ensures.most);
       };
       answer = subst (λ role. MatchBool c.card_step-turn.result.1 (run_steps c.args.board c.args.run.now < run_steps c.card_step-turn.result.0 run_now)

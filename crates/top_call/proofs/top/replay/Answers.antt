@@ -1,12 +1,12 @@
 -- The outcome is told, and the board is in the card; or there was no memory for a board or an outcome.
 use Rattle.std.proofs.Common.{inl, inr, refl, ◌∙◌, None, arith}
-use Rattle.top_call.{specs.StreamTheorem.{asked_by}, proofs.Statuses.{replays}}
+use Rattle.top_call.{specs.StreamTheorem.{asked_by}, proofs.Statuses.{replays, same_plan}}
 use Rattle.top_call.proofs.top.replay.Goals as goal
 
 pub returns-in-Ok : goal.returns-in-Ok
 returns-in-Ok g c = record {
-  replays = inl (replays _ _ c.finish.new.out _ (asked_by c.args.command.ports.items c.args.command.areas.items c.args.command.options None)
-      c.requires.options (c.plan_of-plan.ensures.told _) c.in-Ok.ensures.plays.ran c.in-Ok.ensures.plays.recorded c.deref_mut.result.now
+  replays = inl (replays _ _ c.finish.new.out _ (asked_by c.args.plan None)
+      c.requires.plain same_plan c.in-Ok.ensures.plays.ran c.in-Ok.ensures.plays.recorded c.deref_mut.result.now
       c.deref_mut.ensures.value c.play_freely.new.shelves.len (omega (arith, c.play_freely.new.shelves.ok)) c.finish.ensures);
 }
 
@@ -16,8 +16,8 @@ returns g c = record {
     answer_is = c.number.ensures;
     card_is = c.in-Err.ensures.plays.lacks.1 ∙ c.requires.blank;
     out_is = refl;
-    plan = c.plan_of-plan.result;
-    planned = c.plan_of-plan.ensures.told _;
+    plan = c.args.plan;
+    planned = same_plan;
     lacks = c.in-Err.ensures.plays.lacks.0;
   });
 }
