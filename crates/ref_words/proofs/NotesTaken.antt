@@ -10,7 +10,7 @@ use Rattle.board_face.proofs.{AppLemmas.{pool_count-app, user_count-app, app_cou
 use Rattle.board_face.proofs.{FillingsFitLemmas.{FillingsFit-same}, IsFilledByOneLemmas.{IsFilledByOne-app}, MadeLastLemmas.{IsMadeLast-app}, Parts.{app_count}}
 use Rattle.board_face.{proofs.{PlaceTallies.{app_places}, PlacesByEvent.{app_places-took_note, app_places-took_linear}}, specs.Laws.{IsNextNote}}
 use Rattle.zr_kinds.specs.declared.place.{Note.{Note}, Place.{Place}}
-use Rattle.word_rings.specs.Slots.{note_width, note_fields, note_of, linear_of, words_of, bytes_of, pair, flags_of, words_for}
+use Rattle.word_rings.specs.Slots.{note_width, note_fields, field_words, payload_width, payload_bytes, note_of, linear_of, words_of, bytes_of, pair, flags_of, words_for}
 use Rattle.word_rings.proofs.{NoteSlots.{note_back, note-front, bytes-front}, Words.{padded_words, text_back}}
 use Rattle.ref_words.specs.{Words.{Words, listed_in, with_note}, Rings.{AreRings, NoteFits, area_of_note, words_of_note, linear_bytes, takes_note_at}}
 use Rattle.ref_words.{specs.{Rings.{loaded_note, loaded_bytes, note_loads}, Rule.{RefRule}}, proofs.RingSteps.{AllRings, rings-others}}
@@ -28,14 +28,14 @@ note-read setting s fits =
     let f1 = fits.frame in let f2 = fits.base in let f3 = fits.at in let f4 = fits.buffer in let f5 = fits.len in
     note_back n (pair n.frame n.flow) (pair n.base n.seq) (pair n.at n.total) (pair n.place.buffer n.place.offset) (pair n.place.len (flags_of n))
     (area_of_note setting n)
-    (words_of 32 (linear_bytes s)) (omega arith) (omega arith) (omega arith) (omega arith) (omega arith) (omega arith) (omega arith) (omega arith)
+    (words_of payload_width (linear_bytes s)) (omega arith) (omega arith) (omega arith) (omega arith) (omega arith) (omega arith) (omega arith) (omega arith)
     (omega arith) (omega arith)
 
 -- the bytes of a slot begin with those that travel in its note
-bytes-read : (xs : List ℕ) → length xs ≤ 256 → All (λ byte. byte < 256) xs → take (length xs) (bytes_of (words_of 32 xs)) ≡ xs
+bytes-read : (xs : List ℕ) → length xs ≤ payload_bytes → All (λ byte. byte < 256) xs → take (length xs) (bytes_of (words_of payload_width xs)) ≡ xs
 bytes-read xs few small =
-    ap (λ ws. take (length xs) (bytes_of ws)) (sym (padded_words 32 256 (length xs) xs))
-    ∙ text_back xs 256 32 few (omega arith) (λ i. below xs small i)
+    ap (λ ws. take (length xs) (bytes_of ws)) (sym (padded_words payload_width payload_bytes (length xs) xs))
+    ∙ text_back xs payload_bytes payload_width few (omega arith) (λ i. below xs small i)
   where
     below : (xs : List ℕ) → All (λ byte. byte < 256) xs → (i : ℕ) → get_or xs i 0 < 256
     below [] small i = omega arith
@@ -43,14 +43,14 @@ bytes-read xs few small =
     below (x ∷ xs) small (suc i) = below xs (λ k d less. small (suc k) d (omega arith)) i
 
 -- the fields are loaded, and of an unsplit note its bytes
-fields-loaded : (note : Note) (n : ℕ) → note_loads note ≤ 1 + n → 6 ≤ n
+fields-loaded : (note : Note) (n : ℕ) → note_loads note ≤ 1 + n → field_words ≤ n
 fields-loaded note n enough = by note.split enough
   where
-    by : (split : Bool) → (if split then note_fields else min note_width (note_fields + words_for note.total)) ≤ 1 + n → 6 ≤ n
+    by : (split : Bool) → (if split then note_fields else min note_width (note_fields + words_for note.total)) ≤ 1 + n → field_words ≤ n
     by true h = omega arith
     by false h = omega arith
 
-bytes-loaded : (note : Note) (n : ℕ) → note.split ≡ false → note.total ≤ 256 → note_loads note ≤ 1 + n → note.total + 48 ≤ 8 * n
+bytes-loaded : (note : Note) (n : ℕ) → note.split ≡ false → note.total ≤ payload_bytes → note_loads note ≤ 1 + n → note.total + 8 * field_words ≤ 8 * n
 bytes-loaded note n split most enough =
     let h : min note_width (note_fields + words_for note.total) ≤ 1 + n =
     subst (λ c. (if c then note_fields else min note_width (note_fields + words_for note.total)) ≤ 1 + n) split enough in
@@ -248,13 +248,13 @@ module _ (setting : Setting) (words : Words) (nic : NicSide) (apps : List AppSid
         let tells = proper.linear theirs in
         let small = fits.bytes theirs in
         let travels : linear_bytes next ≡ next.bytes = ap (λ c. if c then [] else next.bytes) theirs in
-        let most : note.total ≤ 256 = let few = tells.0.few_bytes in omega (arith, ap (λ (n : Note). n.total) note-is) in
+        let most : note.total ≤ payload_bytes = let few = tells.0.few_bytes in omega (arith, ap (λ (n : Note). n.total) note-is) in
         let read : loaded_bytes app ≡ next.bytes =
         sym (bytes-front note.total loaded others fields (bytes-loaded note (length loaded) split most enough))
         ∙ (ap (λ ws. take note.total (linear_of (1 ∷ ws))) (sym words-are)
-        ∙ (ap (λ (n : Note). take n.total (bytes_of (words_of 32 (linear_bytes next)))) note-is
-        ∙ (ap (λ xs. take next.note.total (bytes_of (words_of 32 xs))) travels
-        ∙ (ap (λ m. take m (bytes_of (words_of 32 next.bytes))) (sym tells.1)
+        ∙ (ap (λ (n : Note). take n.total (bytes_of (words_of payload_width (linear_bytes next)))) note-is
+        ∙ (ap (λ xs. take next.note.total (bytes_of (words_of payload_width xs))) travels
+        ∙ (ap (λ m. take m (bytes_of (words_of payload_width next.bytes))) (sym tells.1)
         ∙ bytes-read next.bytes (let few = tells.0.few_bytes in omega (arith, tells.1)) small)))) in
         let bytes = loaded_bytes app in
         RefRule-taken (side_took_linear app note bytes) (record { note = note; bytes = bytes }) (record {

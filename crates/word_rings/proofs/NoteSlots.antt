@@ -4,7 +4,7 @@ use Rattle.std.proofs.{Common.{List, [], ◌∷◌, ◌++◌, length, take, drop
 use Rattle.std.proofs.lemmas.{List.{append-nil, length-append, length-drop, take-append-le, drop-append-le, drop-drop, drop-replicate}, Grind.{flat_map-append}}
 use Rattle.byteorder.specs.{Endian.{little_bytes}, Numbers.{length-bytes_low_first}}
 use Rattle.zr_kinds.specs.declared.place.Note.{Note}
-use Rattle.word_rings.specs.Slots.{pair, low_of, high_of, flags_of, words_of, note_width, note_body, note_slot, note_of, linear_of, bytes_of, IsNoteSlot, IsBlankFrom}
+use Rattle.word_rings.specs.Slots.{pair, low_of, high_of, flags_of, words_of, note_width, note_fields, field_words, payload_width, note_body, note_slot, note_of, linear_of, bytes_of, IsNoteSlot, IsBlankFrom}
 
 -- ---- two numbers in a word
 
@@ -57,7 +57,7 @@ is_slot n w1 w2 w3 w4 w5 w6 dst high = record { full = refl; flags = let below =
 -- the words as they were stored are the slot's
 pub slot_is : (n : Note) (linear : List ℕ) (area : ℕ) (w1 w2 w3 w4 w5 w6 : ℕ) (dst : List ℕ) → w1 ≡ pair n.frame n.flow → w2 ≡ pair n.base n.seq
     → w3 ≡ pair n.at n.total → w4 ≡ pair n.place.buffer n.place.offset → w5 ≡ pair n.place.len (flags_of n) → w6 ≡ area
-    → dst ≡ words_of 32 linear → 1 ∷ w1 ∷ w2 ∷ w3 ∷ w4 ∷ w5 ∷ w6 ∷ (dst ++ []) ≡ note_slot n linear area
+    → dst ≡ words_of payload_width linear → 1 ∷ w1 ∷ w2 ∷ w3 ∷ w4 ∷ w5 ∷ w6 ∷ (dst ++ []) ≡ note_slot n linear area
 slot_is n linear area w1 w2 w3 w4 w5 w6 dst e1 e2 e3 e4 e5 e6 payload = rw (append-nil dst, e1, e2, e3, e4, e5, e6, payload) refl
 
 -- ---- a slot, and back
@@ -81,7 +81,7 @@ first_word w full = ap
     (λ (f : ℕ). f ∷ slice_index w 1 ∷ slice_index w 2 ∷ slice_index w 3 ∷ slice_index w 4 ∷ slice_index w 5 ∷ slice_index w 6 ∷ drop 7 w)
     (sym full)
 
-pub slot_back : (w : List ℕ) → length w ≡ note_width → IsNoteSlot w → words_of 32 (linear_of w) ≡ drop 7 w
+pub slot_back : (w : List ℕ) → length w ≡ note_width → IsNoteSlot w → words_of payload_width (linear_of w) ≡ drop note_fields w
     → note_slot (note_of w) (linear_of w) (slice_index w 6) ≡ w
 slot_back w len slot payload =
     let flags = flags_back (high_of (slice_index w 5)) slot.flags in
@@ -93,7 +93,7 @@ slot_back w len slot payload =
       flags,
       pair_back (slice_index w 5),
       payload,
-    ) (first_word w slot.full ∙ sym (seven w 32 len))
+    ) (first_word w slot.full ∙ sym (seven w payload_width len))
 
 -- ---- the first words of a slot
 
@@ -108,13 +108,13 @@ note-front (a ∷ []) rest few = absurd (omega arith)
 note-front [] rest few = absurd (omega arith)
 
 -- and so are the first bytes behind the fields
-pub bytes-front : (n : ℕ) (ws rest : List ℕ) → 6 ≤ length ws → n + 48 ≤ 8 * length ws
+pub bytes-front : (n : ℕ) (ws rest : List ℕ) → field_words ≤ length ws → n + 8 * field_words ≤ 8 * length ws
     → take n (linear_of (1 ∷ (ws ++ rest))) ≡ take n (linear_of (1 ∷ ws))
 bytes-front n ws rest few enough =
-    let behind = drop 6 ws in
-    ap (λ xs. take n (bytes_of xs)) (drop-append-le 6 ws rest few)
+    let behind = drop field_words ws in
+    ap (λ xs. take n (bytes_of xs)) (drop-append-le field_words ws rest few)
     ∙ (ap (take n) (flat_map-append (little_bytes 8) behind rest)
-    ∙ take-append-le n (bytes_of behind) (bytes_of rest) (omega (arith, length-bytes behind, length-drop 6 ws)))
+    ∙ take-append-le n (bytes_of behind) (bytes_of rest) (omega (arith, length-bytes behind, length-drop field_words ws)))
   where
     length-bytes : (xs : List ℕ) → length (bytes_of xs) ≡ 8 * length xs
     length-bytes [] = refl
@@ -135,19 +135,19 @@ words-blank (suc n) (suc m) bytes short =
 
 -- behind the bytes of its payload a note's words are 0,
 pub note-blank : (n : Note) (linear : List ℕ) (area m : ℕ) → length linear ≤ 8 * m → IsBlankFrom m (note_body n linear area)
-note-blank n linear area m few = sym (drop-drop m 6 (note_body n linear area)) ∙ words-blank 32 m linear few
+note-blank n linear area m few = sym (drop-drop m field_words (note_body n linear area)) ∙ words-blank payload_width m linear few
 
 -- and so is what is left there before any note
-pub zeros-blank : (m : ℕ) → IsBlankFrom m (replicate 38 0)
+pub zeros-blank : (m : ℕ) → IsBlankFrom m (replicate (note_width - 1) 0)
 zeros-blank m =
-    let many : 38 - (6 + m) ≡ 32 - m = omega arith in
-    drop-replicate (6 + m) 38 0 ∙ ap (λ k. replicate k 0) many
+    let many : note_width - 1 - (field_words + m) ≡ payload_width - m = omega arith in
+    drop-replicate (field_words + m) (note_width - 1) 0 ∙ ap (λ k. replicate k 0) many
 
 -- from a later word on they are so too
 pub blank-later : (m n : ℕ) (body : List ℕ) → m ≤ n → IsBlankFrom m body → IsBlankFrom n body
 blank-later m n body less blank =
-    let at : 6 + n ≡ 6 + m + (n - m) = omega arith in
-    let many : 32 - m - (n - m) ≡ 32 - n = omega arith in
+    let at : field_words + n ≡ field_words + m + (n - m) = omega arith in
+    let many : payload_width - m - (n - m) ≡ payload_width - n = omega arith in
     ap (λ k. drop k body) at
-    ∙ (sym (drop-drop (n - m) (6 + m) body)
-    ∙ (ap (drop (n - m)) blank ∙ (drop-replicate (n - m) (32 - m) 0 ∙ ap (λ k. replicate k 0) many)))
+    ∙ (sym (drop-drop (n - m) (field_words + m) body)
+    ∙ (ap (drop (n - m)) blank ∙ (drop-replicate (n - m) (payload_width - m) 0 ∙ ap (λ k. replicate k 0) many)))

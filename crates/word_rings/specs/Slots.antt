@@ -37,9 +37,13 @@ bytes_of words = flat_map (little_bytes 8) words
 abbrev pub note_width : ℕ
 note_width = NOTE_WORDS
 
--- how many the flag, the fields and the area are, and how many stand behind them for the bytes in which an unsplit payload travels,
+-- how many the flag, the fields and the area are, and without the flag; how many stand behind them for the bytes in which an unsplit
+-- payload travels,
 abbrev pub note_fields : ℕ
 note_fields = NOTE_FIELDS
+
+abbrev pub field_words : ℕ
+field_words = note_fields - 1
 
 abbrev pub payload_width : ℕ
 payload_width = PAYLOAD_WORDS
@@ -56,7 +60,7 @@ note_body n linear area =
 
 -- the payload's words from this one on are 0, in a note slot behind its flag
 abbrev pub IsBlankFrom : ℕ → List ℕ → Type 0
-IsBlankFrom n body = drop (note_fields - 1 + n) body ≡ replicate (payload_width - n) 0
+IsBlankFrom n body = drop (field_words + n) body ≡ replicate (payload_width - n) 0
 
 -- a full one
 abbrev pub note_slot : Note → List ℕ → ℕ → List ℕ
