@@ -1,5 +1,5 @@
 //! An application that takes turns, at the board for one thread: the card's calls and its turns, one after another.
-ghost use Rattle.std.specs.Prelude.{◌≡◌, ◌≢◌, true, IfOk};
+ghost use Rattle.std.specs.Prelude.{◌≡◌, ◌≢◌, ◌<◌, true, IfOk};
 ghost use Rattle.board_face.specs.AppCalls.{IsHere};
 ghost use Rattle.face_table.specs.CardHand.{IsCardHand};
 ghost use Rattle.plain_board.specs.Board.{side_of};
@@ -69,9 +69,7 @@ fn all_free(board: PlainBoard, scene: &Scene) -> Result<usize, Fail>
     if nic.apps() != 1 || !scene.card.ended() || !scene.left {
         return Err(Fail::from("not both have ended"));
     }
-    let board = nic.back();
-    board.sound();
-    Ok(board.finish().free.len())
+    Ok(nic.back().finish().free.len())
 }
 
 /// A call of the card, while the application's side stays as it is.
@@ -92,14 +90,15 @@ fn app_part(
     shelf: &mut MemShelf,
 ) -> (PlainBoard, Turn)
     requires card { IsCardHand board.nic.view card.now }
+    requires few { 0 < board.arrays.layout.reserves }
     requires here { IsHere (side_of board 0).view }
     requires stands { AppStands st.old (side_of board 0).view }
     ensures card { IsCardHand result.0.nic.view card.now }
+    ensures few { 0 < result.0.arrays.layout.reserves }
     ensures here { result.1 ≢ Finished → IsHere (side_of result.0 0).view }
     ensures stands { AppStands st.new (side_of result.0 0).view }
     ensures gone { result.1 ≡ Finished → (side_of result.0 0).view.left ≡ true }
 {
-    board.sound();
     let mut part = board.app(0);
     let turn = app_turn(&mut part, st, shelf);
     (part.back(), turn)

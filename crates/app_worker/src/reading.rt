@@ -105,6 +105,7 @@ pub fn give_due<F: AppFace>(
         len: place.len,
         pad: 0,
     };
+    // Only its answer says that the layout is one, so that the entry names the place.
     let _size = face.size();
     let Lending { note, at, loan } = lending;
     match face.give(loan) {

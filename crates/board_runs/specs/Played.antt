@@ -1,5 +1,5 @@
 -- What stands between two steps of a play, at a board for one thread.
-use Rattle.std.specs.Prelude.{◌≡◌, ℕ, Bool, false}
+use Rattle.std.specs.Prelude.{◌≡◌, ◌<◌, ℕ, Bool, false}
 use Rattle.board_face.specs.{AppCalls.{IsHere, CanLend}, NicCalls.{IsOpen, HasNoToken}, declared.views.app.AppView.{AppView}}
 use Rattle.face_table.specs.Reader.{HasNothing}
 use Rattle.page_pool.specs.Pool.{PoolState, PoolStands}
@@ -7,6 +7,7 @@ use Rattle.plain_board.specs.Board.{Board, side_of}
 
 -- The card keeps its tokens in a pool, and has ended or not. The first application is there, may lend, and has nothing out.
 pub record IsOffering (pool : PoolState) (ended : Bool) (board : Board) : Type 0 where
+  pub few : 0 < board.arrays.layout.reserves
   pub stands : PoolStands pool board.nic.view
   pub going : board.nic.view.ended ≡ ended
   pub here : IsHere (side_of board 0).view

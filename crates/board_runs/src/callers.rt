@@ -118,7 +118,6 @@ fn callers_run_in_turn(rt: HostRuntime) -> Result<(), Fail> {
     let layout = Layout::new(1, 1, 1024).ok_or("no layout")?;
     let mut nic = PlainBoard::open(rt.alloc(), layout, 1, 4)?.nic();
     sends_pending(&rt, rt.alloc(), &mut nic)?;
-    nic.sound();
     let mut app = nic.back().app(0);
     serves(&rt, &mut app);
     is_given_back(&rt, &mut app.back().nic());

@@ -1,6 +1,6 @@
 //! What a board for one thread logs, event by event.
 
-ghost use Rattle.std.specs.Prelude.{◌≤◌};
+ghost use Rattle.std.specs.Prelude.{◌<◌, ◌≤◌};
 ghost use Rattle.run_records.specs.Setting.{most_events};
 ghost use Rattle.face_table.specs.{CardHand.{IsCardHand}, AppHand.{IsAppHand}};
 ghost use Rattle.plain_board.specs.Board.{side_of};
@@ -134,6 +134,7 @@ fn play_parts(
     table: &[Row],
     parts: &[Part],
 ) -> Result<(), Fail>
+    requires few { 0 < board.arrays.layout.reserves }
     requires card { IsCardHand board.nic.view card.old }
     requires app { IsAppHand (side_of board 0).view app.old }
 {

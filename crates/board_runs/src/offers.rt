@@ -226,7 +226,6 @@ fn take(
     requires { IsOffering pool.old ended board }
     ensures { IfOk result (λ told. IsOffering pool.new ended told.0) }
 {
-    board.sound();
     let mut text = [0; 2048];
     let mut app = board.app(0);
     let note = take_note(&mut app, &mut text);

@@ -52,7 +52,6 @@ fn one_step(
     if app >= nic.apps() {
         return Err(Fail::from("no such application"));
     }
-    nic.sound();
     let mut face = nic.back().app(app);
     if !app_step(&mut face, step) {
         return Err(Fail::from("the application can't do it"));

@@ -44,12 +44,13 @@ fn plain_call(
     app: &mut AppHand,
     call: Call,
 ) -> (PlainBoard, Answer)
+    requires few { 0 < board.arrays.layout.reserves }
     requires card { IsCardHand board.nic.view card.old }
     requires app { IsAppHand (side_of board 0).view app.old }
+    ensures few { 0 < result.0.arrays.layout.reserves }
     ensures card { IsCardHand result.0.nic.view card.new }
     ensures app { IsAppHand (side_of result.0 0).view app.new }
 {
-    board.sound();
     match call {
         Call::Card(call) => {
             let mut nic = board.nic();
@@ -73,8 +74,10 @@ pub fn plain_rows(
     app: &mut AppHand,
     table: &[Row],
 ) -> PlainBoard
+    requires few { 0 < board.arrays.layout.reserves }
     requires card { IsCardHand board.nic.view card.old }
     requires app { IsAppHand (side_of board 0).view app.old }
+    ensures few { 0 < result.arrays.layout.reserves }
     ensures card { IsCardHand result.nic.view card.new }
     ensures app { IsAppHand (side_of result 0).view app.new }
 {
@@ -156,9 +159,7 @@ fn plain_free(
     if nic.apps() != 1 || !card.ended() || !app.left() {
         return Err(Fail::from("not all have ended"));
     }
-    let board = nic.back();
-    board.sound();
-    Ok(board.finish().free)
+    Ok(nic.back().finish().free)
 }
 
 /// Whether the first application's count and the pool's are 0 in the words that a board was closed with, for so many buffers.

@@ -28,7 +28,8 @@ pub(crate) fn drain_ring<F: NicFace>(
 {
     let places = face.places();
     let mut count = 0;
-    while count < places && face.cached() < enough {
+    let mut cached = face.cached();
+    while count < places && cached < enough {
         match face.entry(app) {
             Entry::Empty => break,
             Entry::Stray => stats.strays = stats.strays.saturating_add(1),
@@ -36,9 +37,8 @@ pub(crate) fn drain_ring<F: NicFace>(
             Entry::Honoured => {}
         }
         count += 1;
+        cached = face.cached();
     }
-    // Its answer says that at most 128 are cached.
-    let _ = face.cached();
     count
 }
 

@@ -12,15 +12,21 @@ const ENOUGH: u32 = 64;
 
 /// Deals with refill entries of each application, from 0, until 64 buffers are cached.
 pub(crate) fn refill<F: NicFace>(face: &mut F, stats: &mut PoolStats)
+    requires few { length (F.seen face.old).cache ≤ 128 }
     ensures refills { RefillsFirst stats.old stats.new (F.seen face.old) (F.seen face.new) 64
         (apps_of (F.seen face.old).setting) }
     ensures beside { F.beside face.new ≡ F.beside face.old }
 {
-    // Its answer says that at most 128 are cached.
-    let _ = face.cached();
     for app in 0..face.apps() {
         drain_ring(face, stats, app, ENOUGH);
     }
+}
+
+/// There are pool buffers, so the free list has a word: only the answer of `size` says that the layout is one.
+fn has_words<F: NicFace>(face: &F)
+    ensures { 0 < free_words_of (F.seen face.now).setting }
+{
+    let _ = face.size();
 }
 
 /// Sweeps the words of the free list, from 0, until 64 buffers are cached.
@@ -30,8 +36,7 @@ pub(crate) fn sweep<F: NicFace>(face: &mut F)
     ensures some { 0 < free_words_of (F.seen face.old).setting }
     ensures beside { F.beside face.new ≡ F.beside face.old }
 {
-    // Its answer says that there are buffers, so that the list has a word.
-    let _ = face.size();
+    has_words(face);
     for word in 0..face.free_words() {
         if face.cached() < ENOUGH {
             face.sweep(word);

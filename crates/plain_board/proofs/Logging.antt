@@ -10,8 +10,16 @@ use Rattle.board_face.{proofs.CountLaws.{scrub_law}, specs.BoardSteps.{CardStep,
 use Rattle.event_log.specs.{IsLogged.{AreSound, run_of}, Logs.{Kept, all_logged}, ScrubLaw.{scrub_logged, scrub_of, scrubbed_sides}}
 use Rattle.event_log.{specs.StepEvents.{MayTell, app_events, card_events, events_of}, proofs.StepLaw.{step-law}}
 use Rattle.event_log.proofs.{OneSide.{one_side-law}, Scrubs.{scrubbed-law}, Settings.{total-same}, ShortFills.{fills-law}, SoundSides.{sound-law}}
-use Rattle.plain_board.specs.{Events.{IsNoReturn, TookOwed}, Recorded.{IsRecorded}, Stand.{Stand, setting_of, sides_of, side_of, others_of}}
+use Rattle.plain_board.specs.{Board.{Board, Part}, Events.{IsNoReturn, TookOwed}, OneSide.{OnlyCard, OnlyView}, Recorded.{IsRecorded, IsSoundAndRecorded, IsSoundPart}}
+use Rattle.plain_board.specs.Stand.{Stand, setting_of, sides_of, side_of, others_of}
 use Rattle.plain_board.{specs.Sound.{IsSound, taken_of, notes_of, refills_of}, proofs.{AppFrames.{here-of}, Counting.{holders-few}}}
+
+-- the board with this log, and the same in the hands of an application
+abbrev pub with_log : Stand → Kept → Board
+with_log stand log = record { arrays = stand.arrays; nic = stand.nic; apps = stand.apps; log = log }
+
+abbrev pub part_with : Stand → ℕ → Kept → Part
+part_with stand a log = record { board = with_log stand log; app = a }
 
 -- what holds of a board's contents makes its sides sound
 pub sides-sound : (board : Stand) → IsSound board → AreSound (sides_of board)
@@ -33,17 +41,20 @@ sides-sound board sound =
     sound.shown.places sound.by_one sound.filled
 
 -- where a step was made, the log that has its events tells of the board
-module _ (step : Step) (old new : Stand) (sound : IsSound old) (can : Can step (sides_of old)) (may : MayTell step (sides_of old))
-    (made : sides_of new ≡ apply step (sides_of old)) where
+module _ (step : Step) (old new : Stand) (log : Kept) (was : IsSoundAndRecorded (with_log old log)) (can : Can step (sides_of old))
+    (may : MayTell step (sides_of old)) (sound : IsSound new) (made : sides_of new ≡ apply step (sides_of old)) where
   step-told : (events : List Event) → events ≡ events_of step (sides_of old) (sides_of new) → AllByRecursion HasSmallNumbers events
-      → (log : Kept) → IsRecorded (sides_of old) log → IsRecorded (sides_of new) (all_logged log events)
-  step-told events are small log was =
+      → IsSoundAndRecorded (with_log new (all_logged log events))
+  step-told events are small =
       let s = sides_of old in
       let now = apply step s in
       let same : events ≡ events_of step s now = are ∙ ap (events_of step s) made in
       let next : IsRecorded now (all_logged log (events_of step s now)) =
-      step-law step s (sides-sound old sound) can may log (subst (AllByRecursion HasSmallNumbers) same small) was in
-      subst (λ x. IsRecorded x (all_logged log events)) (sym made) (subst (λ es. IsRecorded now (all_logged log es)) (sym same) next)
+      step-law step s (sides-sound old was.sound) can may log (subst (AllByRecursion HasSmallNumbers) same small) was.recorded in
+      record {
+        sound = sound;
+        recorded = subst (λ x. IsRecorded x (all_logged log events)) (sym made) (subst (λ es. IsRecorded now (all_logged log es)) (sym same) next);
+      }
 
 -- ---- the card's calls
 
@@ -61,14 +72,15 @@ sides-are : (nic other : NicSide) (apps others : List AppSide) → nic ≡ other
     → ◌≡◌ {A = AllSides} (record { nic = nic; apps = apps }) (record { nic = other; apps = others })
 sides-are nic other apps others e d = rw (e, d) refl
 
-module _ (step : CardStep) (old new : Stand) (sound : IsSound old) (can : CardCan step (sides_of old)) (may : MayTell (card step) (sides_of old))
-    (nic : new.nic ≡ nic_at old.nic (card_view step old.nic.view)) (apps : new.apps ≡ old.apps) where
-  pub card-made : sides_of new ≡ apply (card step) (sides_of old)
-  card-made = sides-are new.nic (nic_at old.nic (card_view step old.nic.view)) new.apps old.apps nic apps
+pub card-made : (step : CardStep) (old new : Stand) → new.nic ≡ nic_at old.nic (card_view step old.nic.view) → OnlyCard old new
+    → sides_of new ≡ apply (card step) (sides_of old)
+card-made step old new nic only = sides-are new.nic (nic_at old.nic (card_view step old.nic.view)) new.apps old.apps nic only.apps
 
+module _ (step : CardStep) (old new : Stand) (log : Kept) (was : IsSoundAndRecorded (with_log old log)) (can : CardCan step (sides_of old))
+    (may : MayTell (card step) (sides_of old)) (nic : new.nic ≡ nic_at old.nic (card_view step old.nic.view)) (only : OnlyCard old new) where
   pub card-told : (events : List Event) → events ≡ card_events step (sides_of new) → AllByRecursion HasSmallNumbers events
-      → (log : Kept) → IsRecorded (sides_of old) log → IsRecorded (sides_of new) (all_logged log events)
-  card-told = step-told (card step) old new sound can may card-made
+      → IsSoundAndRecorded (with_log new (all_logged log events))
+  card-told = step-told (card step) old new log was can may only.sound (card-made step old new nic only)
 
 pub by-answer : (b : Bool) {A B C : Type 0} → MatchBool b A B → (A → C) → (B → C) → C
 by-answer true it then_do else_do = then_do it
@@ -100,23 +112,31 @@ app-sides old new a now before within others side =
     omega (arith, ap (λ o. length o.apps) others, length-set new.apps a blank_app, length-set old.apps a blank_app, here.there) in
     one_side-law (sides_of old) (sides_of new) a now (ap (λ o. o.card) others) (ap (λ o. o.apps) others) there side
 
-module _ (step : AppStep) (old new : Stand) (a : ℕ) (sound : IsSound old) (within : a < old.arrays.layout.reserves)
-    (can : AppCan step old.nic (side_of old a)) (may : MayTell (app a step) (sides_of old)) (others : others_of new a ≡ others_of old a)
-    (inside : (side_of new a).inside ≡ (side_of old a).inside) (view : (side_of new a).view ≡ app_view step (side_of old a).view) where
+module _ (step : AppStep) (old new : Stand) (a : ℕ) (log : Kept) (was : IsSoundPart (part_with old a log)) (can : AppCan step old.nic (side_of old a))
+    (may : MayTell (app a step) (sides_of old)) (only : OnlyView old new a) (view : (side_of new a).view ≡ app_view step (side_of old a).view) where
   pub app-told : (events : List Event) → events ≡ app_events a step (side_of old a).view (sides_of new) → AllByRecursion HasSmallNumbers events
-      → (log : Kept) → IsRecorded (sides_of old) log → IsRecorded (sides_of new) (all_logged log events)
-  app-told =
+      → IsSoundPart (part_with new a (all_logged log events))
+  app-told events are small =
       let x = side_of old a in
       let v = app_view step x.view in
-      step-told (app a step) old new sound (here-of old a sound within, can) may
-      (app-sides old new a (app_at x v) sound within others (side-is x (side_of new a) v view inside))
+      let made = app-sides old new a (app_at x v) was.board.sound was.app only.others (side-is x (side_of new a) v view only.inside) in
+      record {
+        app = rw only.layout was.app;
+        board = step-told (app a step) old new log was.board (here-of old a was.board.sound was.app, can) may only.sound made events are small;
+      }
 
-pub ended-returned : (old : Stand) (a : ℕ) → IsSound old → a < old.arrays.layout.reserves → (b : ℕ) → EndedWereReturned b old.nic (side_of old a)
-ended-returned old a sound within b = (sides-sound old sound).fit.ended a b (side_of old a) (here-of old a sound within)
+pub ended-returned : (old : Stand) (a : ℕ) (log : Kept) → IsSoundPart (part_with old a log) → (b : ℕ) → EndedWereReturned b old.nic (side_of old a)
+ended-returned old a log was b = (sides-sound old was.board.sound).fit.ended a b (side_of old a) (here-of old a was.board.sound was.app)
 
 -- a scrub, which is logged before it takes what the application owes
-module _ (old new : Stand) (a : ℕ) (before : IsSound old) (within : a < old.arrays.layout.reserves) (others : others_of new a ≡ others_of old a)
+module _ (old new : Stand) (a : ℕ) (kept : Kept) (was : IsSoundPart (part_with old a kept)) (others : others_of new a ≡ others_of old a)
     (loans : (side_of old a).view.loans ≡ []) (took : TookOwed old new a) where
+  before : IsSound old
+  before = was.board.sound
+
+  within : a < old.arrays.layout.reserves
+  within = was.app
+
   abbrev after : AllSides
   after = scrubbed_sides (sides_of old) a (side_of old a) took.total
 
@@ -137,18 +157,25 @@ module _ (old new : Stand) (a : ℕ) (before : IsSound old) (within : a < old.ar
   scrubbed-made : sides_of new ≡ after
   scrubbed-made = app-sides old new a (scrubbed_by (side_of old a) took.total) before within others took.side
 
-  pub scrub-told : (kept said : Kept)
+  pub scrub-told : (said : Kept)
       → ((later : AllSides) → Scrubs a (sides_of old) later → said ≡ scrub_logged (sides_of old) later a kept (all_buffers old.arrays.layout))
       → said ≡ scrub_logged (sides_of old) (sides_of new) a kept (all_buffers old.arrays.layout)
-  scrub-told kept said tells = tells (sides_of new) (subst (Scrubs a (sides_of old)) (sym scrubbed-made) is-scrub)
+  scrub-told said tells = tells (sides_of new) (subst (Scrubs a (sides_of old)) (sym scrubbed-made) is-scrub)
 
-  pub scrub-logs : (kept said : Kept)
+  scrub-logs : (said : Kept)
       → ((then : AllSides) → Scrubs a (sides_of old) then → said ≡ scrub_logged (sides_of old) then a kept (all_buffers old.arrays.layout))
-      → IsRecorded (sides_of old) kept → IsRecorded (sides_of new) said
-  scrub-logs kept said tells was =
+      → IsRecorded (sides_of new) said
+  scrub-logs said tells =
       let x = side_of old a in
       let here = here-of old a before within in
       let now = scrubbed_by x took.total in
-      let logged = scrubbed-law (sides_of old) (sides-sound old before) a x here loans took.total took.all kept small-scrub was.logged in
+      let recorded = was.board.recorded in
+      let logged = scrubbed-law (sides_of old) (sides-sound old before) a x here loans took.total took.all kept small-scrub recorded.logged in
       rw (scrubbed-made, tells after is-scrub)
-      (record { logged = rw all-there at logged; short = fills-law.same old.apps a x now here refl was.short })
+      (record { logged = rw all-there at logged; short = fills-law.same old.apps a x now here refl recorded.short })
+
+  pub scrubbed-part : new.arrays.layout ≡ old.arrays.layout → IsSound new → (said : Kept)
+      → ((then : AllSides) → Scrubs a (sides_of old) then → said ≡ scrub_logged (sides_of old) then a kept (all_buffers old.arrays.layout))
+      → IsSoundPart (part_with new a said)
+  scrubbed-part layout sound said tells =
+      record { app = rw layout within; board = record { sound = sound; recorded = scrub-logs said tells } }

@@ -1,5 +1,5 @@
 -- A look for a note: which note was the next, and what of it is logged.
-use Rattle.std.{proofs.Common.{◌≡◌, ℕ, ◌<◌, List, [], ◌∷◌, ◌++◌, map, take, refl, ap, append_assoc}, specs.List.{AllByRecursion}}
+use Rattle.std.{proofs.Common.{◌≡◌, ℕ, List, [], ◌∷◌, ◌++◌, map, take, refl, ap, append_assoc}, specs.List.{AllByRecursion}}
 use Rattle.zr_kinds.specs.declared.{place.{Note.{Note}, Place.{Place}}, ring.Rqe.{Rqe}}
 use Rattle.board_face.specs.{AppCalls.{Looked, TookNote}, AppEvents.{took_linear, took_note}, Holders.{sent_to}, Laws.{IsNextNote}}
 use Rattle.board_face.specs.{Relay.{Relayed, as_taken}, Sides.{IsApp}, declared.answers.Polled.{Polled}}
@@ -9,8 +9,8 @@ use Rattle.board_face.{proofs.RelayLemmas.{NoteComesNext-relayed}, specs.BoardSt
 use Rattle.run_records.specs.{declared.event.Event.{Event}, LegalRun.{HasSmallNumbers}}
 use Rattle.run_records.specs.declared.event.Event.TheVariants as event
 use Rattle.event_log.specs.{Logs.{Kept, all_logged, logged}, StepEvents.{MayTell, app_events}}
-use Rattle.plain_board.specs.{Board.{Part}, Told.{PollTells}}
-use Rattle.plain_board.{specs.{Recorded.{IsRecorded}, Stand.{Stand, side_of, sides_of, others_of}, Sound.{IsSound}}, proofs.{AppFrames.{here-of}, Logging.{app-told}}}
+use Rattle.plain_board.specs.{Board.{Part}, Told.{PollTells}, OneSide.{OnlyView}, Recorded.{IsSoundPart}, Stand.{Stand, side_of, sides_of}}
+use Rattle.plain_board.proofs.{AppFrames.{here-of}, Logging.{app-told, part_with}}
 
 next-note : (nic : NicSide) (x : AppSide) (t : TakenNote) (ns us : List TakenNote) (es : List Rqe)
     → (x.view.taken ++ t ∷ []) ++ ns ≡ map as_taken (sent_to x.view.app nic) → Relayed nic x us es → IsNextNote nic x t.note
@@ -22,35 +22,33 @@ next-note nic x t ns us es sent was =
 abbrev pub HasNoNote : Polled → Type 0
 HasNoNote polled = (note : Note) (held : Place) → polled ≡ got_note note held → ⊥
 
-module _ (old new : Stand) (a : ℕ) (before : IsSound old) (after : IsSound new) (within : a < old.arrays.layout.reserves)
-    (layout : new.arrays.layout ≡ old.arrays.layout) (others : others_of new a ≡ others_of old a)
-    (inside : (side_of new a).inside ≡ (side_of old a).inside) where
+module _ (old new : Stand) (a : ℕ) (log : Kept) (was : IsSoundPart (part_with old a log)) (only : OnlyView old new a) where
   here : IsApp old.apps a (side_of old a)
-  here = here-of old a before within
+  here = here-of old a was.board.sound was.app
 
   -- what it took now was the next
   taken-next : (v : AppView) (t : TakenNote) → (side_of new a).view ≡ v → v.taken ≡ (side_of old a).view.taken ++ t ∷ []
       → v.app ≡ (side_of old a).view.app → IsNextNote old.nic (side_of old a) t.note
   taken-next v t view takes same =
-      let nic : new.nic ≡ old.nic = ap (λ o. o.card) others in
-      let now = after.relayed.relayed a (side_of new a) (here-of new a after (rw layout within)) in
-      next-note old.nic (side_of old a) t _ _ _ (rw (view, nic, takes, same) at now.notes) (before.relayed.relayed a (side_of old a) here)
+      let nic : new.nic ≡ old.nic = ap (λ o. o.card) only.others in
+      let now = only.sound.relayed.relayed a (side_of new a) (here-of new a only.sound (rw only.layout was.app)) in
+      next-note old.nic (side_of old a) t _ _ _ (rw (view, nic, takes, same) at now.notes) (was.board.sound.relayed.relayed a (side_of old a) here)
 
   told : (step : AppStep) → AppCan step old.nic (side_of old a) → MayTell (app a step) (sides_of old)
       → (side_of new a).view ≡ app_view step (side_of old a).view
       → (events : List Event) → events ≡ app_events a step (side_of old a).view (sides_of new) → AllByRecursion HasSmallNumbers events
-      → (log : Kept) → IsRecorded (sides_of old) log → IsRecorded (sides_of new) (all_logged log events)
-  told step can may = app-told step old new a before within can may others inside
+      → IsSoundPart (part_with new a (all_logged log events))
+  told step can may = app-told step old new a log was can may only
 
   pub polled-note : (note : Note) (held : Place) → TookNote (side_of old a).view (side_of new a).view note held
-      → HasSmallNumbers (event.Held a note.place.buffer note.place.offset note.place.len) → (log : Kept) → IsRecorded (sides_of old) log
-      → IsRecorded (sides_of new) (logged log (event.Held a note.place.buffer note.place.offset note.place.len))
+      → HasSmallNumbers (event.Held a note.place.buffer note.place.offset note.place.len)
+      → IsSoundPart (part_with new a (logged log (event.Held a note.place.buffer note.place.offset note.place.len)))
   polled-note note held it small =
       let next = taken-next (took_note (side_of old a).view note) (record { note = note; bytes = [] }) it.event refl refl in
       told (polls note) (it.fields.split, next) tt it.event (event.Held a note.place.buffer note.place.offset note.place.len ∷ []) refl (small, tt)
 
   pub polled-other : (linear : List ℕ) (polled : Polled) → Looked (side_of old a).view (side_of new a).view linear polled → HasNoNote polled
-      → (log : Kept) → IsRecorded (sides_of old) log → IsRecorded (sides_of new) log
+      → IsSoundPart (part_with new a log)
   polled-other linear (got_note note held) it none = absurd (none note held refl)
   polled-other linear (got_linear note) it none =
       let bytes = take note.total linear in

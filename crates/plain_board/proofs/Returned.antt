@@ -9,12 +9,8 @@ use Rattle.plain_board.specs.{Board.{Board}, Events.{GaveBack, IsNoReturn, IsRet
 use Rattle.board_face.specs.{BoardSteps.{CardCan, card_view}, Laws.{pool_of, user_of}, NicEvents.{gave_up, honoured}}
 use Rattle.run_records.specs.{declared.event.Event.{Event}, LegalRun.{HasSmallNumbers}}
 use Rattle.run_records.specs.declared.event.Event.TheVariants as event
-use Rattle.plain_board.{specs.Recorded.{IsRecorded}, proofs.Logging.{card-made, card-told, nic-by, sides-sound}}
+use Rattle.plain_board.{specs.{OneSide.{OnlyCard}, Recorded.{IsSoundAndRecorded}}, proofs.Logging.{card-made, card-told, nic-by, sides-sound, with_log}}
 use Rattle.std.proofs.Common.{sym, ◌∙◌}
-
--- the board with this log
-abbrev pub with_log : Stand → Kept → Board
-with_log stand log = record { arrays = stand.arrays; nic = stand.nic; apps = stand.apps; log = log }
 
 record First (b : ℕ) (owed : List Place) : Type 0 where
   pub place : Place
@@ -58,8 +54,11 @@ was-owed old new a b sound here gave =
 
 -- ---- what the log tells
 
-module _ (old new : Stand) (a b : ℕ) (sound : IsSound old) (after : IsSound new) (here : IsApp old.apps a (side_of old a)) (gave : GaveBack old new a b)
-    (apps : new.apps ≡ old.apps) where
+module _ (old new : Stand) (a b : ℕ) (log : Kept) (was : IsSoundAndRecorded (with_log old log)) (here : IsApp old.apps a (side_of old a))
+    (gave : GaveBack old new a b) (only : OnlyCard old new) where
+  sound : IsSound old
+  sound = was.sound
+
   owed : WasOwed b old a
   owed = was-owed old new a b sound here gave
 
@@ -68,11 +67,11 @@ module _ (old new : Stand) (a b : ℕ) (sound : IsSound old) (after : IsSound ne
 
   honoured-nic : new.nic ≡ nic_at old.nic (card_view (honours a gave.entry owed.place gave.last) old.nic.view)
   honoured-nic =
-      let is = nic-by old new (gave_up (honoured old.nic.view a gave.entry b) b gave.last) sound after gave.event refl in
+      let is = nic-by old new (gave_up (honoured old.nic.view a gave.entry b) b gave.last) sound only.sound gave.event refl in
       subst (λ c. new.nic ≡ nic_at old.nic (gave_up (honoured old.nic.view a gave.entry c) c gave.last)) (sym owed.there) is
 
   honoured-made : sides_of new ≡ apply (card (honours a gave.entry owed.place gave.last)) (sides_of old)
-  honoured-made = card-made (honours a gave.entry owed.place gave.last) old new sound can tt honoured-nic apps
+  honoured-made = card-made (honours a gave.entry owed.place gave.last) old new honoured-nic only
 
   abbrev honour : ℕ → ℕ → Event
   honour pool user = event.Honour a b pool user
@@ -82,19 +81,19 @@ module _ (old new : Stand) (a b : ℕ) (sound : IsSound old) (after : IsSound ne
   honour-is pool user pools users = rw (owed.there, pools, users) refl
 
   pub honour-told : (pool user : ℕ) → pool ≡ pool_of (sides_of new) b → user ≡ user_of (sides_of new) a b → HasSmallNumbers (honour pool user)
-      → (log : Kept) → IsRecorded (sides_of old) log → IsRecorded (sides_of new) (logged log (honour pool user))
+      → IsSoundAndRecorded (with_log new (logged log (honour pool user)))
   honour-told pool user pools users small =
-      card-told (honours a gave.entry owed.place gave.last) old new sound can tt honoured-nic apps (honour pool user ∷ [])
+      card-told (honours a gave.entry owed.place gave.last) old new log was can tt honoured-nic only (honour pool user ∷ [])
       (honour-is pool user pools users) (small, tt)
 
-  pub honour-tells : (was now : Kept) (pool user : ℕ) → pool ≡ pool_of (sides_of new) b → user ≡ user_of (sides_of new) a b
-      → now ≡ logged was (honour pool user) → HonourTells a (with_log old was) (with_log new now)
-  honour-tells was now pool user pools users is = record {
+  pub honour-tells : (now : Kept) (pool user : ℕ) → pool ≡ pool_of (sides_of new) b → user ≡ user_of (sides_of new) a b
+      → now ≡ logged log (honour pool user) → HonourTells a (with_log old log) (with_log new now)
+  honour-tells now pool user pools users is = record {
     entry = gave.entry;
     place = owed.place;
     last = gave.last;
     made = honoured-made;
-    log = is ∙ ap (all_logged was) (honour-is pool user pools users);
+    log = is ∙ ap (all_logged log) (honour-is pool user pools users);
   }
 
 -- what the log tells, by the answer

@@ -1,11 +1,12 @@
 pub mod Stand
 pub mod Returns
 pub mod Sound
+pub mod OneSide
 pub mod Seen
 pub mod Finish
 pub mod Lent
 pub mod Users
 pub mod Events
-pub mod Recorded
 pub mod Board
+pub mod Recorded
 pub mod Told

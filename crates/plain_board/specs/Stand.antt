@@ -57,12 +57,6 @@ side_of board a = side_in board.apps a
 abbrev pub others_of : Stand → ℕ → Others
 others_of board a = record { card = board.nic; apps = slice_set board.apps a blank_app; number = a; room = 0 }
 
--- Of what the roles have done and know only the application's view changed, and the layout is as it was.
-pub record OnlyView (old new : Stand) (a : ℕ) : Type 0 where
-  pub inside : (side_of new a).inside ≡ (side_of old a).inside
-  pub others : others_of new a ≡ others_of old a
-  pub layout : new.arrays.layout ≡ old.arrays.layout
-
 -- No count, no free place, no byte and no note changed.
 pub record SameBuffers (old new : Arrays) : Type 0 where
   pub area : new.area ≡ old.area

@@ -17,33 +17,24 @@ pub struct PlainApp {
 }
 
 impl Model for PlainApp {
-    ghost use Rattle.std.specs.Prelude.{◌<◌};
-    ghost use Rattle.plain_board.specs.{Board.{Part, board_of, sides_of}, Recorded.{IsRecorded}};
+    ghost use Rattle.plain_board.specs.{Board.{Part, board_of}, Recorded.{IsSoundPart}};
 
     ghost Value = { Part };
 
     ghost view = { λ p. record { board = board_of p.board.value; app = p.app } };
 
-    ghost invariant = { λ p.
-        (p.app < p.board.value.contents.arrays.layout.reserves)
-        × IsRecorded (sides_of (view p).board) (view p).board.log };
+    ghost invariant = { λ p. IsSoundPart (view p) };
 }
 
 impl PlainApp {
-    /// Gives the board back with all that it holds, tokens that are out included.
+    /// Gives the board back with all that it holds, tokens that are out included. The application is one of its.
     pub fn back(self) -> PlainBoard
-        ensures { result ≡ self.board }
+        ensures board { result ≡ self.board }
+        ensures sound { IsSound (stand_of result) }
+        ensures log { IsRecorded (sides_of result) result.log }
+        ensures app { self.app < result.arrays.layout.reserves }
     {
         PlainBoard { board: self.board }
-    }
-
-    /// What holds of the board, as `PlainBoard::sound` says it.
-    pub fn sound(&self)
-        ensures contents { IsSound (stand_of self.now.board) }
-        ensures log { IsRecorded (sides_of self.now.board) self.now.board.log }
-        ensures app { self.now.app < self.now.board.arrays.layout.reserves }
-    {
-        self.board.contents.sound();
     }
 }
 
@@ -85,9 +76,7 @@ impl AppFace for PlainApp {
         ensures beside { beside_of self.new ≡ beside_of self.old }
         ensures log { PollTells result self.old self.new }
     {
-        self.board.contents.sound();
         let polled = self.board.contents.poll(self.app, linear);
-        self.board.contents.sound();
         if let Polled::Note(note, _) = &polled {
             self.board.log.push(Event::Held {
                 app: self.app,
@@ -109,7 +98,6 @@ impl AppFace for PlainApp {
         ensures beside { beside_of self.new ≡ beside_of self.old }
         ensures log { AppTells (cuts held at) self.old self.new }
     {
-        self.board.contents.sound();
         let place = held.place();
         let parts = self.board.contents.cut(self.app, held, at);
         let pool = self.board.contents.pool_count(place.buffer);
@@ -135,7 +123,6 @@ impl AppFace for PlainApp {
         ensures beside { beside_of self.new ≡ beside_of self.old }
         ensures log { self.new.board.log ≡ self.old.board.log }
     {
-        self.board.contents.sound();
         self.board.contents.settle(self.app)
     }
 
@@ -148,7 +135,6 @@ impl AppFace for PlainApp {
         ensures beside { beside_of self.new ≡ beside_of self.old }
         ensures log { AppTells (lends held) self.old self.new }
     {
-        self.board.contents.sound();
         let loan = self.board.contents.lend(self.app, held);
         let place = loan.place();
         let pool = self.board.contents.pool_count(place.buffer);
@@ -173,7 +159,6 @@ impl AppFace for PlainApp {
         ensures beside { beside_of self.new ≡ beside_of self.old }
         ensures log { self.new.board.log ≡ self.old.board.log }
     {
-        self.board.contents.sound();
         self.board.contents.read(self.app, loan, from, into);
     }
 
@@ -189,7 +174,6 @@ impl AppFace for PlainApp {
         ensures log { MatchResult result (λ _. AppTells (gives loan) self.old self.new)
             (λ _. self.new.board.log ≡ self.old.board.log) }
     {
-        self.board.contents.sound();
         let place = loan.place();
         self.board.contents.give(self.app, loan)?;
         let user = self.board.contents.user_count(self.app, place.buffer);
@@ -220,7 +204,6 @@ impl AppFace for PlainApp {
         ensures beside { beside_of self.new ≡ beside_of self.old }
         ensures log { self.new.board.log ≡ self.old.board.log }
     {
-        self.board.contents.sound();
         self.board.contents.push_raw(self.app, entry)
     }
 
@@ -231,7 +214,6 @@ impl AppFace for PlainApp {
         ensures beside { beside_of self.new ≡ beside_of self.old }
         ensures log { AppTells (releases held) self.old self.new }
     {
-        self.board.contents.sound();
         let place = held.place();
         self.board.contents.release(self.app, held);
         let pool = self.board.contents.pool_count(place.buffer);
@@ -258,7 +240,6 @@ impl AppFace for PlainApp {
         ensures log { MatchOption result (self.new.board.log ≡ self.old.board.log)
             (λ own. AppTells (spares own.buffer) self.old self.new) }
     {
-        self.board.contents.sound();
         let own = self.board.contents.spare(self.app)?;
         let buffer = own.buffer();
         let pool = self.board.contents.pool_count(buffer);
@@ -281,7 +262,6 @@ impl AppFace for PlainApp {
         ensures beside { beside_of self.new ≡ beside_of self.old }
         ensures log { self.new.board.log ≡ self.old.board.log }
     {
-        self.board.contents.sound();
         self.board.contents.fill(self.app, own, bytes);
     }
 
@@ -296,7 +276,6 @@ impl AppFace for PlainApp {
         ensures beside { beside_of self.new ≡ beside_of self.old }
         ensures log { AppTells (lends_own own) self.old self.new }
     {
-        self.board.contents.sound();
         let loan = self.board.contents.lend_own(self.app, own);
         let place = loan.place();
         let pool = self.board.contents.pool_count(place.buffer);
@@ -318,7 +297,6 @@ impl AppFace for PlainApp {
         ensures beside { beside_of self.new ≡ beside_of self.old }
         ensures log { AppTells (abandons loan) self.old self.new }
     {
-        self.board.contents.sound();
         let place = loan.place();
         self.board.contents.abandon(self.app, loan);
         let user = self.board.contents.user_count(self.app, place.buffer);
@@ -341,7 +319,6 @@ impl AppFace for PlainApp {
         ensures beside { beside_of self.new ≡ beside_of self.old }
         ensures log { self.new.board.log ≡ self.old.board.log }
     {
-        self.board.contents.sound();
         self.board.contents.quiet(self.app)
     }
 
@@ -352,7 +329,6 @@ impl AppFace for PlainApp {
         ensures beside { beside_of self.new ≡ beside_of self.old }
         ensures log { ScrubTells self.old self.new }
     {
-        self.board.contents.sound();
         self.board.log_scrub(self.app);
         self.board.contents.scrub(self.app);
     }
@@ -364,7 +340,6 @@ impl AppFace for PlainApp {
         ensures beside { beside_of self.new ≡ beside_of self.old }
         ensures log { self.new.board.log ≡ self.old.board.log }
     {
-        self.board.contents.sound();
         self.board.contents.leave(self.app);
     }
 }

@@ -1,6 +1,6 @@
 ghost use Rattle.std.specs.Prelude.{◌≡◌, ◌<◌};
 ghost use Rattle.board_face.specs.{AppCalls.{IsHere, CanScrub, CanLeave}, AppEvents.{scrubbed, left_board}};
-ghost use Rattle.plain_board.specs.{Events.{TookOwed}, Stand.{side_of, others_of, OnlyView}};
+ghost use Rattle.plain_board.specs.{Events.{TookOwed}, OneSide.{OnlyView}, Sound.{IsSound}, Stand.{side_of, others_of}};
 
 use crate::contents::Contents;
 use board_parts::{note_at, put, take_back};
@@ -16,6 +16,7 @@ impl Contents {
         ensures taken { TookOwed self.old self.new app }
         ensures others { others_of self.new app ≡ others_of self.old app }
         ensures layout { self.new.arrays.layout ≡ self.old.arrays.layout }
+        ensures sound { IsSound self.new }
     {
         let users = self.users.as_slice();
         note_at::<Brand, &[u64]>(&mut self.apps, app as usize, users);

@@ -1,6 +1,6 @@
 ghost use Rattle.std.specs.Prelude.{◌≡◌, ◌<◌, true, false, IfErr, IsTrue, MatchBool, MatchResult};
 ghost use Rattle.board_face.specs.{declared.views.app.AppLook.TheVariants.{RefillInUse, RawOnItsWay, NotQuiet}, AppCalls.{IsHere, NamesNoLoan, AppOnlySaw}, AppEvents.{pushed_raw, came_to_rest, fell_quiet}, NotNow.{HasWritten, HasWrittenRingful, HasPushedRaw}};
-ghost use Rattle.plain_board.specs.{Stand.{side_of, OnlyView}, Seen.{AppSawSo}};
+ghost use Rattle.plain_board.specs.{OneSide.{OnlyView}, Stand.{side_of}, Seen.{AppSawSo}};
 
 use crate::contents::Contents;
 use board_parts::{note_at, put, put_back, ring_len};

@@ -1,6 +1,6 @@
 ghost use Rattle.std.specs.Prelude.{◌≡◌, ◌+◌, ◌<◌, ◌≤◌, ◌↔◌, length, IfErr, IsTrue, MatchResult};
 ghost use Rattle.board_face.specs.{declared.views.app.AppLook.TheVariants.{RefillInUse}, AppCalls.{IsHere, HasLoan, IsLive, AppOnlySaw, ShowsCopy}, AppEvents.{has_read, loan_origin, gave, abandoned}, NotNow.{HasWrittenRingful}};
-ghost use Rattle.plain_board.specs.{Stand.{side_of, OnlyView}, Seen.{AppSawSo}};
+ghost use Rattle.plain_board.specs.{OneSide.{OnlyView}, Stand.{side_of}, Seen.{AppSawSo}};
 
 use crate::contents::Contents;
 use board_face::Loan;

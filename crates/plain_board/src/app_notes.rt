@@ -1,6 +1,6 @@
 ghost use Rattle.std.specs.Prelude.{◌≡◌, ◌<◌, false};
 ghost use Rattle.board_face.specs.{AppCalls.{IsHere, Looked}, declared.answers.Polled.TheVariants.{Empty as got_none}};
-ghost use Rattle.plain_board.specs.{Stand.{side_of, OnlyView}, Seen.{AppSawSo}};
+ghost use Rattle.plain_board.specs.{OneSide.{OnlyView}, Stand.{side_of}, Seen.{AppSawSo}};
 
 use crate::contents::Contents;
 use board_face::{Held, Polled};

@@ -1,6 +1,6 @@
 ghost use Rattle.std.specs.Prelude.{◌≡◌, ◌<◌};
 ghost use Rattle.board_face.specs.{AppCalls.{IsHere, HasHeld, CanLend}, AppEvents.{cut, released, lent}, Texts.{front_place, rest_place}};
-ghost use Rattle.plain_board.specs.Stand.{side_of, OnlyView};
+ghost use Rattle.plain_board.specs.{OneSide.{OnlyView}, Stand.{side_of}};
 
 use crate::contents::Contents;
 use board_face::{Held, Loan};

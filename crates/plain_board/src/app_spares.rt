@@ -1,6 +1,6 @@
 ghost use Rattle.std.specs.Prelude.{◌≡◌, ◌<◌, ◌≤◌, length, IfNone, IfSome, MatchOption};
 ghost use Rattle.board_face.specs.{declared.views.app.AppLook.TheVariants.{NoSpare}, Tokens.{filled_by}, AppCalls.{IsHere, HasSpare, CanLend, MaySpare, IsFilled, AppOnlySaw, GotSpare}, NotNow.{HasUsedReserve}, AppEvents.{app_gist, filled, own_bytes, begin_place, lent_own}, Counts.{pool_count}};
-ghost use Rattle.plain_board.specs.{Stand.{side_of, others_of, OnlyView}, Seen.{AppSawSo, IsFoundLowest}};
+ghost use Rattle.plain_board.specs.{OneSide.{OnlyView}, Stand.{side_of, others_of}, Seen.{AppSawSo, IsFoundLowest}};
 
 use crate::contents::Contents;
 use board_face::{Filling, Loan, Own};

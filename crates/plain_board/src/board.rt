@@ -15,24 +15,28 @@ use zr_kinds::Ended;
 
 /// A board for one thread: counts, rings and free buffers in plain arrays, and a log of its events. All its memory is taken
 /// at opening. It stands behind a pointer, since it goes into a role's hands for each turn, and back.
+///
+/// Between any two calls every board is sound (`IsSound`): counts are holders, each pool buffer is free once or held, the area has
+/// each text at its place, what lies in the slots is what is on its way, what was read is what was sent, and no entry of a loan was
+/// a stray. And its log tells how that came about (`IsRecorded`). So says each call that gives a board: `open`, and `back` of a part.
 #[derive(Drop)]
 pub struct PlainBoard {
     pub(crate) board: Box<Logged>,
 }
 
 impl Model for PlainBoard {
-    ghost use Rattle.plain_board.specs.{Board.{Board, board_of, sides_of}, Recorded.{IsRecorded}};
+    ghost use Rattle.plain_board.specs.{Board.{Board, board_of}, Recorded.{IsSoundAndRecorded}};
 
     ghost Value = { Board };
 
     ghost view = { λ b. board_of b.board.value };
 
-    ghost invariant = { λ b. IsRecorded (sides_of (view b)) (view b).log };
+    ghost invariant = { λ b. IsSoundAndRecorded (view b) };
 }
 
 impl PlainBoard {
     /// A board on which nothing has happened, each pool buffer on the free list. All its memory is taken here. It keeps no
-    /// event.
+    /// event. As every board it is sound, and its log tells of it.
     pub fn open(
         alloc: Global,
         layout: Layout,
@@ -42,7 +46,9 @@ impl PlainBoard {
         requires reserves { layout.reserves ≡ apps }
         requires some { 1 ≤ places }
         requires few { places ≤ 256 }
-        ensures { IfOk result (λ board. board ≡ new_board layout places 0) }
+        ensures board { IfOk result (λ board. board ≡ new_board layout places 0) }
+        ensures sound { IfOk result (λ board. IsSound (stand_of board)) }
+        ensures log { IfOk result (λ board. IsRecorded (sides_of board) board.log) }
     {
         PlainBoard::open_logged(alloc, layout, apps, places, 0)
     }
@@ -59,7 +65,9 @@ impl PlainBoard {
         requires some { 1 ≤ places }
         requires few { places ≤ 256 }
         requires room { events ≤ most_events }
-        ensures { IfOk result (λ board. board ≡ new_board layout places events) }
+        ensures board { IfOk result (λ board. board ≡ new_board layout places events) }
+        ensures sound { IfOk result (λ board. IsSound (stand_of board)) }
+        ensures log { IfOk result (λ board. IsRecorded (sides_of board) board.log) }
     {
         let contents = Contents::open(alloc, layout, apps, places)?;
         let log = EventLog::open(alloc, events)?;
@@ -91,16 +99,6 @@ impl PlainBoard {
         ensures whole { result.now.whole ≡ self.now.log.whole }
     {
         self.board.log.log()
-    }
-
-    /// What holds of every board, between any two calls: counts are holders, each pool buffer is free once or held, the
-    /// area has each text at its place, what lies in the slots is what is on its way, what was read is what was sent, and
-    /// no entry of a loan was a stray; and the log tells how that came about. It does nothing: its contract says so.
-    pub fn sound(&self)
-        ensures contents { IsSound (stand_of self.now) }
-        ensures log { IsRecorded (sides_of self.now) self.now.log }
-    {
-        self.board.contents.sound();
     }
 
     /// Ends a board that all have left, and answers its free buffers. It takes no memory.

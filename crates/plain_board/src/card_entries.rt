@@ -1,6 +1,6 @@
 ghost use Rattle.std.specs.Prelude.{◌≡◌, ◌≢◌, ◌<◌, MatchOption};
 ghost use Rattle.board_face.specs.NicCalls.{apps_of, DealtWith};
-ghost use Rattle.plain_board.specs.{Events.{IsNoReturn, IsReturn, GaveBack}, Stand.{SameBuffers}, Seen.{IsJudged, CardSawSo}};
+ghost use Rattle.plain_board.specs.{Events.{IsNoReturn, IsReturn, GaveBack}, OneSide.{OnlyCard}, Stand.{SameBuffers}, Seen.{IsJudged, CardSawSo}};
 
 use crate::contents::Contents;
 use board_face::Entry;
@@ -19,7 +19,7 @@ impl Contents {
         ensures returned { MatchOption result.1 (IsNoReturn result.0)
             (λ buffer. IsReturn result.0 × GaveBack self.old self.new app buffer) }
         ensures told { CardSawSo self.old self.new }
-        ensures apps { self.new.apps ≡ self.old.apps }
+        ensures only { OnlyCard self.old self.new }
     {
         let Some(entry) = take_front(&mut self.refills, app as usize) else {
             let nic = &mut self.nic;

@@ -1,6 +1,6 @@
 ghost use Rattle.std.specs.Prelude.{◌≡◌, ◌<◌, false, length, IfErr, MatchBool, MatchResult};
 ghost use Rattle.board_face.specs.{declared.views.nic.NicLook.TheVariants.{NoteInUse}, NicCalls.{apps_of, IsOpen, HasPiece}, NicEvents.{sent, sent_linear, nic_saw}, NotNow.{HasSentRingful}, Sides.{nic_at}, Texts.{IsSplitNote, IsLinearNote}};
-ghost use Rattle.plain_board.specs.Seen.{CardSawSo};
+ghost use Rattle.plain_board.specs.{OneSide.{OnlyCard}, Seen.{CardSawSo}};
 
 use crate::contents::Contents;
 use board_face::Piece;
@@ -22,7 +22,7 @@ impl Contents {
             ≡ nic_at self.old.nic (nic_saw self.old.nic.view (NoteInUse app)))) }
         ensures full { IfErr result (λ _. HasSentRingful self.old.nic.view app) }
         ensures told { CardSawSo self.old self.new }
-        ensures apps { self.new.apps ≡ self.old.apps }
+        ensures only { OnlyCard self.old self.new }
     {
         let slot = NoteSlot {
             note,
@@ -49,7 +49,7 @@ impl Contents {
             (self.new.nic ≡ nic_at self.old.nic (nic_saw self.old.nic.view (NoteInUse app))) }
         ensures full { result ≡ false → HasSentRingful self.old.nic.view app }
         ensures told { CardSawSo self.old self.new }
-        ensures apps { self.new.apps ≡ self.old.apps }
+        ensures only { OnlyCard self.old self.new }
     {
         let slot = NoteSlot {
             note,

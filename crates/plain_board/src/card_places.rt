@@ -1,5 +1,6 @@
 ghost use Rattle.std.specs.Prelude.{◌≡◌, ◌+◌, ◌<◌, ◌≤◌, length};
 ghost use Rattle.board_face.specs.{NicCalls.{IsOpen, HasOwn}, NicEvents.{placed}, Sides.{nic_at}, Tokens.{filled_by, next_place}};
+ghost use Rattle.plain_board.specs.OneSide.{OnlyCard};
 
 use crate::contents::Contents;
 use board_face::{Filling, Own, Piece};
@@ -18,7 +19,7 @@ impl Contents {
         ensures own { own.new ≡ filled_by own.old (length bytes.now) }
         ensures view { self.new.nic
             ≡ nic_at self.old.nic (placed self.old.nic.view own.old bytes.now) }
-        ensures apps { self.new.apps ≡ self.old.apps }
+        ensures only { OnlyCard self.old self.new }
     {
         let filling = filling_of(own);
         let place = Place {

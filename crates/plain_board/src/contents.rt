@@ -1,7 +1,7 @@
 ghost use Rattle.std.specs.Prelude.{◌≡◌, ℕ, ◌/◌, ◌<◌, ◌≤◌, [], false, length, slice_index, ◌==◌, MatchOption, MatchBool, IfOk, IfSome};
 ghost use Rattle.board_face.specs.{Counts.{pool_count}, NicCalls.{apps_of, IsOpen, HasOwn, HasNoToken, TookBuffer, SweptWord, free_words_of, lost_of, sent_unsplit_bytes}, NicEvents.{word_bits, shut, nic_ended, saw_leave, nic_saw}, declared.views.nic.NicLook.TheVariants.{NotLeft}, Sides.{nic_at}};
 ghost use Rattle.board_parts.specs.Free.{listed_in};
-ghost use Rattle.plain_board.specs.{Stand.{new_stand}, Seen.{CardSawSo}};
+ghost use Rattle.plain_board.specs.{OneSide.{OnlyCard}, Sound.{IsSound}, Stand.{new_stand}, Seen.{CardSawSo}};
 
 use area_layout::Layout;
 use board_face::{AppSide, NicSide, Own};
@@ -74,8 +74,6 @@ impl Model for Contents {
 }
 
 impl Contents {
-    ghost use Rattle.plain_board.specs.Sound.{IsSound};
-
     /// A board on which nothing has happened, each pool buffer on the free list.
     pub(crate) fn open(
         alloc: Global,
@@ -86,7 +84,8 @@ impl Contents {
         requires reserves { layout.reserves ≡ apps }
         requires some { 1 ≤ places }
         requires few { places ≤ 256 }
-        ensures { IfOk result (λ board. board ≡ new_stand layout places) }
+        ensures stand { IfOk result (λ board. board ≡ new_stand layout places) }
+        ensures sound { IfOk result IsSound }
     {
         let buffers = layout.buffers() as usize;
         let total = layout.total() as usize;
@@ -114,13 +113,6 @@ impl Contents {
         })
     }
 
-    /// What holds of every board, as `PlainBoard::sound` says it.
-    pub(crate) fn sound(&self)
-        ensures { IsSound self.now }
-    {
-        let _ = &self.places;
-    }
-
     /// Takes the buffer that entered the cache last.
     pub(crate) fn take(&mut self) -> Option<Own>
         requires { IsOpen self.old.nic.view }
@@ -129,7 +121,7 @@ impl Contents {
             (λ own. TookBuffer self.old.nic.view self.new.nic.view own) }
         ensures unheld { IfSome result
             (λ own. pool_count own.buffer self.old.nic self.old.apps ≡ 0) }
-        ensures apps { self.new.apps ≡ self.old.apps }
+        ensures only { OnlyCard self.old self.new }
     {
         let Some(buffer) = self.cache.pop() else {
             let nic = &mut self.nic;
@@ -150,7 +142,7 @@ impl Contents {
         ensures view { self.new.nic ≡ nic_at self.old.nic
             (shut self.old.nic.view own (slice_index self.new.arrays.pool own.buffer == 0)) }
         ensures told { CardSawSo self.old self.new }
-        ensures apps { self.new.apps ≡ self.old.apps }
+        ensures only { OnlyCard self.old self.new }
     {
         let buffer = own.buffer();
         let last = lower(&mut self.pool, buffer as usize) == 0;
@@ -169,7 +161,7 @@ impl Contents {
         ensures emptied { (b : ℕ) → b / word_bits ≡ word
             → listed_in self.new.arrays.listed b ≡ false }
         ensures told { CardSawSo self.old self.new }
-        ensures apps { self.new.apps ≡ self.old.apps }
+        ensures only { OnlyCard self.old self.new }
     {
         let count = move_word(word, &mut self.cache, &mut self.listed);
         let nic = &mut self.nic;
@@ -182,7 +174,7 @@ impl Contents {
     pub(crate) fn end(&mut self)
         requires { HasNoToken self.old.nic.view }
         ensures view { self.new.nic ≡ nic_at self.old.nic (nic_ended self.old.nic.view) }
-        ensures apps { self.new.apps ≡ self.old.apps }
+        ensures only { OnlyCard self.old self.new }
     {
         self.ended = true;
         let nic = &mut self.nic;
@@ -196,7 +188,7 @@ impl Contents {
             (self.new.nic ≡ nic_at self.old.nic (saw_leave self.old.nic.view app))
             (self.new.nic ≡ nic_at self.old.nic (nic_saw self.old.nic.view (NotLeft app))) }
         ensures told { CardSawSo self.old self.new }
-        ensures apps { self.new.apps ≡ self.old.apps }
+        ensures only { OnlyCard self.old self.new }
     {
         let gone = self.left[app as usize];
         let nic = &mut self.nic;

@@ -17,29 +17,23 @@ pub struct PlainNic {
 }
 
 impl Model for PlainNic {
-    ghost use Rattle.plain_board.specs.{Board.{Board, board_of, sides_of}, Recorded.{IsRecorded}};
+    ghost use Rattle.plain_board.specs.{Board.{Board, board_of}, Recorded.{IsSoundAndRecorded}};
 
     ghost Value = { Board };
 
     ghost view = { λ n. board_of n.board.value };
 
-    ghost invariant = { λ n. IsRecorded (sides_of (view n)) (view n).log };
+    ghost invariant = { λ n. IsSoundAndRecorded (view n) };
 }
 
 impl PlainNic {
     /// Gives the board back with all that it holds, tokens that are out included.
     pub fn back(self) -> PlainBoard
-        ensures { result ≡ self }
+        ensures board { result ≡ self }
+        ensures sound { IsSound (stand_of result) }
+        ensures log { IsRecorded (sides_of result) result.log }
     {
         PlainBoard { board: self.board }
-    }
-
-    /// What holds of the board, as `PlainBoard::sound` says it.
-    pub fn sound(&self)
-        ensures contents { IsSound (stand_of self.now) }
-        ensures log { IsRecorded (sides_of self.now) self.now.log }
-    {
-        self.board.contents.sound();
     }
 }
 
@@ -85,9 +79,7 @@ impl NicFace for PlainNic {
         ensures log { MatchOption result (self.new.log ≡ self.old.log)
             (λ own. CardTells (takes own.buffer) self.old self.new) }
     {
-        self.board.contents.sound();
         let own = self.board.contents.take()?;
-        self.board.contents.sound();
         let buffer = own.buffer();
         let pool = self.board.contents.pool_count(buffer);
         self.board.log.push(Event::Take { buffer, pool });
@@ -106,9 +98,7 @@ impl NicFace for PlainNic {
             → listed_in self.new.arrays.listed b ≡ false }
         ensures log { self.new.log ≡ self.old.log }
     {
-        self.board.contents.sound();
         let count = self.board.contents.sweep(word);
-        self.board.contents.sound();
         count
     }
 
@@ -124,9 +114,7 @@ impl NicFace for PlainNic {
             → IsJudged (stand_of self.old) (stand_of self.new) app }
         ensures log { EntryTells app result self.old self.new }
     {
-        self.board.contents.sound();
         let (entry, returned) = self.board.contents.entry(app);
-        self.board.contents.sound();
         if let Some(buffer) = returned {
             let pool = self.board.contents.pool_count(buffer);
             let user = self.board.contents.user_count(app, buffer);
@@ -153,9 +141,7 @@ impl NicFace for PlainNic {
         ensures beside { applications_of self.new ≡ applications_of self.old }
         ensures log { CardTells (places own.old bytes.now) self.old self.new }
     {
-        self.board.contents.sound();
         let piece = self.board.contents.place(own, bytes);
-        self.board.contents.sound();
         let place = piece.place();
         let pool = self.board.contents.pool_count(place.buffer);
         self.board.log.push(Event::Place {
@@ -183,7 +169,6 @@ impl NicFace for PlainNic {
         ensures log { MatchResult result (λ _. CardTells (sends app note) self.old self.new)
             (λ _. self.new.log ≡ self.old.log) }
     {
-        self.board.contents.sound();
         self.board.contents.send(app, note, piece)?;
         self.board.log.push(Event::Sent {
             app,
@@ -207,7 +192,6 @@ impl NicFace for PlainNic {
         ensures beside { applications_of self.new ≡ applications_of self.old }
         ensures log { self.new.log ≡ self.old.log }
     {
-        self.board.contents.sound();
         self.board.contents.send_linear(app, note, bytes)
     }
 
@@ -220,7 +204,6 @@ impl NicFace for PlainNic {
         ensures log { ShutTells own self.old self.new }
     {
         let buffer = own.buffer();
-        self.board.contents.sound();
         self.board.contents.shut(own);
         let pool = self.board.contents.pool_count(buffer);
         self.board.log.push(Event::Shut { buffer, pool });
@@ -232,7 +215,6 @@ impl NicFace for PlainNic {
         ensures beside { applications_of self.new ≡ applications_of self.old }
         ensures log { self.new.log ≡ self.old.log }
     {
-        self.board.contents.sound();
         self.board.contents.end();
     }
 
@@ -245,7 +227,6 @@ impl NicFace for PlainNic {
         ensures beside { applications_of self.new ≡ applications_of self.old }
         ensures log { self.new.log ≡ self.old.log }
     {
-        self.board.contents.sound();
         self.board.contents.left(app)
     }
 }

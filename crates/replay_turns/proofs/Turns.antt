@@ -3,7 +3,7 @@ use Rattle.std.proofs.{Common.{◌≡◌, ◌≢◌, ℕ, ◌<◌, ◌≤◌, Li
 use Rattle.std.specs.List.{slice_get}
 use Rattle.zr_kinds.specs.Limits.{most_records}
 use Rattle.board_face.specs.{declared.views.{app.AppSide.{AppSide}, parts.Setting.{Setting}, nic.{Dealt.{Dealt}, NicSide.{NicSide}}}, Sides.{side_in}}
-use Rattle.plain_board.specs.{Board.{Board, stand_of, side_of}, Stand.{setting_of}, Sound.{IsSound}}
+use Rattle.plain_board.specs.{Board.{Board, stand_of, sides_of, side_of}, Recorded.{IsRecorded}, Stand.{setting_of}, Sound.{IsSound}}
 use Rattle.card_feed.specs.{Account.{kept_in}, Feed.{FeedState, IsReady, FeedStands}, Turns.{FeedTurns}, declared.plan.Plan.{Plan}}
 use Rattle.run_account.specs.{Behind.{behind}, CardTurns.{CardActs, card_moment, turns}}
 use Rattle.run_account.{specs.{Running.{losses_in, Running, WorkerFits, WorkerGoes}, declared.run.{Run.{Run}, Worker.{Worker}}}, proofs.DealtEntries.{dealt-of}}
@@ -36,9 +36,10 @@ setting-same board board_now sound sound_now apps some =
 
 module _ (board board_now : Board) (was now : Run) (workers : now.workers.items ≡ was.workers.items) (apps : board_now.apps ≡ board.apps)
     (sound_now : IsSound (stand_of board_now)) (ready : IsReady now.feed board_now.nic.view) where
-  pub card-fits : (n : ℕ) → RunFits board was n → RunFits board_now now n
-  card-fits n fits = record {
+  pub card-fits : (n : ℕ) → RunFits board was n → IsRecorded (sides_of board_now) board_now.log → RunFits board_now now n
+  card-fits n fits recorded = record {
     sound = sound_now;
+    recorded = recorded;
     roles = record {
       ready = ready;
       worker = λ a w is. subst (λ all. WorkerFits (side_in all a).view w) (sym apps)
@@ -101,9 +102,10 @@ module _ (board board_now : Board) (was now : Run) (app : ℕ) (w_was w_now : Wo
   get-now : (a : ℕ) (w : Worker) → slice_get now.workers.items a ≡ Some w → InSet was.workers.items app w_now a w
   get-now a w is = in-set was.workers.items app w_now a w (ap (λ items. slice_get items a) (sym items_are) ∙ is)
 
-  pub app-fits : (n : ℕ) → RunFits board was n → WorkerFits (side_of board_now app).view w_now → RunFits board_now now n
-  app-fits n fits worker_now = record {
+  pub app-fits : (n : ℕ) → RunFits board was n → WorkerFits (side_of board_now app).view w_now → IsRecorded (sides_of board_now) board_now.log → RunFits board_now now n
+  app-fits n fits worker_now recorded = record {
     sound = sound_now;
+    recorded = recorded;
     roles = record {
       ready = subst (λ f. IsReady f board_now.nic.view) (sym feed_is) (subst (λ nic. IsReady was.feed nic.view) (sym nic_is) fits.roles.ready);
       worker = λ a w is. elim (get-now a w is) [

@@ -1,13 +1,14 @@
 -- A run between two turns at the board for one thread.
 use Rattle.std.specs.Prelude.{◌≡◌, ℕ, ◌≤◌, List, length, Option}
-use Rattle.plain_board.specs.{Board.{Board, stand_of}, Sound.{IsSound}}
+use Rattle.plain_board.specs.{Board.{Board, stand_of, sides_of}, Recorded.{IsRecorded}, Sound.{IsSound}}
 use Rattle.card_feed.specs.declared.plan.Plan.{Plan}
 use Rattle.run_account.specs.{Running.{RolesFit, Running}, declared.run.Run.{Run}}
 use Rattle.zr_io.specs.Moved.{ShelfCounts}
 
--- What is kept fits the board, and there is a shelf for each application.
+-- The board is sound, its log tells of it, what is kept fits it, and there is a shelf for each application.
 pub record RunFits (board : Board) (run : Run) (shelves : ℕ) : Type 0 where
   pub sound : IsSound (stand_of board)
+  pub recorded : IsRecorded (sides_of board) board.log
   pub roles : RolesFit board.nic board.apps run
   pub many : length run.workers.items ≡ board.arrays.layout.reserves
   pub shelves_enough : length run.workers.items ≤ shelves

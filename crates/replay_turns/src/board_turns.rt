@@ -2,7 +2,7 @@
 
 ghost use Rattle.std.specs.Prelude.{◌≡◌, ℕ, ◌<◌, ◌≤◌, List, MatchBool};
 ghost use Rattle.board_face.specs.{AppCalls.{IsHere}, AppEvents.{app_gist}};
-ghost use Rattle.plain_board.specs.{Board.{stand_of, side_of, others_of}, Seen.{IsSeenBy, IsSeenByCard}, Sound.{IsSound}};
+ghost use Rattle.plain_board.specs.{Board.{stand_of, sides_of, side_of, others_of}, Recorded.{IsRecorded}, Seen.{IsSeenBy, IsSeenByCard}, Sound.{IsSound}};
 ghost use Rattle.app_worker.specs.{State.{AppStands}, TurnMakes.{TurnMakes, at_work}, Turns.{look_of}, declared.turn.{Turn.TheVariants.{Idle}, Why.{Why}}};
 ghost use Rattle.card_feed.specs.{Feed.{IsReady, FeedKnows, FeedStands, WantsRecord, feed_steps}, Turns.{FeedSteps, FeedTurns, IsIdle}};
 ghost use Rattle.card_feed.specs.declared.arrived.Arrived.TheVariants.{Nothing};
@@ -34,12 +34,11 @@ pub(crate) fn card_step<S: Source>(
     ensures apps { result.0.apps ≡ board.apps }
     ensures room { result.0.log.room ≡ board.log.room }
     ensures sound { IsSound (stand_of result.0) }
+    ensures recorded { IsRecorded (sides_of result.0) result.0.log }
 {
     let mut face = board.nic();
     let did = nic_turn(feed, source, &mut face);
-    let board = face.back();
-    board.sound();
-    (board, did)
+    (face.back(), did)
 }
 
 /// A turn of the card for which nothing has come: it sends what is pending and deals with entries. Each application's side stays as
@@ -54,12 +53,11 @@ pub(crate) fn card_keeps_up(board: PlainBoard, feed: &mut Feed) -> PlainBoard
     ensures apps { result.apps ≡ board.apps }
     ensures room { result.log.room ≡ board.log.room }
     ensures sound { IsSound (stand_of result) }
+    ensures recorded { IsRecorded (sides_of result) result.log }
 {
     let mut face = board.nic();
     nic_step(feed, Arrived::Nothing, &mut face);
-    let board = face.back();
-    board.sound();
-    board
+    face.back()
 }
 
 /// A turn of an application. The card's side and those of the other applications stay as they are.
@@ -79,10 +77,9 @@ pub(crate) fn app_step<T: Shelf>(
         → IsSeenBy (look_of why) (app_gist (side_of result.0 app).view) (others_of result.0 app) }
     ensures only { OnlyAppMoved app board result.0 }
     ensures sound { IsSound (stand_of result.0) }
+    ensures recorded { IsRecorded (sides_of result.0) result.0.log }
 {
     let mut face = board.app(app);
     let turn = app_turn(&mut face, st, shelf);
-    let board = face.back();
-    board.sound();
-    (board, turn)
+    (face.back(), turn)
 }

@@ -44,7 +44,6 @@ pub fn open<S: Source, T: Shelf>(
     let board = PlainBoard::open_logged(alloc, layout, apps, plan.options.ring, room(plan))?;
     let feed = Feed::new(alloc, random, plan)?;
     let workers = new_workers(alloc, plan)?;
-    board.sound();
     new_feeds_stand::<S>();
     Ok((board, Run { feed, workers }))
 }

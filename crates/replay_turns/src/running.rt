@@ -56,7 +56,6 @@ pub fn run_turns<S: Source, T: Shelf>(
     let (mut board, mut run) = open::<S, T>(alloc, random, plan)?;
     board = play_text(board, &mut run, source, shelves, turns);
     board = play_rounds(board, &mut run, source, shelves);
-    board.sound();
     let Run { feed, workers } = run;
     let outcome = tell(alloc, feed, &workers, &plan.ports)?;
     Ok((outcome, board))
@@ -94,7 +93,6 @@ pub fn run_rounds<S: Source, T: Shelf, G: Gate>(
 {
     let (mut board, mut run) = open::<S, T>(alloc, random, plan)?;
     board = play_waiting(gate, board, &mut run, source, shelves);
-    board.sound();
     let Run { feed, workers } = run;
     let outcome = tell(alloc, feed, &workers, &plan.ports)?;
     Ok((outcome, board))

@@ -9,6 +9,8 @@ loop-count-init g c = record {
   within = omega arith;
   places_is = c.places-places.ensures.value;
   first = λ _. refl;
+  cached = c.cached-cached.ensures.value;
+  few = c.cached-cached.ensures.few;
   most = inr refl;
   beside = refl;
 }
@@ -26,12 +28,14 @@ loop-count-preserved g c =
       within = omega arith;
       places_is = inv.places_is;
       first = λ none. absurd (grind arith);
+      cached = c.cached-cached-in-loop-count.ensures.value;
+      few = c.cached-cached-in-loop-count.ensures.few;
       most =
           let few : length (g.F.NicFace.seen c.entry.new.self).cache ≤ length (g.F.NicFace.seen c.loop-count.face).cache + 1 = elim c.match-entry.branch [
             | in-Stray w ↦ stray-most _ _ _ w.in-Stray.ensures.view.entry w.in-Stray.ensures.view.event
             | in-Freed w ↦ let e = w.in-Freed.ensures.view in honoured-most _ _ _ e.entry e.buffer true e.event
             | in-Honoured w ↦ let e = w.in-Honoured.ensures.view in honoured-most _ _ _ e.entry e.buffer e.last e.event
           ] in
-          inl (omega (arith, few, c.cached.ensures.value, c.if-cached-enough.true));
+          inl (omega (arith, few, inv.cached, c.if-cached-enough.true));
       beside = c.entry.ensures.beside ∙ inv.beside;
     }

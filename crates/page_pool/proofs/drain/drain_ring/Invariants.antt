@@ -1,4 +1,4 @@
-use Rattle.std.proofs.Common.{◌-◌, ◌≡◌, ◌≤◌}
+use Rattle.std.proofs.Common.{◌-◌, ◌≡◌, ◌≤◌, length}
 use Rattle.page_pool.specs.Gathering.{DealsRing, HasAtMost}
 use Rattle.page_pool.proofs.drain.drain_ring.Given as goal
 
@@ -8,6 +8,8 @@ invariant-loop-count g l = record {
   within : l.count ≤ l.places;
   places_is : l.places ≡ (g.F.NicFace.seen l.initial.face).setting.places;
   first : l.count ≡ 0 → g.F.NicFace.seen l.face ≡ g.F.NicFace.seen l.initial.face;
+  cached : l.cached ≡ length (g.F.NicFace.seen l.face).cache;
+  few : l.cached ≤ 128;
   most : HasAtMost l.enough (g.F.NicFace.seen l.initial.face) (g.F.NicFace.seen l.face);
   beside : g.F.NicFace.beside l.face ≡ g.F.NicFace.beside l.initial.face;
 }

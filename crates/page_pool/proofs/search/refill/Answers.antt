@@ -1,10 +1,10 @@
-use Rattle.std.proofs.Common.{◌∙◌, arith, refl}
+use Rattle.std.proofs.Common.{◌∙◌, refl}
 use Rattle.page_pool.proofs.Searching.{RefillsFirst-none, RefillsFirst-ring}
 use Rattle.page_pool.proofs.search.refill.Goals as goal
 
 pub loop-app-init : goal.loop-app-init
 loop-app-init g c = record {
-  refills = RefillsFirst-none _ _ _ (omega (arith, c.cached.ensures.value, c.cached.ensures.few));
+  refills = RefillsFirst-none _ _ _ c.requires.few;
   end = c.apps-app-end.ensures.value;
   beside = refl;
 }

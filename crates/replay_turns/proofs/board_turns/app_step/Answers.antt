@@ -10,7 +10,7 @@ returns-clause-makes g c =
     let was = at_work c.args.st.now (side_of c.args.board c.args.app).view c.args.shelf.now in
     view_stands (λ v. TurnMakes g.T.Shelf.kept g.T.Shelf.counts was (at_work c.app_turn-turn.new.st v c.app_turn-turn.new.shelf) c.app_turn-turn.result)
     c.args.board c.app_turn-turn.new.face.board c.back-board.result c.args.app c.app_turn-turn.new.face.app
-    (rw c.app-face.ensures at c.app_turn-turn.ensures.beside) c.back-board.ensures (rw c.app-face.ensures at c.app_turn-turn.ensures.makes)
+    (rw c.app-face.ensures at c.app_turn-turn.ensures.beside) c.back.ensures.board (rw c.app-face.ensures at c.app_turn-turn.ensures.makes)
 
 pub returns-clause-told : goal.returns-clause-told
 returns-clause-told g c why idle = search (rules, c.app_turn-turn.ensures.told why idle)
@@ -19,7 +19,7 @@ pub returns-clause-only : goal.returns-clause-only
 returns-clause-only g c =
     let beside : others_of c.app_turn-turn.new.face.board c.app_turn-turn.new.face.app ≡ others_of c.args.board c.args.app =
     rw c.app-face.ensures at c.app_turn-turn.ensures.beside in
-    rw c.back-board.ensures (record {
+    rw c.back.ensures.board (record {
       card = ap (λ (o : Others). o.card) beside;
       others = others_stand c.args.board c.app_turn-turn.new.face.board c.args.app c.app_turn-turn.new.face.app beside;
       many = search (rules, beside);

@@ -13,20 +13,20 @@ answered false beside was now old new Rises idle =
     record { feed = idle.feed; stats = idle.stats; view = idle.view; rings = idle.rings; notes = idle.notes }
 
 pub returns-clause-answer : goal.returns-clause-answer
-returns-clause-answer g c = rw c.back-board.ensures
+returns-clause-answer g c = rw c.back.ensures.board
     (answered c.nic_turn-did.result (applications_of c.nic_turn-did.new.face) c.args.feed.now c.nic_turn-did.new.feed c.args.board.nic.view
     c.nic_turn-did.new.face.nic.view _ (rw c.nic-face.ensures at c.nic_turn-did.ensures.answer))
 
 pub returns-clause-apps : goal.returns-clause-apps
 returns-clause-apps g c =
     let beside : applications_of c.nic_turn-did.new.face ≡ applications_of c.args.board = rw c.nic-face.ensures at c.nic_turn-did.ensures.beside in
-    rw c.back-board.ensures (ap (λ (b : Applications). b.apps) beside)
+    rw c.back.ensures.board (ap (λ (b : Applications). b.apps) beside)
 
 pub returns-clause-room : goal.returns-clause-room
 returns-clause-room g c =
     let beside : applications_of c.nic_turn-did.new.face ≡ applications_of c.args.board = rw c.nic-face.ensures at c.nic_turn-did.ensures.beside in
-    rw c.back-board.ensures (ap (λ (b : Applications). b.room) beside)
+    rw c.back.ensures.board (ap (λ (b : Applications). b.room) beside)
 
 pub returns-clause-turns : goal.returns-clause-turns
-returns-clause-turns g c = λ first ports split frames stands. rw c.back-board.ensures
+returns-clause-turns g c = λ first ports split frames stands. rw c.back.ensures.board
     (rw c.nic-face.ensures at (c.nic_turn-did.ensures.turns first ports split frames (rw c.nic-face.ensures stands)))

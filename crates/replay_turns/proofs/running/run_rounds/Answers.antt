@@ -1,5 +1,5 @@
 -- A whole run by rounds.
-use Rattle.std.proofs.Common.{rules, length, inl, refl, sym, ap, ◌∙◌, arith}
+use Rattle.std.proofs.Common.{length, inl, refl, sym, ap, ◌∙◌, arith}
 use Rattle.plain_board.specs.Board.{Board}
 use Rattle.replay_turns.proofs.{Telling.{told}, WholeRun.{on-err, rounds-lacks, rounds-plan, rounds-runs, rounds-told}}
 use Rattle.replay_turns.proofs.running.run_rounds.Goals as goal
@@ -15,7 +15,7 @@ returns-clause-ran g c =
 pub returns-clause-leaves : goal.returns-clause-leaves
 returns-clause-leaves g c = record {
   sound = c.play_waiting-board.ensures.plays.fits.sound;
-  recorded = search rules;
+  recorded = c.play_waiting-board.ensures.plays.fits.recorded;
   room = c.play_waiting-board.ensures.plays.room
       ∙ ap (λ (b : Board). b.log.room) c.in_ok-board.ensures.opened.board_is;
 }

@@ -1,5 +1,5 @@
 -- A whole run.
-use Rattle.std.proofs.Common.{rules, length, inl, refl, sym, ap, subst, ◌∙◌, arith}
+use Rattle.std.proofs.Common.{length, inl, refl, sym, ap, subst, ◌∙◌, arith}
 use Rattle.plain_board.specs.Board.{Board}
 use Rattle.replay_turns.{specs.Schedule.{AreTurns}, proofs.{Sweeping.{each-swept}, Telling.{told}, WholeRun.{on-err, whole-runs, text-fits, text-plan, run-by, run-few, run-told, run-lacks}}}
 use Rattle.replay_turns.proofs.running.run_turns.Goals as goal
@@ -30,7 +30,7 @@ returns-clause-swept g c = each-swept _ _ _ _ _ _ _ _ _ _ _ _ (returns-clause-fo
 pub returns-clause-leaves : goal.returns-clause-leaves
 returns-clause-leaves g c = record {
   sound = c.play_rounds-board.ensures.plays.fits.sound;
-  recorded = search rules;
+  recorded = c.play_rounds-board.ensures.plays.fits.recorded;
   room = c.play_rounds-board.ensures.plays.room
       ∙ c.play_text-board.ensures.plays.room
       ∙ ap (λ (b : Board). b.log.room) c.in_ok-board.ensures.opened.board_is;

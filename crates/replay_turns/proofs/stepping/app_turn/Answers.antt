@@ -80,7 +80,7 @@ returns g c =
         fits = subst (λ n. RunFits board_now run_now n) (sym (length-set c.args.shelves.now c.args.app shelf_now))
             (app-fits board board_now c.args.run.now run_now c.args.app w_was w_now is_was refl refl only.card only.others only.many step.sound
             (length c.args.shelves.now) c.requires.fits
-            (record { stands = turns.stands; here = λ left. turns.here (not_left left) ∙ is_here; gone = λ left. ((finished left).1, (finished left).2) }));
+            (record { stands = turns.stands; here = λ left. turns.here (not_left left) ∙ is_here; gone = λ left. ((finished left).1, (finished left).2) }) step.recorded);
         workers = length-set c.args.run.now.workers.items c.args.app w_now;
         many = length-set c.args.shelves.now c.args.app shelf_now;
         room = only.room;

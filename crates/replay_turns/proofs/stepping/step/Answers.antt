@@ -23,7 +23,7 @@ returns-in-Card g c =
     let run_now : Run = record { feed = c.card_step-turn.new.feed; workers = c.args.run.now.workers } in
     record {
       plays = record {
-        fits = card-fits c.args.board c.card_step-turn.result.0 c.args.run.now run_now refl step.apps step.sound step.ready _ fits;
+        fits = card-fits c.args.board c.card_step-turn.result.0 c.args.run.now run_now refl step.apps step.sound step.ready _ fits step.recorded;
         workers = refl;
         many = refl;
         room = step.room;

@@ -9,7 +9,7 @@ returns-clause-plays g c source shelves fits =
     let step = c.card_keeps_up.ensures in
     let run_now : Run = record { feed = c.card_keeps_up.new.feed; workers = c.args.run.now.workers } in
     record {
-      fits = card-fits c.args.board c.card_keeps_up.result c.args.run.now run_now refl step.apps step.sound step.ready (length shelves) fits;
+      fits = card-fits c.args.board c.card_keeps_up.result c.args.run.now run_now refl step.apps step.sound step.ready (length shelves) fits step.recorded;
       workers = refl;
       many = refl;
       room = step.room;

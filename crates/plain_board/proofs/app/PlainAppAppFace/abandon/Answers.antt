@@ -9,14 +9,11 @@ invariant_of-self c =
     let old = c.self.inside.board.value.contents in
     let new = c.abandon.new.self in
     let a = c.self.inside.app in
-    let before = rw c.deref.ensures at c.sound.ensures in
     let said = rw c.deref_mut.ensures.value at c.abandon.ensures in
     let out = rw (← c.self.view_is) at c.requires.out in
-    rw (c.push.ensures.log, c.deref_mut-2.ensures.value, c.deref_mut.ensures.value) (
-      rw said.only.layout c.self.invariant.0,
-      app-told (abandons c.args.loan) old new a before c.self.invariant.0 (out, ended-returned old a before c.self.invariant.0) tt said.only.others said.only.inside said.view (_ ∷ []) (rw (c.user_count-user.ensures, c.deref-2.ensures, c.place-place.ensures) refl) (c.push.ensures.small, tt) _ c.self.invariant.1,
-    )
+    rw (c.push.ensures.log, c.deref_mut-2.ensures.value, c.deref_mut.ensures.value)
+    (app-told (abandons c.args.loan) old new a _ c.self.invariant (out, ended-returned old a _ c.self.invariant) tt said.only said.view (_ ∷ []) (rw (c.user_count-user.ensures, c.deref.ensures, c.place-place.ensures) refl) (c.push.ensures.small, tt))
 
 pub returns-clause-log : goal.returns-clause-log
 returns-clause-log c =
-    rw (← c.self.view_is, c.push.ensures.log, c.deref_mut-2.ensures.value, c.deref_mut.ensures.value) (rw (c.user_count-user.ensures, c.deref-2.ensures, c.place-place.ensures) refl)
+    rw (← c.self.view_is, c.push.ensures.log, c.deref_mut-2.ensures.value, c.deref_mut.ensures.value) (rw (c.user_count-user.ensures, c.deref.ensures, c.place-place.ensures) refl)

@@ -9,10 +9,7 @@ invariant_of-self c =
     let old = c.self.inside.board.value.contents in
     let new = c.fill.new.self in
     let a = c.self.inside.app in
-    let before = rw c.deref.ensures at c.sound.ensures in
     let said = rw c.deref_mut.ensures.value at c.fill.ensures in
     let out = rw (← c.self.view_is) at c.requires.out in
-    rw c.deref_mut.ensures.value (
-      rw said.only.layout c.self.invariant.0,
-      app-told (fills c.args.own.now c.args.bytes.now) old new a before c.self.invariant.0 out c.requires.few said.only.others said.only.inside said.view [] refl tt _ c.self.invariant.1,
-    )
+    rw c.deref_mut.ensures.value
+    (app-told (fills c.args.own.now c.args.bytes.now) old new a _ c.self.invariant out c.requires.few said.only said.view [] refl tt)

@@ -9,9 +9,6 @@ invariant_of-self c =
     let old = c.self.inside.board.value.contents in
     let new = c.leave.new.self in
     let a = c.self.inside.app in
-    let before = rw c.deref.ensures at c.sound.ensures in
     let said = rw c.deref_mut.ensures.value at c.leave.ensures in
-    rw c.deref_mut.ensures.value (
-      rw said.only.layout c.self.invariant.0,
-      app-told (leaves) old new a before c.self.invariant.0 tt tt said.only.others said.only.inside said.view [] refl tt _ c.self.invariant.1,
-    )
+    rw c.deref_mut.ensures.value
+    (app-told (leaves) old new a _ c.self.invariant tt tt said.only said.view [] refl tt)

@@ -7,28 +7,18 @@ pub invariant_of-self : goal.invariant_of-self
 invariant_of-self c =
     let old = c.self.inside.board.value.contents in
     let a = c.self.inside.app in
-    let before = rw c.deref.ensures at c.sound.ensures in
-    let after = rw c.deref-2.ensures at c.sound-2.ensures in
     let took = rw (c.deref_mut.ensures.value, c.in-Note.is) at c.poll-polled.ensures.view in
     let said = rw c.deref_mut.ensures.value at c.poll-polled.ensures in
-    rw (c.push.ensures.log, c.deref_mut-in-Note.ensures.value, c.deref_mut.ensures.value) (
-      rw said.only.layout c.self.invariant.0,
-      polled-note old c.poll-polled.new.self a before after c.self.invariant.0 said.only.layout said.only.others said.only.inside c.in-Note.note c.in-Note.field-1 took
-          c.push.ensures.small _ c.self.invariant.1,
-    )
+    rw (c.push.ensures.log, c.deref_mut-in-Note.ensures.value, c.deref_mut.ensures.value)
+    (polled-note old c.poll-polled.new.self a _ c.self.invariant said.only c.in-Note.note c.in-Note.field-1 took c.push.ensures.small)
 
 pub invariant_of-self-in_default : goal.invariant_of-self-in_default
 invariant_of-self-in_default c =
     let old = c.self.inside.board.value.contents in
     let a = c.self.inside.app in
-    let before = rw c.deref.ensures at c.sound.ensures in
-    let after = rw c.deref-2.ensures at c.sound-2.ensures in
     let said = rw c.deref_mut.ensures.value at c.poll-polled.ensures in
-    rw c.deref_mut.ensures.value (
-      rw said.only.layout c.self.invariant.0,
-      polled-other old c.poll-polled.new.self a before after c.self.invariant.0 said.only.layout said.only.others said.only.inside _ c.poll-polled.result said.view c.in_default.not-Note _
-          c.self.invariant.1,
-    )
+    rw c.deref_mut.ensures.value
+    (polled-other old c.poll-polled.new.self a _ c.self.invariant said.only _ c.poll-polled.result said.view c.in_default.not-Note)
 
 pub returns-in-Note-clause-log : goal.returns-in-Note-clause-log
 returns-in-Note-clause-log c =

@@ -10,11 +10,8 @@ invariant_of-self c =
     let new = c.push_raw.new.self in
     let a = c.self.inside.app in
     let v = (side_of old a).view in
-    let before = rw c.deref.ensures at c.sound.ensures in
     let said = rw c.deref_mut.ensures.value at c.push_raw.ensures in
-    rw c.deref_mut.ensures.value (
-      rw said.only.layout c.self.invariant.0,
-      by-result c.push_raw.result {A = λ done. (side_of new a).view ≡ pushed_raw v c.args.entry} {B = λ back. (back ≡ c.args.entry) × AppOnlySaw RefillInUse v (side_of new a).view} said.view
-          (λ done is. app-told (pushes c.args.entry) old new a before c.self.invariant.0 tt tt said.only.others said.only.inside is [] refl tt _ c.self.invariant.1)
-          (λ back is. app-told (sees RefillInUse) old new a before c.self.invariant.0 tt tt said.only.others said.only.inside is.1.event [] refl tt _ c.self.invariant.1),
-    )
+    rw c.deref_mut.ensures.value
+    (by-result c.push_raw.result {A = λ done. (side_of new a).view ≡ pushed_raw v c.args.entry} {B = λ back. (back ≡ c.args.entry) × AppOnlySaw RefillInUse v (side_of new a).view} said.view
+    (λ done is. app-told (pushes c.args.entry) old new a _ c.self.invariant tt tt said.only is [] refl tt)
+    (λ back is. app-told (sees RefillInUse) old new a _ c.self.invariant tt tt said.only is.1.event [] refl tt))

@@ -9,11 +9,8 @@ invariant_of-self c =
     let old = c.self.inside.board.value.contents in
     let new = c.settle.new.self in
     let a = c.self.inside.app in
-    let before = rw c.deref.ensures at c.sound.ensures in
     let said = rw c.deref_mut.ensures.value at c.settle.ensures in
-    rw c.deref_mut.ensures.value (
-      rw said.only.layout c.self.invariant.0,
-      by-answer c.settle.result said.view
-          (λ done. app-told settles old new a before c.self.invariant.0 tt tt said.only.others said.only.inside done [] refl tt _ c.self.invariant.1)
-          (λ done. app-told (sees RawOnItsWay) old new a before c.self.invariant.0 tt tt said.only.others said.only.inside done.event [] refl tt _ c.self.invariant.1),
-    )
+    rw c.deref_mut.ensures.value
+    (by-answer c.settle.result said.view
+    (λ done. app-told settles old new a _ c.self.invariant tt tt said.only done [] refl tt)
+    (λ done. app-told (sees RawOnItsWay) old new a _ c.self.invariant tt tt said.only done.event [] refl tt))

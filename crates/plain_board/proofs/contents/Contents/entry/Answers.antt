@@ -152,3 +152,12 @@ returns-clause-returned c =
     let answered = elim c.if-free.branch as (λ w. IsReturn c.if-free.answer) [ then-free w ↦ rw w.answer-is tt | else-free w ↦ rw w.answer-is tt ] in
     rw (← c.self.view_is, c.note-2.ensures)
     (answered, record { entry = c.in-Some.entry; last = c.lower-left.result == 0; owed = one; event = refl })
+
+pub returns-in_default-clause-only : goal.returns-in_default-clause-only
+returns-in_default-clause-only c = record { apps = rw (← c.self.view_is) refl; sound = (invariant_of-self c).0 }
+
+pub returns-in_default-owed_buffer-clause-only : goal.returns-in_default-owed_buffer-clause-only
+returns-in_default-owed_buffer-clause-only c = record { apps = rw (← c.self.view_is) refl; sound = (invariant_of-self-in_default-owed_buffer c).0 }
+
+pub returns-clause-only : goal.returns-clause-only
+returns-clause-only c = record { apps = rw (← c.self.view_is) refl; sound = (invariant_of-self-2 c).0 }

@@ -44,4 +44,5 @@ returns-clause-only c =
       inside = rw (← c.self.view_is, c.note_at.ensures, side-then c.self.inside.apps.items c.args.app _ _ here) refl;
       others = rw (← c.self.view_is, c.note_at.ensures) (others-then c.self.inside.nic c.self.inside.apps.items c.args.app _);
       layout = rw (← c.self.view_is) refl;
+      sound = (invariant_of-self c).0;
     }

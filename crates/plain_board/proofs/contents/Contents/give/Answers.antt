@@ -41,6 +41,7 @@ returns-then-not-put_back-clause-only c =
       inside = rw (← c.self.view_is, c.note_at.ensures, side-then c.self.inside.apps.items c.args.app _ _ here) refl;
       others = rw (← c.self.view_is, c.note_at.ensures) (others-then c.self.inside.nic c.self.inside.apps.items c.args.app _);
       layout = rw (← c.self.view_is) refl;
+      sound = (invariant_of-self c).0;
     }
 
 pub invariant_of-self-2 : goal.invariant_of-self-2
@@ -67,6 +68,7 @@ returns-clause-only c =
       inside = rw (← c.self.view_is, c.note_at-2.ensures, side-then c.self.inside.apps.items c.args.app _ _ here) refl;
       others = rw (← c.self.view_is, c.note_at-2.ensures) (others-then c.self.inside.nic c.self.inside.apps.items c.args.app _);
       layout = rw (← c.self.view_is) refl;
+      sound = (invariant_of-self-2 c).0;
     }
 
 pub returns-then-not-put_back-clause-full : goal.returns-then-not-put_back-clause-full

@@ -1,4 +1,5 @@
 -- The buffer of a token has room for the text, and fewer holders than a count may have.
+use Rattle.std.proofs.Common.{refl}
 use Rattle.plain_board.proofs.PlacedText.{lies-in, in_area, is_few, IsSound-placed}
 use Rattle.plain_board.proofs.contents.Contents.place.Goals as goal
 
@@ -22,3 +23,6 @@ invariant_of-self c =
     let asked = rw (← c.self.view_is) at c.requires in
     rw (c.note.ensures, c.store.ensures, c.raise.ensures, c.byte_of-at.ensures.value, c.filling_of-filling.ensures)
     (IsSound-placed _ c.args.own.now c.args.bytes.now c.self.invariant.0 asked.out c.requires.fits asked.open c.requires.some, c.self.invariant.1)
+
+pub returns-clause-only : goal.returns-clause-only
+returns-clause-only c = record { apps = rw (← c.self.view_is) refl; sound = (invariant_of-self c).0 }

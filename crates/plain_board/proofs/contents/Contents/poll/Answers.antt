@@ -47,6 +47,7 @@ returns-in_default-clause-only c =
       inside = rw (← c.self.view_is, c.note_at.ensures, side-then c.self.inside.apps.items c.args.app _ _ here) refl;
       others = rw (← c.self.view_is, c.note_at.ensures) (others-then c.self.inside.nic c.self.inside.apps.items c.args.app _);
       layout = rw (← c.self.view_is) refl;
+      sound = (invariant_of-self c).0;
     }
 
 -- a split note is there
@@ -74,6 +75,7 @@ returns-then-note-clause-only c =
       inside = rw (← c.self.view_is, c.note_at-then-note.ensures, side-then c.self.inside.apps.items c.args.app _ _ here) refl;
       others = rw (← c.self.view_is, c.note_at-then-note.ensures) (others-then c.self.inside.nic c.self.inside.apps.items c.args.app _);
       layout = rw (← c.self.view_is) refl;
+      sound = (invariant_of-self-then-note c).0;
     }
 
 -- another note is there
@@ -101,4 +103,5 @@ returns-clause-only c =
       inside = rw (← c.self.view_is, c.note_at-2.ensures, side-then c.self.inside.apps.items c.args.app _ _ here) refl;
       others = rw (← c.self.view_is, c.note_at-2.ensures) (others-then c.self.inside.nic c.self.inside.apps.items c.args.app _);
       layout = rw (← c.self.view_is) refl;
+      sound = (invariant_of-self-2 c).0;
     }

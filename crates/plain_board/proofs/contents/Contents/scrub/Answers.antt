@@ -29,3 +29,6 @@ returns-clause-taken c =
       all = takes-all _ c.args.app _ c.self.invariant.0 here can;
       side = side-then c.self.inside.apps.items c.args.app _ _ here;
     })
+
+pub returns-clause-sound : goal.returns-clause-sound
+returns-clause-sound c = (invariant_of-self c).0

@@ -30,3 +30,9 @@ returns-then-not-put_back-clause-full c =
     let sound = c.self.invariant.0 in
     let few = within-setting _ _ c.self.invariant.0 (rw (← c.self.view_is) at c.requires.app) in
     rw (← c.self.view_is) (λ no. full-sent _ c.args.app sound (let many = sound.set.many in omega arith) c.if-not-put_back.ensures.slots.1)
+
+pub returns-then-not-put_back-clause-only : goal.returns-then-not-put_back-clause-only
+returns-then-not-put_back-clause-only c = record { apps = rw (← c.self.view_is) refl; sound = (invariant_of-self c).0 }
+
+pub returns-clause-only : goal.returns-clause-only
+returns-clause-only c = record { apps = rw (← c.self.view_is) refl; sound = (invariant_of-self-2 c).0 }

@@ -27,3 +27,6 @@ returns-clause-told c =
     let p = of_pool _ c.args.own c.self.invariant.0 out in
     rw (← c.self.view_is, c.note.ensures) (NicTold-shut _ c.self.invariant.0 c.args.own c.lower-last.result (omega arith)
     (is_held _ c.args.own c.self.invariant.0 out) left)
+
+pub returns-clause-only : goal.returns-clause-only
+returns-clause-only c = record { apps = rw (← c.self.view_is) refl; sound = (invariant_of-self c).0 }

@@ -1,5 +1,5 @@
 -- The listed buffers of the word come to be cached, and no buffer is lost that no spare was for.
-use Rattle.std.proofs.{Common.{◌≡◌, ℕ, ◌++◌, List, drop, length, ap, sym, ◌∙◌, arith}, Math.Seq.{drop-append_seam}}
+use Rattle.std.proofs.{Common.{refl, ◌≡◌, ℕ, ◌++◌, List, drop, length, ap, sym, ◌∙◌, arith}, Math.Seq.{drop-append_seam}}
 use Rattle.plain_board.proofs.{Sweeping.{IsSound-swept, SweptWord-swept}, Losing.{lost-bound}}
 use Rattle.plain_board.proofs.contents.Contents.sweep.Goals as goal
 
@@ -33,3 +33,6 @@ returns-clause-bound c =
     (omega (arith, asked.room, ap length cached)) moved.len moved.taken moved.others in
     let found = seam _ _ _ _ cached moved.cache in
     rw (c.note.ensures, found) (lost-bound _ sound)
+
+pub returns-clause-only : goal.returns-clause-only
+returns-clause-only c = record { apps = rw (← c.self.view_is) refl; sound = (invariant_of-self c).0 }

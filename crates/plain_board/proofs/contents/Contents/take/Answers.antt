@@ -1,5 +1,5 @@
 -- A buffer that stands last in the cache has no holder, so its count can be raised.
-use Rattle.std.proofs.Common.{sym, ◌∙◌, arith}
+use Rattle.std.proofs.Common.{sym, ◌∙◌, arith, refl, rules}
 use Rattle.board_face.proofs.TokenLemmas.{FitsBuffer-fresh}
 use Rattle.plain_board.proofs.Taking.{is_spare, IsSound-took, TookBuffer-took}
 use Rattle.plain_board.proofs.contents.Contents.take.Goals as goal
@@ -18,6 +18,12 @@ pub new-requires : goal.new-requires
 new-requires c = rw c.size_of-size.ensures.value (FitsBuffer-fresh
     (record { layout = c.self.inside.layout; places = 0 }) c.in-Some.buffer c.self.invariant.0.sizes.layout)
 
+pub invariant_of-self : goal.invariant_of-self
+invariant_of-self c = search rules
+
+pub returns-in_default-clause-only : goal.returns-in_default-clause-only
+returns-in_default-clause-only c = record { apps = rw (← c.self.view_is) refl; sound = (invariant_of-self c).0 }
+
 pub invariant_of-self-2 : goal.invariant_of-self-2
 invariant_of-self-2 c =
     let sound = c.self.invariant.0 in
@@ -32,3 +38,6 @@ returns-clause-view c =
 
 pub returns-clause-unheld : goal.returns-clause-unheld
 returns-clause-unheld c = rw (← c.self.view_is, c.new.ensures) (is_spare _ c.in-Some.buffer c.self.invariant.0 (sym c.pop.ensures.value ∙ c.in-Some.is)).none
+
+pub returns-clause-only : goal.returns-clause-only
+returns-clause-only c = record { apps = rw (← c.self.view_is) refl; sound = (invariant_of-self-2 c).0 }

@@ -7,6 +7,5 @@ use Rattle.plain_board.proofs.nic.PlainNicNicFace.end.Goals as goal
 pub invariant_of-self : goal.invariant_of-self
 invariant_of-self c =
     let old = c.self.inside.board.value.contents in
-    let before = rw c.deref.ensures at c.sound.ensures in
     let said = rw c.deref_mut.ensures.value at c.end.ensures in
-    rw c.deref_mut.ensures.value (card-told ends old c.end.new.self before tt tt said.view said.apps [] refl tt _ c.self.invariant)
+    rw c.deref_mut.ensures.value (card-told ends old c.end.new.self _ c.self.invariant tt tt said.view said.only [] refl tt)

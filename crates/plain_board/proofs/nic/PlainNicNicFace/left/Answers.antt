@@ -8,9 +8,8 @@ pub invariant_of-self : goal.invariant_of-self
 invariant_of-self c =
     let old = c.self.inside.board.value.contents in
     let new = c.left.new.self in
-    let before = rw c.deref.ensures at c.sound.ensures in
     let said = rw c.deref_mut.ensures.value at c.left.ensures in
     rw c.deref_mut.ensures.value
     (by-answer c.left.result said.view
-    (λ done. card-told (sees_leave c.args.app) old new before tt tt done said.apps [] refl tt _ c.self.invariant)
-    (λ done. card-told (looks (NotLeft c.args.app)) old new before tt tt done said.apps [] refl tt _ c.self.invariant))
+    (λ done. card-told (sees_leave c.args.app) old new _ c.self.invariant tt tt done said.only [] refl tt)
+    (λ done. card-told (looks (NotLeft c.args.app)) old new _ c.self.invariant tt tt done said.only [] refl tt))

@@ -8,9 +8,8 @@ pub invariant_of-self : goal.invariant_of-self
 invariant_of-self c =
     let old = c.self.inside.board.value.contents in
     let new = c.sweep-count.new.self in
-    let before = rw c.deref.ensures at c.sound.ensures in
-    let after = rw c.deref-2.ensures at c.sound-2.ensures in
+    let before = c.self.invariant.sound in
     let said = rw c.deref_mut.ensures.value at c.sweep-count.ensures in
     let v = swept old.nic.view c.args.word said.view.found in
     rw c.deref_mut.ensures.value
-    (card-told (sweeps c.args.word said.view.found) old new before tt tt (nic-by old new v before after said.view.event refl) said.apps [] refl tt _ c.self.invariant)
+    (card-told (sweeps c.args.word said.view.found) old new _ c.self.invariant tt tt (nic-by old new v before said.only.sound said.view.event refl) said.only [] refl tt)
