@@ -1,5 +1,6 @@
-//! The queues of an application's flows: what its notes bring waits there until the stream reaches it, and then is lent.
-//! Nothing here knows who reads a loan, and when it goes back.
+//! The queues of an application's flows: what its notes bring waits there until the stream reaches it, and then is lent. Once no
+//! loan is out the user counts are scrubbed, and once no note comes any more the application leaves. Nothing here knows who reads a
+//! loan, and when it goes back.
 #![tactic(auto)]
 
 mod kept;
@@ -18,4 +19,4 @@ pub use lending::{Next, lend};
 pub use letting::release_all;
 pub use noting::{Taken, pass_note, take_note};
 pub use places::find;
-pub use queues::{FlowQueue, Lending, NotePiece, Short, Waiting, Wanting};
+pub use queues::{FlowQueue, Lending, NotePiece, Short, Waiting};

@@ -3,7 +3,7 @@ use Rattle.std.proofs.Common.{◌≡◌, ℕ, zero, suc, ◌+◌, ◌<◌, ◌�
 use Rattle.std.{specs.Prelude.{Bool, MatchBool}, proofs.lemmas.Bool.{cases_lt}}
 use Rattle.zr_kinds.specs.{declared.place.Place.{Place}, CopyingReceiver.{next_missing}}
 use Rattle.board_face.specs.{AppCalls.{AppOnlySaw, HasLoan, ShowsCopy}, AppEvents.{app_saw, abandoned, gave, has_read, left_board, loan_origin}, declared.views.app.AppLook.{AppLook, TheVariants.{NotQuiet}}}
-use Rattle.flow_queues.specs.{Leaving.{HasScrubbed, ScrubsOnce, Leaves}, declared.queues.Lending.{Lending}}
+use Rattle.flow_queues.specs.{Leaving.{HasScrubbed, ScrubsOnce, LeavesOnce}, declared.queues.Lending.{Lending}}
 use Rattle.board_face.specs.declared.views.app.{Reading.{Reading}, LentPiece.{LentPiece}, TakenNote.{TakenNote}, AppView.{AppView}}
 use Rattle.flow_queues.specs.Core.{total, Each, IsIn, LieApart, lent_piece, over_read, own_notes, placed_of, held_len, unsplit_len, AreReadAt, FlowStands, Stands}
 use Rattle.flow_queues.{specs.Marks.{marks_from}, proofs.Reading.{read-there}}
@@ -244,7 +244,7 @@ module _ (st : Desk) (v new : AppView) (stands : StreamStands st v) (done : Bool
   stands-scrubbed stopped none false (is, saw) = subst (λ b. StreamStands (record st { scrubbed = b }) new) (sym is)
       (saw-stands st v new NotQuiet saw.event stands)
 
-  pub left-of : (result : Bool) → Leaves st.scrubbed done v new result
+  pub left-of : (result : Bool) → LeavesOnce st.scrubbed done v new result
       → MatchBool result (new ≡ has_left v) (StreamStands st new × AppOnlySaw NotQuiet v new)
   left-of true (is, (mid, scrubbed, left)) = left ∙ ap left_board (quiet-then st v mid stands scrubbed)
   left-of false (is, saw) = (saw-stands st v new NotQuiet saw.event stands, saw)

@@ -1,4 +1,4 @@
-ghost use Rattle.std.specs.Prelude.{◌≡◌, ◌+◌, ◌<◌, ◌≤◌, [], List, length, Some, None, true, false, IfErr, IfSome, MatchBool, MatchResult, ⊤};
+ghost use Rattle.std.specs.Prelude.{◌≡◌, ◌+◌, ◌≤◌, [], List, length, None, true, false, IfErr, IfSome, MatchBool, MatchResult, ⊤};
 ghost use Rattle.futures.specs.{Poll.{IfReady, OnPending}, Runs.{After, Within}, declared.task.Poll.TheVariants.{Ready}};
 ghost use Rattle.board_face.specs.{Looks.{AppTold}, NotNow.{HasWrittenRingful}, AppCalls.{AppOnlySaw}, AppEvents.{app_gist, gave, abandoned}, declared.views.app.AppLook.TheVariants.{RefillInUse, NotQuiet}};
 ghost use Rattle.flow_queues.specs.Leaving.{IsHeldUp};
@@ -7,7 +7,7 @@ ghost use Rattle.zc_poll.specs.{Standing.{StreamStands, HoldsLoan, StaysAt, MayC
 use crate::lending::offer;
 use crate::state::{StreamState, stop};
 use crate::step::{Lent, Step, Waits};
-use crate::taking::take_note;
+use crate::taking::next_note;
 use board_face::{AppFace, Loan};
 use flow_queues::{Queues, leave, scrub};
 use futures::Stream;
@@ -70,7 +70,7 @@ impl<F: AppFace> LoanStream<F> {
         }
         let mut left = self.face.places();
         while left > 0 {
-            if let Some(step) = take_note(&mut self.face, &mut self.state) {
+            if let Some(step) = next_note(&mut self.face, &mut self.state) {
                 return step;
             }
             if let Some(step) = offer(&mut self.face, &mut self.state) {
@@ -183,6 +183,7 @@ impl<F: AppFace> LoanStream<F> {
             (F.seen self.old.face) (F.seen self.new.face) }
         ensures beside { F.beside self.new.face ≡ F.beside self.old.face }
     {
+        // By a flag of its own: what the stream keeps stays as it was.
         let mut scrubbed = self.state.scrubbed;
         leave(&mut self.face, &mut scrubbed)
     }
