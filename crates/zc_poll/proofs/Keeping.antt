@@ -44,29 +44,33 @@ module _ (st : Desk) (old new : AppView) (view : new ≡ without_step old new) (
 
   going-kept : Going st old → Going st new
   going-kept going =
-      let stands : Stands st.notes st.flows [] going.out old = going.stands in
+      let stands : Stands st.notes st.flows [] going.out old = going.stand.stands in
       let later = goes going.out (record { are = λ f. omega (arith, stands.tokens.loans f); known = stands.due_lent }) in
       record {
         out = later.0;
-        stands = record {
-          tokens = record {
-            apart = apart;
-            helds = λ f. ap (λ (v : AppView). total f v.helds) view ∙ stands.tokens.helds f;
-            loans = λ f. omega (arith, later.1.are f, ap (λ ts. over_read ts f later.0) taken-kept);
+        stand = record {
+          stands = record {
+            tokens = record {
+              apart = apart;
+              helds = λ f. ap (λ (v : AppView). total f v.helds) view ∙ stands.tokens.helds f;
+              loans = λ f. omega (arith, later.1.are f, ap (λ ts. over_read ts f later.0) taken-kept);
+            };
+            notes = stands.notes ∙ ap length taken-kept;
+            distinct = stands.distinct;
+            flows = subst (λ (ts : List TakenNote). Each (FlowStands ts []) st.flows) taken-kept stands.flows;
+            known = λ n none. ap (own_notes n) (sym taken-kept) ∙ stands.known n none;
+            posted = stands.posted;
+            lent = tt;
+            due_lent = subst (λ ts. Each (λ l. l.note < length ts) later.0) taken-kept later.1.known;
+            counted = ap (λ (v : AppView). v.scrubbed) view ∙ stands.counted;
           };
-          notes = stands.notes ∙ ap length taken-kept;
-          distinct = stands.distinct;
-          flows = subst (λ (ts : List TakenNote). Each (FlowStands ts []) st.flows) taken-kept stands.flows;
-          known = λ n none. ap (own_notes n) (sym taken-kept) ∙ stands.known n none;
-          posted = stands.posted;
-          lent = tt;
-          due_lent = subst (λ ts. Each (λ l. l.note < length ts) later.0) taken-kept later.1.known;
-          counted = ap (λ (v : AppView). v.scrubbed) view ∙ stands.counted;
+          rest = going.stand.rest;
+          index = going.stand.index;
+          bounded = record {
+            spares = omega (arith, going.stand.bounded.spares, ap (λ (v : AppView). v.spares) view, ap (total unsplit_len) taken-kept);
+            loans = omega (arith, going.stand.bounded.loans, counts, ap (λ (v : AppView). total held_len v.helds) view, ap (total taken_len) taken-kept);
+          };
         };
-        rest = going.rest;
-        index = going.index;
-        spares = omega (arith, going.spares, ap (λ (v : AppView). v.spares) view, ap (total unsplit_len) taken-kept);
-        bound = omega (arith, going.bound, counts, ap (λ (v : AppView). total held_len v.helds) view, ap (total taken_len) taken-kept);
       }
 
   pub stands-kept : StreamStands st old → StreamStands st new
