@@ -9,6 +9,9 @@ use crate::kept::Queues;
 use crate::queues::{FlowQueue, Lending, Short, Waiting};
 use board_face::AppFace;
 
+/// How many bytes of a loan are read at once, at most.
+pub const CHUNK: usize = 4096;
+
 /// What lending did.
 #[derive(Drop)]
 pub enum Next {

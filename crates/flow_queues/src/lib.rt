@@ -15,7 +15,7 @@ mod taking;
 
 pub use kept::Queues;
 pub use leaving::{leave, scrub};
-pub use lending::{Next, lend};
+pub use lending::{CHUNK, Next, lend};
 pub use letting::release_all;
 pub use noting::{Taken, pass_note, take_note};
 pub use places::find;

@@ -9,11 +9,9 @@ use crate::counting::{PourTally, count, count_item, make_room};
 use crate::step::Lent;
 use crate::stream::LoanStream;
 use board_face::{AppFace, Loan};
+use flow_queues::CHUNK;
 use zr_io::Shelf;
 use zr_kinds::Stopped;
-
-/// How many bytes are read and appended at once.
-const CHUNK: usize = 4096;
 
 /// Appends the bytes of a loan to a flow of the shelf, and tells how many of them the appends that went well have. Fewer than all
 /// say that the shelf failed.
