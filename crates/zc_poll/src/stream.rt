@@ -1,8 +1,8 @@
 ghost use Rattle.std.specs.Prelude.{◌≡◌, ◌+◌, ◌≤◌, [], List, length, None, true, false, IfErr, IfSome, MatchBool, MatchResult, ⊤};
 ghost use Rattle.futures.specs.{Poll.{IfReady, OnPending}, Runs.{After, Within}, declared.task.Poll.TheVariants.{Ready}};
-ghost use Rattle.board_face.specs.{Looks.{AppTold}, NotNow.{HasWrittenRingful}, AppCalls.{AppOnlySaw}, AppEvents.{app_gist, gave, abandoned}, declared.views.app.AppLook.TheVariants.{RefillInUse, NotQuiet}};
+ghost use Rattle.board_face.specs.{Looks.{AppTold}, NotNow.{HasWrittenRingful}, AppCalls.{AppOnlySaw, HasLoan}, AppEvents.{app_gist, gave, abandoned}, declared.views.app.AppLook.TheVariants.{RefillInUse, NotQuiet}};
 ghost use Rattle.flow_queues.specs.Leaving.{IsHeldUp};
-ghost use Rattle.zc_poll.specs.{Standing.{StreamStands, HoldsLoan, StaysAt, MayClose, stopped_with}, Items.{Given, HasGiven}, Steps.{Stepped, OnlySteps, PollGives, ReadsLoan, Scrubs, IsStepTold}, Fresh.{HasDoneNothing, new_desk, has_left}, Polls.{AsksAgain, Yields}, Stops.{IsStill}, declared.step.Step.TheVariants.{Ended}};
+ghost use Rattle.zc_poll.specs.{Standing.{StreamStands, HoldsLoan, StaysAt, MayClose, stopped_with}, Items.{Given, HasGiven}, Steps.{Stepped, OnlySteps, PollGives, ReadsLoan, Scrubs, IsStepTold}, Fresh.{HasDoneNothing, new_desk, has_left}, Polls.{AsksAgain, Yields}, Stops.{IsStill, without_loan}, declared.step.Step.TheVariants.{Ended}};
 
 use crate::lending::offer;
 use crate::state::{StreamState, stop};
@@ -117,6 +117,20 @@ impl<F: AppFace> LoanStream<F> {
         ensures beside { F.beside self.new.face ≡ F.beside self.old.face }
     {
         self.face.abandon(loan);
+    }
+
+    /// Gives the loan up that is kept here, if one is.
+    pub fn abandon_kept(&mut self, kept: &mut Option<Loan>)
+        requires stands { StreamStands self.old.desk (F.seen self.old.face) }
+        requires out { IfSome kept.old (λ loan. HasLoan (F.seen self.old.face) loan) }
+        ensures stays { StaysAt self.old.desk self.new.desk (F.seen self.new.face) }
+        ensures view { F.seen self.new.face ≡ without_loan kept.old (F.seen self.old.face) }
+        ensures none { kept.new ≡ None }
+        ensures beside { F.beside self.new.face ≡ F.beside self.old.face }
+    {
+        if let Some(loan) = kept.take() {
+            self.abandon(loan);
+        }
     }
 
     /// Gives all pieces up. The stream goes on taking notes, and gives no more items.
