@@ -57,18 +57,18 @@ pub record GaveSeats (old new : TheDesk) (board : TheBoard) : Type 0 where
   pub apps : new.view.apps ≡ old.view.apps
 
 -- What is back is of its board, and the card was served by all that are.
-pub record IsInOrder (desk : TheDesk) : Type 0 where
+pub record IsServedAndKnown (desk : TheDesk) : Type 0 where
   pub served : AreServed desk.view
   pub known : AreOfBoard desk.board.setting desk.view
 
 -- No application's seat is back.
 pub record AwaitsApps (desk : TheDesk) : Type 0 where
   pub apps : desk.view.apps ≡ []
-  pub order : IsInOrder desk
+  pub order : IsServedAndKnown desk
 
 -- The seats of these applications are back, and else it is as it was.
 pub record TookApps (old new : TheDesk) (sides : List AppSide) : Type 0 where
   pub board : new.board ≡ old.board
   pub nics : new.view.nics ≡ old.view.nics
   pub apps : new.view.apps ≡ sides
-  pub order : IsInOrder new
+  pub order : IsServedAndKnown new

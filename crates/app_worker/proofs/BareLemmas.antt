@@ -12,7 +12,7 @@ use Rattle.app_worker.proofs.Noting.{bounded-past, common-noted, steps-noted, mo
 use Rattle.app_worker.proofs.{TurnLemmas.{turns-bare, as-before, idle-for, after-busy, after-none}, Through.{goes-then}}
 use Rattle.app_worker.proofs.Closing.{IsOut, bare-saw, turns-finished, scrubbed_state, scrubbed_view, bare-scrubbed, common-scrubbed, goes-scrubbed}
 use Rattle.zr_kinds.specs.declared.fault.Fault.TheVariants as fault
-use Rattle.flow_queues.{specs.{Core.{total, Each, many, own_notes, placed_of, LieApart, has_at, is_odd}, Leaving.{Leaves, ScrubsOnce}}, proofs.Looks.{looks-more}}
+use Rattle.flow_queues.{specs.{Core.{total, Each, many, own_notes, placed_of, LieApart, has_at, is_odd}, Leaving.{LeavesOnce, ScrubsOnce}}, proofs.Looks.{looks-more}}
 
 -- nothing that is out lies over another
 pub bare-apart : (v : AppView) → v.helds ≡ [] → v.loans ≡ [] → LieApart v
@@ -94,11 +94,11 @@ module _ (st : State) (old : AppView) (bare : Bare st old) (is_bare : st.bare �
   }
 
   pub bare-finished : (new : AppView) (kept : ℕ → Option (List ℕ)) (f : ℕ) (done : Bool) → old.left ≡ false → st.ended ≡ true
-      → Leaves st.scrubbed done old new true
+      → LeavesOnce st.scrubbed done old new true
       → Turns st (record st { scrubbed = done }) old new kept kept f f Finished
   bare-finished new kept f done here ended leaves = turns-finished st st old old new kept kept f f done (out-at-once kept here ended) leaves
 
-  pub bare-not-quiet : (new : AppView) (kept : ℕ → Option (List ℕ)) (f : ℕ) (done : Bool) → st.ended ≡ true → Leaves st.scrubbed done old new false
+  pub bare-not-quiet : (new : AppView) (kept : ℕ → Option (List ℕ)) (f : ℕ) (done : Bool) → st.ended ≡ true → LeavesOnce st.scrubbed done old new false
       → Turns st (record st { scrubbed = done }) old new kept kept f f (Idle not_quiet)
   bare-not-quiet new kept f done ended leaves =
       let saw = leaves.1 in

@@ -8,7 +8,7 @@ use Rattle.board_face.specs.{AppEvents.{app_saw, left_board, reserve_of}, declar
 use Rattle.board_face.specs.declared.views.app.{TakenNote.{TakenNote}, AppView.{AppView}}
 use Rattle.flow_queues.specs.declared.queues.{FlowQueue.{FlowQueue}, Lending.{Lending}}
 use Rattle.flow_queues.specs.Core.{total, Each, many, own_notes, received_notes, placed_of, marks_of_waiting, lent_piece, over_read, read_out, FlowStands}
-use Rattle.flow_queues.specs.{Entries.{lies_in, returned_aside}, Totals.{lent_len, loan_entries}, Flows.{IsAtRest, FlowFacts, facts_of}, Leaving.{Leaves}}
+use Rattle.flow_queues.specs.{Entries.{lies_in, returned_aside}, Totals.{lent_len, loan_entries}, Flows.{IsAtRest, FlowFacts, facts_of}, Leaving.{LeavesOnce}}
 use Rattle.flow_queues.proofs.{Placing.{values-length}, Standing.{each-map}, Releasing.{each-facts, total-facts}, Looks.{looks-same}, Tokens.{total-append}}
 use Rattle.app_worker.specs.{declared.turn.Turn.TheVariants.{Did, Finished}, State.{State, Working, Common, Bare, app_steps, one_if}, Moves.{Goes}, Letting.{LetGo}}
 use Rattle.app_worker.{specs.{Stages.{Through}, Turns.{Rests, Turns}}, proofs.{EachBoth.{each-both}, Moving.{total-one, reserve-same, no-write, rose-after}}}
@@ -167,7 +167,7 @@ pub record IsOut (a c : State) (u w : AppView) (k m : ℕ → Option (List ℕ))
   pub quiet : a.bare ≡ true → w.quiet ≡ u.quiet
 
 pub turns-finished : (a c : State) (u w x : AppView) (k m : ℕ → Option (List ℕ)) (f f2 : ℕ) (done : Bool) → IsOut a c u w k m
-    → Leaves c.scrubbed done w x true → Turns a (record c { scrubbed = done }) u x k m f f2 Finished
+    → LeavesOnce c.scrubbed done w x true → Turns a (record c { scrubbed = done }) u x k m f f2 Finished
 turns-finished a c u w x k m f f2 done out leaves =
     let (now, (mid, scrubbed, left)) = leaves in
     let quiet : Bool = mid.quiet in
@@ -184,7 +184,7 @@ turns-finished a c u w x k m f f2 done out leaves =
 
 pub turns-not-quiet : (a c : State) (u w x : AppView) (k m : ℕ → Option (List ℕ)) (f f2 : ℕ) (done : Bool) → IsOut a c u w k m
     → app_steps a u < app_steps c w
-    → Leaves c.scrubbed done w x false → Turns a (record c { scrubbed = done }) u x k m f f2 Did
+    → LeavesOnce c.scrubbed done w x false → Turns a (record c { scrubbed = done }) u x k m f f2 Did
 turns-not-quiet a c u w x k m f f2 done out steps leaves =
     let (same, saw) = leaves in
     rw (same, saw.event) (turns-bare (bare-saw c w NotQuiet out.bare) out.is_bare (common-saw c w NotQuiet out.common) out.reaped

@@ -1,11 +1,11 @@
 -- A note is taken: what the queues say of it, of all that is kept.
 use Rattle.std.proofs.Common.{◌≡◌, ◌+◌, ◌<◌, ◌≤◌, true, false, [], ◌∷◌, ◌++◌, length, refl, ap, ◌∙◌, arith, length-append}
 use Rattle.zr_kinds.specs.declared.ring.Completion.{Completion}
-use Rattle.board_face.specs.declared.views.app.AppView.{AppView}
+use Rattle.board_face.specs.declared.views.app.{TakenNote.{TakenNote}, AppView.{AppView}}
 use Rattle.flow_queues.specs.{declared.queues.Lending.{Lending}, Core.{total, Each, FlowStands}, Flows.{IsAtRest}, Shelves.{FlowEnds}, Totals.{lent_bytes, lent_len}}
 use Rattle.flow_queues.{specs.{Kept.{QueueState, QueuesStand}, Noting.{Noted, NoteEntered}}, proofs.{Standing.{each-map}, Done.{shelves-stay}}}
-use Rattle.app_worker.specs.{State.{State, read_of, loan_len, Working, Common, queues_of}, Moves.{Moves, reads_of, reserve_loans}, Flushing.{loans_so_far}}
-use Rattle.app_worker.{specs.{Works.{Works}, Whole.{TookOne, TookNone, Torn, KeepsShelves}}, proofs.{Flushing.{flushes-same}, Oldest.{ends-of}, ReadWhole.{read-noted}}}
+use Rattle.app_worker.specs.{State.{State, read_of, loan_len, Working, Common, app_steps, queues_of}, Moves.{Moves, reads_of, reserve_loans}, Flushing.{Flushes, loans_so_far}}
+use Rattle.app_worker.{specs.{Works.{Works}, Whole.{Torn, KeepsShelves}}, proofs.{Flushing.{flushes-same}, Oldest.{ends-of}, ReadWhole.{read-noted}}}
 use Rattle.app_worker.proofs.{InQueues.{with_queues, out_of, queues-stand}, Noting.{common-noted, steps-noted, moves-noted}}
 
 -- what was appended of each flow has its place
@@ -21,6 +21,30 @@ torn-of st v works =
     assumption (all-end st v works)
 
 -- ---- a note
+
+-- a note was taken
+pub record TookOne (was now : State) (old new : AppView) : Type 0 where
+  pub flushes : Flushes was now old new
+  pub working : Working now new
+  pub common : Common now new
+  pub moves : Moves was now old new
+  pub shelved : KeepsShelves was now old new
+  pub steps : app_steps was old < app_steps now new
+  pub note : TakenNote
+  pub taken : new.taken ≡ old.taken ++ note ∷ []
+  pub left : new.left ≡ old.left
+  pub same : now ≡ record was { notes = now.notes; flows = now.flows; index = now.index; active = now.active }
+
+-- a note was taken, and can't be kept
+pub record TookNone (was now : State) (old new : AppView) : Type 0 where
+  pub torn : Torn now new
+  pub common : Common now new
+  pub moves : Moves was now old new
+  pub shelved : KeepsShelves was now old new
+  pub note : TakenNote
+  pub taken : new.taken ≡ old.taken ++ note ∷ []
+  pub left : new.left ≡ old.left
+  pub same : now ≡ record was { notes = now.notes; flows = now.flows; index = now.index; active = now.active }
 
 module _ (was : State) (q : QueueState) (old new : AppView) (works : Works was old) (noted : Noted (queues_of was) q old new) where
   taken-is : new.taken ≡ old.taken ++ noted.note ∷ []

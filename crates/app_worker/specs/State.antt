@@ -19,7 +19,7 @@ use Rattle.app_worker.specs.{declared.stack.Stray.{Stray}, ReadWhole.{AreReadWho
 pub record State : Type 0 where
   pub app : ℕ
   pub how : Behaviour
-  -- how many notes it has taken
+  -- how many notes entered its queues
   pub notes : ℕ
   pub flows : List FlowQueue
   -- the place of each flow, by its number

@@ -1,5 +1,5 @@
 -- What the steps of a turn do to all that an application keeps.
-use Rattle.std.specs.{Prelude.{◌≡◌, ◌≢◌, ℕ, ◌+◌, ◌<◌, ◌≤◌, Bool, true, false, List, [], ◌∷◌, ◌++◌, length, ◌⊎◌, Option, None}, Io.KnownBytes.{Keeps}}
+use Rattle.std.specs.{Prelude.{◌≡◌, ◌≢◌, ℕ, ◌+◌, ◌<◌, ◌≤◌, Bool, true, false, List, [], ◌++◌, length, ◌⊎◌, Option, None}, Io.KnownBytes.{Keeps}}
 use Rattle.zr_kinds.specs.declared.behaviour.Stopped.TheVariants as stop
 use Rattle.zr_kinds.specs.CopyingReceiver.{values_from}
 use Rattle.zr_io.specs.Moved.{Gained, Rose}
@@ -141,26 +141,3 @@ Reads was now old new kept kept_now faults faults_now Failed = ReadFailed was no
 
 abbrev pub KeepsShelves : State → State → AppView → AppView → Type 0
 KeepsShelves was now old new = (first kept : ℕ → Option (List ℕ)) → AreShelved first kept was.flows old → AreShelved first kept now.flows new
-
-pub record TookOne (was now : State) (old new : AppView) : Type 0 where
-  pub flushes : Flushes was now old new
-  pub working : Working now new
-  pub common : Common now new
-  pub moves : Moves was now old new
-  pub shelved : KeepsShelves was now old new
-  pub steps : app_steps was old < app_steps now new
-  pub note : TakenNote
-  pub taken : new.taken ≡ old.taken ++ note ∷ []
-  pub left : new.left ≡ old.left
-  pub same : now ≡ record was { notes = now.notes; flows = now.flows; index = now.index; active = now.active }
-
--- a note was taken, and can't be kept
-pub record TookNone (was now : State) (old new : AppView) : Type 0 where
-  pub torn : Torn now new
-  pub common : Common now new
-  pub moves : Moves was now old new
-  pub shelved : KeepsShelves was now old new
-  pub note : TakenNote
-  pub taken : new.taken ≡ old.taken ++ note ∷ []
-  pub left : new.left ≡ old.left
-  pub same : now ≡ record was { notes = now.notes; flows = now.flows; index = now.index; active = now.active }

@@ -8,12 +8,9 @@ ghost use Rattle.app_worker.specs.Steps.{MayRead, as_front, ReadsThrough, Counts
 use crate::stack::Stray;
 use board_face::AppFace;
 use circular_buffer::HeapCircularBuffer;
-use flow_queues::Lending;
+use flow_queues::{CHUNK, Lending};
 use zr_io::{Failed, Shelf};
 use zr_kinds::Rqe;
-
-/// How many bytes are read at once.
-pub const CHUNK: usize = 4096;
 
 /// Reads the first `most` bytes of a loan, and appends them to a flow of the shelf. `bytes` counts the appends that went
 /// well. Bytes that stand in `chunk` are written over.

@@ -4,14 +4,13 @@ ghost use Rattle.board_face.specs.{AppCalls.{IsHere}, AppEvents.{app_gist}, decl
 ghost use Rattle.app_worker.specs.{declared.turn.{Why.{Why}, Turn.TheVariants.{Idle}}, State.{AppStands}, Kept.{new_state, IsFresh, flow_bytes}, Turns.{look_of}, TurnMakes.{TurnMakes, at_work}};
 ghost use Rattle.flow_queues.specs.{Shelves.{AreShelved}, Totals.{bytes_of}};
 
-use crate::reading::CHUNK;
 use crate::stack::{Stack, Stray};
 use crate::turn::Turn;
 use crate::working::turn;
 use board_face::AppFace;
 use circular_buffer::HeapCircularBuffer;
 use completion_ring::CqRing;
-use flow_queues::{Queues, find};
+use flow_queues::{CHUNK, Queues, find};
 use std::alloc::{AllocError, Global};
 use std::marker::Model;
 use zr_io::Shelf;

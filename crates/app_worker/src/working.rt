@@ -41,6 +41,7 @@ fn pass_note<F: AppFace>(face: &mut F) -> Option<Turn>
         Taken::Did => Some(Turn::Did),
         Taken::NoNote => Some(Turn::Idle(Why::NoNote)),
         Taken::Ended => None,
+        // What goes past the queues takes no memory, so this is never reached.
         Taken::Memory => unreachable!(),
     }
 }

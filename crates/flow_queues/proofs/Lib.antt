@@ -1,6 +1,8 @@
 pub mod Looks
 pub mod Tokens
 pub mod GivenBack
+pub mod Counts
+pub mod Shown
 pub mod Pieces
 pub mod Filling
 pub mod Entering

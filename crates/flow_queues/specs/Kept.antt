@@ -48,7 +48,7 @@ pub record QueuesStand (st : QueueState) (out : LoansOut) (v : AppView) : Type 0
   pub index : IsIndex st.index st.flows
   pub bounded : IsBounded st.flows v
 
--- an application that hasn't left has these loans out, whichever they are
+-- the application hasn't left, and its queues stand so, whichever loans are out
 pub record QueuesWork (st : QueueState) (v : AppView) : Type 0 where
   pub here : IsHere v
   pub out : LoansOut

@@ -28,9 +28,9 @@ ScrubsOnce was now old new true = (now ≡ true) × HasScrubbed old new
 ScrubsOnce was now old new false = (now ≡ was) × AppOnlySaw NotQuiet old new
 
 -- They are, and the application left. Or a slot was seen in use.
-abbrev pub Leaves : Bool → Bool → AppView → AppView → Bool → Type 0
-Leaves was now old new true = (now ≡ true) × ((mid : AppView) × HasScrubbed old mid × (new ≡ left_board mid))
-Leaves was now old new false = (now ≡ was) × AppOnlySaw NotQuiet old new
+abbrev pub LeavesOnce : Bool → Bool → AppView → AppView → Bool → Type 0
+LeavesOnce was now old new true = (now ≡ true) × ((mid : AppView) × HasScrubbed old mid × (new ≡ left_board mid))
+LeavesOnce was now old new false = (now ≡ was) × AppOnlySaw NotQuiet old new
 
 -- A refill slot in use holds it up: an entry was written, and the board says of each look that was made that it is so.
 pub record IsHeldUp (is_so : AppLook → Type 0) (old new : AppView) : Type 0 where

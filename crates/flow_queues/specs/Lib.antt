@@ -13,5 +13,7 @@ pub mod Active
 pub mod Leaving
 pub mod Streams
 pub mod Ends
+pub mod Counting
+pub mod TallyOf
 pub mod Entries
 pub mod Returned

@@ -1,4 +1,4 @@
--- A note is taken.
+-- A look for a note. What comes enters the queues, or goes past them.
 use Rattle.std.specs.Prelude.{◌≡◌, ℕ, [], ◌∷◌, ◌++◌}
 use Rattle.board_face.specs.{AppCalls.{AppOnlySaw, ToldEnd}, declared.views.app.{AppLook.TheVariants.{NoNote as no_note}, TakenNote.{TakenNote}, AppView.{AppView}}}
 use Rattle.flow_queues.specs.{declared.noting.Taken.{Taken, TheVariants.{Did, NoNote, Ended, Memory}}, Core.{HasTokens, total}, Totals.{bytes_of}}

@@ -1,7 +1,7 @@
 //! An application's user counts are scrubbed, and it leaves.
 ghost use Rattle.std.specs.Prelude.{◌≡◌, false};
 ghost use Rattle.board_face.specs.AppEvents.{app_gist};
-ghost use Rattle.flow_queues.specs.Leaving.{MayScrub, MayLeave, ScrubsOnce, Leaves, IsHeldUp};
+ghost use Rattle.flow_queues.specs.Leaving.{MayScrub, MayLeave, ScrubsOnce, LeavesOnce, IsHeldUp};
 
 use board_face::AppFace;
 
@@ -29,7 +29,8 @@ pub fn scrub<F: AppFace>(face: &mut F, scrubbed: &mut bool) -> bool
 /// Scrubs, and leaves if that is done: whether it left. `false` says that a refill slot was seen in use.
 pub fn leave<F: AppFace>(face: &mut F, scrubbed: &mut bool) -> bool
     requires may { MayLeave scrubbed.old (F.seen face.old) }
-    ensures leaves { Leaves scrubbed.old scrubbed.new (F.seen face.old) (F.seen face.new) result }
+    ensures leaves { LeavesOnce scrubbed.old scrubbed.new (F.seen face.old) (F.seen face.new)
+        result }
     ensures held { result ≡ false
         → IsHeldUp (λ look. F.tells look (app_gist (F.seen face.old)) (F.beside face.old))
         (F.seen face.old) (F.seen face.new) }

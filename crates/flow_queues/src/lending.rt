@@ -9,6 +9,9 @@ use crate::kept::Queues;
 use crate::queues::{FlowQueue, Lending, Short, Waiting};
 use board_face::AppFace;
 
+/// How many bytes of a loan are read at once, at most.
+pub const CHUNK: usize = 4096;
+
 /// What lending did.
 #[derive(Drop)]
 pub enum Next {
@@ -112,7 +115,7 @@ fn lend_next<F: AppFace>(face: &mut F, own: &mut FlowQueue) -> Next
     }
 }
 
-/// Lends what is next in the stream of the active flow.
+/// Lends what is next in the stream of the active flow: a piece, or a copy of bytes that came with their note.
 pub fn lend<F: AppFace>(face: &mut F, st: &mut Queues) -> Next
     requires work { QueuesWork (queue_state st.old) (F.seen face.old) }
     requires owns { (F.seen face.old).owns ≡ [] }

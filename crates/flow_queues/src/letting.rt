@@ -1,5 +1,5 @@
 //! All pieces that wait are given up.
-ghost use Rattle.std.specs.Prelude.{◌≡◌, ℕ, ◌+◌, ◌<◌, ◌≤◌, []};
+ghost use Rattle.std.specs.Prelude.{◌≡◌, ℕ, ◌≤◌, []};
 ghost use Rattle.board_face.specs.declared.views.app.HeldPiece.{HeldPiece};
 ghost use Rattle.flow_queues.specs.{Core.{HoldsApart, total, over_kept}, Pieces.{AllReleased, OnlyHelds}};
 

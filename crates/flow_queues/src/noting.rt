@@ -1,4 +1,4 @@
-//! A note is taken: what its flow wants of it enters the flow's queue.
+//! A look for a note. What comes enters the queues, or goes past them.
 ghost use Rattle.std.specs.Prelude.{◌≡◌, ◌≤◌, ◌⊎◌, [], length};
 ghost use Rattle.board_face.specs.{AppCalls.{TookLinear}, AppEvents.{app_gist}, Texts.{IsLinearNote}, declared.views.app.{AppLook.TheVariants.{NoNote as no_note}, AppView.{AppView}}};
 ghost use Rattle.flow_queues.specs.{Core.{Each, HoldsApart}, Flows.{IsAtRest, IsIndex}, Kept.{LoansOut, QueuesStand, QueuesWork}, KeptOf.{queue_state}, Noting.{TakesNote, PassesNote}};

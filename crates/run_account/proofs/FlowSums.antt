@@ -2,8 +2,7 @@
 use Rattle.std.proofs.Common.{◌≡◌, ◌≢◌, ℕ, zero, suc, ◌+◌, ◌<◌, ◌≤◌, List, [], ◌∷◌, length, true, false, ◌==◌, if◌then◌else◌, Some, refl, ap, subst, ◌∙◌, arith, ⊎_elim}
 use Rattle.std.{specs.List.{slice_get, sum_by}, proofs.lemmas.{Bool.{eq-eqb, ne_eqb, cases_eq}, List.Sums.{sum_by-cons}}}
 use Rattle.app_worker.specs.Core.{total, Each}
-use Rattle.flow_queues.specs.Ends.{bytes_in, times}
-use Rattle.zc_poll.proofs.Shown.{none-there}
+use Rattle.flow_queues.{specs.Ends.{bytes_in, times}, proofs.Shown.{none-there}}
 
 -- ---- sums over so many numbers from one on
 

@@ -4,8 +4,8 @@ use Rattle.std.specs.Prelude.{IfSome}
 use Rattle.zr_kinds.specs.declared.place.Place.{Place}
 use Rattle.board_face.specs.{AppCalls.{HasLoan}, declared.views.app.{LentPiece.{LentPiece}, AppView.{AppView}}}
 use Rattle.flow_queues.{specs.Core.{total, IsIn, LieApart}, proofs.Tokens.{total-append, in-left, in-right}}
-use Rattle.zc_poll.{specs.Stops.{without_due}, proofs.{Stopping.{AllGone}, Views.{total-one}}}
-use Rattle.zc_forward.specs.{Sending.{AreLoans, OutboxState, of_one, of_sent, without_uncarried}, GivenUp.{GaveUp}, Turns.{with_due}}
+use Rattle.zc_poll.{specs.Stops.{without_loan}, proofs.{Stopping.{AllGone}, Views.{total-one}}}
+use Rattle.zc_forward.specs.{Sending.{AreLoans, OutboxState, of_one, of_sent}, GivenUp.{GaveUp}, Turns.{with_due}}
 use Rattle.zc_forward.proofs.{Live.{has-out, one-given-up, went-places}, Forwards.{due-out}, Ends.{aside-out}}
 
 pub gave-none : (v : AppView) → GaveUp v v
@@ -44,23 +44,23 @@ module _ (w : OutboxState) (v : AppView) (are : AreLoans w v.loans) where
   has-due (Some loan) is = has-out v loan (due-out w v.loans loan are is)
 
   module _ (apart : LieApart v) where
-    pub gave-due : (due : Option Place) → w.tally.due ≡ due → GaveUp v (without_due due v)
+    pub gave-due : (due : Option Place) → w.tally.due ≡ due → GaveUp v (without_loan due v)
     gave-due None is = gave-none v
     gave-due (Some loan) is = one-given-up v v (gave-none v) apart loan (due-out w v.loans loan are is)
 
-    pub left-due : (due : Option Place) → w.tally.due ≡ due → AreLoans (with_due w None) (without_due due v).loans
+    pub left-due : (due : Option Place) → w.tally.due ≡ due → AreLoans (with_due w None) (without_loan due v).loans
     left-due None is = λ f. (let none : of_one f w.tally.due ≡ 0 = ap (of_one f) is in omega (arith, are f, none))
     left-due (Some loan) is = λ f.
         let one : of_one f w.tally.due ≡ f loan = ap (of_one f) is in
         omega (arith, are f, one, went-places v apart loan (due-out w v.loans loan are is) f)
 
     -- the loan that wasn't carried
-    pub gave-aside : (aside : Option Place) → w.uncarried ≡ aside → GaveUp v (without_uncarried aside v)
+    pub gave-aside : (aside : Option Place) → w.uncarried ≡ aside → GaveUp v (without_loan aside v)
     gave-aside None is = gave-none v
     gave-aside (Some loan) is = one-given-up v v (gave-none v) apart loan (aside-out w v.loans loan are is)
 
     pub left-aside : w.tally.due ≡ None → (aside : Option Place) → w.uncarried ≡ aside
-        → (f : Place → ℕ) → total (λ (l : LentPiece). f l.place) (without_uncarried aside v).loans ≡ of_sent f w.out
+        → (f : Place → ℕ) → total (λ (l : LentPiece). f l.place) (without_loan aside v).loans ≡ of_sent f w.out
     left-aside due None is f =
         let none : of_one f w.tally.due ≡ 0 = ap (of_one f) due in
         let aside : of_one f w.uncarried ≡ 0 = ap (of_one f) is in

@@ -6,8 +6,8 @@ use Rattle.zr_kinds.specs.declared.behaviour.Stopped.TheVariants as stop
 use Rattle.board_face.specs.{AppCalls.{HasLoan}, AppEvents.{abandoned}, declared.views.app.{LentPiece.{LentPiece}, AppView.{AppView}}}
 use Rattle.flow_queues.specs.{Core.{total, IsIn}, Totals.{lent_len}}
 use Rattle.zc_poll.{specs.{Standing.{Desk, StreamStands}, Items.{HasGiven}, Pouring.{OnlyDue, PourStands}}, proofs.{ItemPoured.{poured-all}, EntriesFirst.{first-gone}}}
-use Rattle.zc_poll.proofs.{PourTurns.{same-counts}, Pours.{is-no}}
-use Rattle.zc_forward.specs.{Tags.{Tags}, Sending.{AreLoans, OutboxState, of_one, of_sent, tags_of, without_uncarried}, Forwarding.{ForwardStands}}
+use Rattle.zc_poll.{proofs.{PourTurns.{same-counts}, Pours.{is-no}}, specs.Stops.{without_loan}}
+use Rattle.zc_forward.specs.{Tags.{Tags}, Sending.{AreLoans, OutboxState, of_one, of_sent, tags_of}, Forwarding.{ForwardStands}}
 use Rattle.zc_forward.proofs.{Out.{none_out}, Live.{IsOut, at-itself, at_place, counted-out, has-out, no-loans, went, went-places, went-many, went-lent}}
 use Rattle.zr_io.specs.Moved.{ShelfCounts}
 
@@ -98,7 +98,7 @@ module _ (first got : ℕ → Option (List ℕ)) (losses now_losses : ShelfCount
         appended = before.appended;
       }
 
-  pub ends-pours : (aside : Option Place) → w.uncarried ≡ aside → z ≡ without_uncarried aside v → PourStands first losses w.tally now got now_losses z
+  pub ends-pours : (aside : Option Place) → w.uncarried ≡ aside → z ≡ without_loan aside v → PourStands first losses w.tally now got now_losses z
   ends-pours None is view = settled view is
   ends-pours (Some loan) is view = given-up loan view is
 

@@ -5,8 +5,8 @@ use Rattle.zr_kinds.specs.declared.place.Place.{Place}
 use Rattle.zr_kinds.specs.declared.behaviour.Stopped.TheVariants as stop
 use Rattle.zr_io.{specs.Moved.{Rose, ShelfCounts, raised_by}, proofs.Moved.{Gained-then, Gained-nothing}}
 use Rattle.board_face.specs.{AppEvents.{app_saw, gave, entry_of}, declared.views.app.{AppLook.{AppLook}, LentPiece.{LentPiece}, AppView.{AppView}}}
-use Rattle.flow_queues.{specs.{Core.{total, IsIn}, Totals.{lent_len, loan_entries}, Ends.{bytes_in}}, proofs.Tokens.{in-total}}
-use Rattle.zc_poll.specs.{declared.to_shelf.PollTurn.{PollTurn, TheVariants.{Did, Idle, Ended}}, Counting.{TallyState}, Standing.{Desk, StreamStands}}
+use Rattle.flow_queues.{specs.{Core.{total, IsIn}, Totals.{lent_len, loan_entries}, Ends.{bytes_in}, Counting.{TallyState}}, proofs.Tokens.{in-total}}
+use Rattle.zc_poll.specs.{declared.to_shelf.PollTurn.{PollTurn, TheVariants.{Did, Idle, Ended}}, Standing.{Desk, StreamStands}}
 use Rattle.zc_poll.specs.{Items.{Given, HasGiven, marks_given}, PourTurns.{GoesBack}, Steps.{OnlySteps, Unlent}, Pouring.{IsPoured, HasPoured}}
 use Rattle.zc_poll.proofs.{ItemPoured.{SameCounts, poured-moved, poured-all, same-kept}, EntriesFirst.{first-same, first-gave}, PouredOn.{sees-still}}
 use Rattle.zc_poll.proofs.{PourTurns.{same-counts}, Pours.{is-no, no-write}}

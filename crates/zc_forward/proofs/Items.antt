@@ -1,5 +1,5 @@
 -- An item went out, or wasn't carried for want of memory, or the carrier failed.
-use Rattle.std.proofs.Common.{◌≡◌, ◌≢◌, ℕ, ◌+◌, ◌-◌, ◌^◌, ◌<◌, ◌≤◌, min, Bool, true, false, vec_capacity, List, [], ◌∷◌, ◌++◌, length, drop, Option, Some, None, refl, sym, ap, subst, ◌∙◌, arith, ⊎_elim, inl, inr, append-nil, length-append}
+use Rattle.std.proofs.Common.{◌≡◌, ◌≢◌, ℕ, ◌+◌, ◌-◌, ◌^◌, ◌<◌, ◌≤◌, min, true, false, List, [], ◌∷◌, ◌++◌, length, drop, Option, Some, None, refl, sym, ap, subst, ◌∙◌, arith, ⊎_elim, inl, inr, append-nil, length-append}
 use Rattle.std.{proofs.Math.Seq.{drop-append_seam}, specs.{Prelude.{nat_eq}, Io.KnownBytes.{Keeps}, Map.{lookup}}}
 use Rattle.zr_kinds.specs.declared.place.Place.{Place}
 use Rattle.zr_kinds.specs.declared.behaviour.Stopped.TheVariants as stop
@@ -7,7 +7,8 @@ use Rattle.zr_io.{specs.Moved.{Gained, Rose, ShelfCounts, raised_by}, proofs.Mov
 use Rattle.board_face.specs.declared.views.app.{LentPiece.{LentPiece}, AppView.{AppView}}
 use Rattle.flow_queues.specs.{Marks.{Mark}, declared.queues.Lending.{Lending}, Core.{total, IsIn, lent_piece, OnlyReads, IsReadOf}, Totals.{lent_len, loan_entries}}
 use Rattle.flow_queues.{specs.{Shelves.{AreOfOneLoan, kept_loans}, Ends.{bytes_in}}, proofs.Tokens.{loan-some, total-append}}
-use Rattle.zc_poll.specs.{Counting.{TallyState, AddsTo, item_counted}, declared.{counting.PourTally.{PourTally as Counts}, step.Lent.{Lent}}, TallyOf.{tally_of}}
+use Rattle.zc_poll.specs.declared.step.Lent.{Lent}
+use Rattle.flow_queues.specs.{Counting.{TallyState, AddsTo, item_counted}}
 use Rattle.zc_poll.specs.{Standing.{Desk, StreamStands}, Items.{Given, HasGiven, marks_given}, Steps.{OnlySteps, IsItem, given_as}, Pouring.{HasPoured}}
 use Rattle.zc_poll.proofs.{Views.{total-one}, LoanGone.{drop-all}, PouredOn.{SeesOn, read-on}}
 use Rattle.zc_poll.proofs.{ItemPoured.{Roomy, SameCounts, moved-by, poured-moved, poured-roomy, item-poured, push-length}, EntriesFirst.{first-gone, first-same}}
@@ -345,13 +346,3 @@ module _ (first kept : ℕ → Option (List ℕ)) (losses losses_now : ShelfCoun
             still = λ _. same_faults ∙ before.still (no-write u.tally.stopped nothing);
             appended = all-took faults took ∙ ap (raised_by losses.appended) (sym (ap (λ (t : TallyState). t.written) tally));
           }
-
--- ---- from what is kept to plain data
-
-pub is-roomy : (u v w : Counts) (copied : Bool) → tally_of v ≡ item_counted (tally_of u) copied → w ≡ record v { counts = w.counts; flows = w.flows }
-    → length w.counts.entries ≤ vec_capacity w.flows → w.flows.items ≡ [] → Roomy (item_counted (tally_of u) copied) (tally_of w)
-is-roomy u v w copied counted same room empty = record {
-  same = ap tally_of same ∙ ap (λ (t : TallyState). record t { counts = w.counts.entries; flows = w.flows.items; room = vec_capacity w.flows }) counted;
-  room = room;
-  empty = empty;
-}

@@ -5,17 +5,17 @@ use Rattle.zr_kinds.specs.declared.place.Place.{Place}
 use Rattle.board_face.specs.{Looks.{AppRose}, declared.views.app.{AppLook.TheVariants.{NotQuiet as not_quiet}, AppView.{AppView}}}
 use Rattle.board_face.specs.AppEvents.{abandoned}
 use Rattle.zc_poll.specs.{Standing.{Desk}, PourTurns.{ScrubsIfQuiet}, declared.to_shelf.PollTurn.{PollTurn, TheVariants.{Did, Idle, Ended}}}
-use Rattle.zc_poll.{specs.declared.to_shelf.Rests.TheVariants.{Stream, RefillFull, NotQuiet, NoNotice}, proofs.Scrubbing.{scrubbed-desk}}
-use Rattle.zc_forward.specs.{Sending.{OutboxState, many_kept, most_out, of_one, without_uncarried}, Tags.{Tags, TakesTag}, Turns.{CarriedItem, GaveDue, Scrubbed, ScrubsFirst, Stage, Told, TookStep, TurnDoes}}
+use Rattle.zc_poll.{specs.{declared.to_shelf.Rests.TheVariants.{Stream, RefillFull, NotQuiet, NoNotice}, Stops.{without_loan}}, proofs.Scrubbing.{scrubbed-desk}}
+use Rattle.zc_forward.specs.{Sending.{OutboxState, many_kept, most_out, of_one}, Tags.{Tags, TakesTag}, Turns.{CarriedItem, GaveDue, Scrubbed, ScrubsFirst, Stage, Told, TookStep, TurnDoes}}
 
 -- a loan that is given up changes nothing of it
-pub quiet-aside : (aside : Option Place) (old mid new : AppView) → mid ≡ without_uncarried aside old → ScrubsIfQuiet mid new → ScrubsIfQuiet old new
+pub quiet-aside : (aside : Option Place) (old mid new : AppView) → mid ≡ without_loan aside old → ScrubsIfQuiet mid new → ScrubsIfQuiet old new
 quiet-aside None old mid new same scrubs = subst (λ (v : AppView). ScrubsIfQuiet v new) same scrubs
 quiet-aside (Some loan) old mid new same scrubs = λ no. ⊎_elim (λ (is : new.scrubbed ≡ true). inl is)
     (λ (saw : AppRose not_quiet (abandoned old loan) new × (new.quiet ≡ old.quiet)). inr (record { rose = saw.0.rose }, saw.1))
     (subst (λ (v : AppView). ScrubsIfQuiet v new) same scrubs no)
 
-pub aside-app : (aside : Option Place) (v : AppView) → (without_uncarried aside v).app ≡ v.app
+pub aside-app : (aside : Option Place) (v : AppView) → (without_loan aside v).app ≡ v.app
 aside-app None v = refl
 aside-app (Some loan) v = refl
 
@@ -24,7 +24,7 @@ pub carried-first : (was mid now : Stage) → ScrubsFirst was mid → CarriedIte
 carried-first was mid now first item = ⊎_elim
     (λ (idle : ((was.desk.stopped ≡ false) ⊎ (was.work.out ≢ [])) × (mid ≡ was)). subst (λ (s : Stage). CarriedItem s now) idle.1 item)
     (λ (scrubbed : Scrubbed was mid).
-    let desk = scrubbed-desk was.desk mid.desk (without_uncarried was.work.uncarried was.view) mid.view scrubbed.done scrubbed.scrubs in
+    let desk = scrubbed-desk was.desk mid.desk (without_loan was.work.uncarried was.view) mid.view scrubbed.done scrubbed.scrubs in
     let clash : true ≡ false = sym scrubbed.stopped ∙ sym (ap (λ (d : Desk). d.stopped) desk) ∙ item.item.going.0 in absurd (cc))
     first
 

@@ -2,8 +2,8 @@
 use Rattle.std.specs.Prelude.{◌≡◌, ◌<◌, ℕ, ◌+◌, false, length, None}
 use Rattle.zr_kinds.specs.declared.place.Place.{Place}
 use Rattle.board_face.specs.declared.views.app.{LentPiece.{LentPiece}, AppView.{AppView}}
-use Rattle.flow_queues.specs.Core.{total}
-use Rattle.zc_poll.specs.{Counting.{HasRoomForFlows}, Standing.{Desk, HoldsLoan}}
+use Rattle.flow_queues.specs.{Core.{total}, Counting.{HasRoomForFlows}}
+use Rattle.zc_poll.specs.Standing.{Desk, HoldsLoan}
 use Rattle.zc_forward.specs.{Tags.{Tags}, Sending.{OutboxState, most_out, of_sent, tags_of}}
 
 -- the stream hasn't ended, no loan is due, and more may go out

@@ -1,5 +1,5 @@
 -- What forwarding keeps, as plain data.
-use Rattle.zc_poll.specs.TallyOf.{tally_of}
+use Rattle.flow_queues.specs.TallyOf.{tally_of}
 use Rattle.zc_forward.specs.{declared.outbox.Outbox.{Outbox as Kept}, Sending.{OutboxState}}
 
 abbrev pub outbox_of : Kept → OutboxState

@@ -1,9 +1,9 @@
 -- The loans that are out, by their tags, and what forwarding keeps beside its stream and its carrier.
 use Rattle.std.specs.Prelude.{◌≡◌, ℕ, ◌+◌, ◌==◌, ◌||◌, Bool, true, false, List, [], length, map, Option, Some, None}
 use Rattle.zr_kinds.specs.declared.place.Place.{Place}
-use Rattle.board_face.specs.{AppEvents.{abandoned}, declared.views.app.{LentPiece.{LentPiece}, AppView.{AppView}}}
-use Rattle.flow_queues.specs.Core.{total}
-use Rattle.zc_poll.specs.{Counting.{TallyState, new_tally}, declared.step.Waits.{Waits, TheVariants.{NoNote, ReserveHeld, Enough}}}
+use Rattle.board_face.specs.declared.views.app.LentPiece.{LentPiece}
+use Rattle.flow_queues.specs.{Core.{total}, Counting.{TallyState, new_tally}}
+use Rattle.zc_poll.specs.declared.step.Waits.{Waits, TheVariants.{NoNote, ReserveHeld, Enough}}
 use Rattle.zc_forward.specs.{declared.sent.Sent.{Sent}, Tags.{Tags}}
 
 -- their tags, each with its flow
@@ -56,8 +56,3 @@ is_urgent w = w.pressed || (many_kept w == most_out)
 -- The loans that are out are those that are kept, each once: by their tags, and one that is due, and one that wasn't carried.
 abbrev pub AreLoans : OutboxState → List LentPiece → Type 0
 AreLoans w loans = (f : Place → ℕ) → total (λ (l : LentPiece). f l.place) loans ≡ of_one f w.tally.due + of_one f w.uncarried + of_sent f w.out
-
--- with the loan given up that wasn't carried
-abbrev pub without_uncarried : Option Place → AppView → AppView
-without_uncarried None v = v
-without_uncarried (Some loan) v = abandoned v loan

@@ -7,12 +7,12 @@ use Rattle.zr_io.specs.{Memory.{raised}, Moved.{Rose, ShelfCounts}}
 use Rattle.futures.specs.declared.task.Poll.{Poll, TheVariants.{Ready, Pending}}
 use Rattle.board_face.specs.{AppCalls.{AppOnlySaw}, AppEvents.{gave}, NotNow.{HasWritten, HasWrittenRingful}, declared.views.app.AppLook.{AppLook}}
 use Rattle.board_face.specs.declared.views.app.{AppLook.TheVariants.{RefillInUse, NotQuiet as not_quiet}, AppView.{AppView}}
-use Rattle.flow_queues.specs.{Core.{Each, OnlyReads}, Ends.{HasLeft}, Returned.{HasReturned}}
+use Rattle.flow_queues.specs.{Core.{Each, OnlyReads}, Ends.{HasLeft}, Returned.{HasReturned}, Counting.{TallyState}}
 use Rattle.zc_poll.specs.declared.{step.Lent.{Lent}, to_shelf.Rests.{Rests, TheVariants.{Stream, RefillFull, NotQuiet, NoNotice}}}
 use Rattle.zc_poll.specs.declared.{step.Step.{Step, TheVariants.{Waiting, Memory, Ended as stream_ended}}, to_shelf.{Poured.{Poured}, PollTurn.{PollTurn}}}
-use Rattle.zc_poll.specs.{declared.to_shelf.PollTurn.TheVariants.{Did, Idle, Ended}, Counting.{TallyState}, Fresh.{has_left}, Standing.{Desk, stopped_with}, Steps.{OnlySteps, Scrubs, Steps, IsItem}}
-use Rattle.zc_poll.specs.PourTurns.{GoesBack, IsTold, pour_end}
-use Rattle.zc_forward.specs.{declared.sent.Sent.{Sent}, GivenUp.{GaveAllUp}, Tags.{Pace, PaceGoes, Tags, TakesTag}, Sending.{OutboxState, is_held, is_urgent, most_out, without_uncarried, many_kept}}
+use Rattle.zc_poll.specs.{declared.to_shelf.PollTurn.TheVariants.{Did, Idle, Ended}, Fresh.{has_left}, Standing.{Desk, stopped_with}, Steps.{OnlySteps, Scrubs, Steps, IsItem}}
+use Rattle.zc_poll.specs.{PourTurns.{GoesBack, IsTold, pour_end}, Stops.{without_loan}}
+use Rattle.zc_forward.specs.{declared.sent.Sent.{Sent}, GivenUp.{GaveAllUp}, Tags.{Pace, PaceGoes, Tags, TakesTag}, Sending.{OutboxState, is_held, is_urgent, most_out, many_kept}}
 use Rattle.zc_forward.specs.{Forwarding.{ForwardStands}, Asking.{AskedBy}}
 
 -- what a turn looks at: what is kept, the stream's desk, the tags that are out, the carrier's pace, and the view
@@ -77,7 +77,7 @@ pub record Scrubbed (was now : Stage) : Type 0 where
   pub out : was.work.out ≡ []
   pub work : now.work ≡ record was.work { uncarried = None }
   pub done : Bool
-  pub scrubs : Scrubs was.desk now.desk (without_uncarried was.work.uncarried was.view) now.view done
+  pub scrubs : Scrubs was.desk now.desk (without_loan was.work.uncarried was.view) now.view done
   pub tags : now.tags ≡ was.tags
   pub pace : now.pace ≡ was.pace
 
@@ -125,8 +125,8 @@ Idles RefillFull was now = (was.work.tally.due ≢ None) × (now.work ≡ was.wo
     × AppOnlySaw RefillInUse was.view now.view × HasWrittenRingful was.view
 Idles NotQuiet was now = (was.work.tally.due ≡ None) × (now.work ≡ record was.work { uncarried = None }) × (now.desk ≡ was.desk)
     × (was.tags ≡ []) × (now.tags ≡ []) × (was.desk.ended ≡ true)
-    × AppOnlySaw not_quiet (without_uncarried was.work.uncarried was.view) now.view
-    × HasWritten (without_uncarried was.work.uncarried was.view)
+    × AppOnlySaw not_quiet (without_loan was.work.uncarried was.view) now.view
+    × HasWritten (without_loan was.work.uncarried was.view)
 
 -- The carrier was asked for a notice as it should, and told of the loan that went back; or it had none, and then it is as that left it
 -- but for an item that was carried.
@@ -154,7 +154,7 @@ abbrev pub TurnDoes : Stage → Stage → PollTurn → Type 0
 TurnDoes was now Did = Does was now
 TurnDoes was now (Idle why) = Idles why was now
 TurnDoes was now (Ended poured) = (was.work.tally.due ≡ None) × (was.tags ≡ []) × (was.desk.ended ≡ true)
-    × (now.view ≡ has_left (without_uncarried was.work.uncarried was.view))
+    × (now.view ≡ has_left (without_loan was.work.uncarried was.view))
     × ((poured.stopped ≡ stop.No) ↔ (was.desk.stopped ≡ false)) × (poured.stopped ≡ was.work.tally.stopped) × IsStrictlySortedBy nat_cmp (keys_of poured.flows.items)
     × Each (λ f. 0 < f.1) poured.flows.items
 

@@ -8,11 +8,9 @@ use crate::carrier::Carrier;
 use crate::outbox::Outbox;
 use crate::sent::Sent;
 use board_face::AppFace;
+use flow_queues::CHUNK;
 use zc_poll::LoanStream;
 use zr_kinds::Stopped;
-
-/// How many bytes are read and carried at once.
-const CHUNK: usize = 4096;
 
 /// Carries the bytes of a loan whose tag is out, and tells how many of them the calls that went well carried. Fewer than all say that
 /// the carrier failed.

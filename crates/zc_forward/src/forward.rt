@@ -3,7 +3,8 @@ ghost use Rattle.std.specs.Prelude.{◌≡◌, ℕ, List, [], Option, true, ⊤}
 ghost use Rattle.futures.specs.{Poll.{IfReady, OnPending}, Task.{Keeps}};
 ghost use Rattle.board_face.specs.AppEvents.{app_gist};
 ghost use Rattle.zc_poll.specs.{Fresh.{HasDoneNothing, new_desk}, Standing.{StreamStands}};
-ghost use Rattle.zc_poll.specs.{Polls.{AsksAgain}, PourTurns.{pour_end}, Stops.{HasStopped, quit_by}, declared.to_shelf.Poured.{Poured as Told}};
+ghost use Rattle.zc_poll.specs.{Polls.{AsksAgain}, PourTurns.{pour_end}, Stops.{HasStopped}, declared.to_shelf.Poured.{Poured as Told}};
+ghost use Rattle.flow_queues.specs.Counting.{quit_by};
 ghost use Rattle.zc_forward.specs.{GivenUp.{Halts}, Seats.{SameSeat, streaming}, Carrying.{Cancels, carrying}, Sending.{new_outbox}, Turns.{Asks}};
 ghost use Rattle.zc_forward.specs.Sights.{MayTurn, ForwardMakes, PollMakes, StandsSince, TellsAt, sight_of, stage_at};
 ghost use Rattle.zr_io.specs.Moved.{ShelfCounts};
@@ -14,12 +15,11 @@ use crate::forwarding::go_on;
 use crate::outbox::Outbox;
 use crate::stopping::halt;
 use board_face::AppFace;
+use flow_queues::LoanTally;
 use futures::Future;
 use futures::task::{Context, Poll};
-use std::collections::BTreeMap;
 use std::marker::Model;
-use zc_poll::{LoanStream, PollTurn, PourTally, Poured, told};
-use zr_kinds::Stopped;
+use zc_poll::{LoanStream, PollTurn, Poured};
 
 /// Hands the loans of a stream to a carrier, and gives each back once the carrier told of it. At most 64 are out by their tags.
 #[derive(Drop)]
@@ -55,15 +55,7 @@ impl<F: AppFace, C: Carrier> Forward<F, C> {
             stream,
             carrier,
             work: Outbox {
-                tally: PourTally {
-                    due: None,
-                    written: 0,
-                    loans: 0,
-                    copied: 0,
-                    stopped: Stopped::No,
-                    counts: BTreeMap::new(alloc),
-                    flows: Vec::new(alloc),
-                },
+                tally: LoanTally::new(alloc),
                 out: Vec::new(alloc),
                 uncarried: None,
                 pressed: false,
@@ -130,7 +122,7 @@ impl<F: AppFace, C: Carrier> Forward<F, C> {
             mut work,
         } = self;
         halt(&mut stream, &mut carrier, &mut work);
-        let poured = told(&mut work.tally, stream.alloc());
+        let poured = Poured::of_tally(&mut work.tally, stream.alloc());
         (poured, stream, carrier)
     }
 

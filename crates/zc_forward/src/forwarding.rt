@@ -1,17 +1,17 @@
 //! The parts of a turn of forwarding.
-ghost use Rattle.std.specs.Prelude.{◌≡◌, ◌≢◌, ℕ, List, [], Option, Some, None, true, IfSome, ◌⊎◌, MatchOption};
+ghost use Rattle.std.specs.Prelude.{◌≡◌, ◌≢◌, ℕ, List, [], Option, Some, None, true, ◌⊎◌, MatchOption};
 ghost use Rattle.zr_io.specs.Moved.{Rose, ShelfCounts};
-ghost use Rattle.board_face.specs.{AppCalls.{HasLoan}, AppEvents.{app_gist}, declared.views.app.AppView.{AppView}};
+ghost use Rattle.board_face.specs.{AppEvents.{app_gist}, declared.views.app.AppView.{AppView}};
 ghost use Rattle.zr_kinds.specs.declared.behaviour.Stopped.TheVariants.{No};
-ghost use Rattle.zc_poll.specs.{Standing.{Desk, HoldsLoan, StreamStands}, Steps.{IsItem, OnlySteps}, PourTurns.{IsTold, ScrubsIfQuiet}};
-ghost use Rattle.zc_forward.specs.{Tags.{Pace, Tags, TakesTag}, Seats.{DeskStays, SameSeat}, OutboxOf.{outbox_of}, Sending.{without_uncarried}, Handing.{CanHand, CanStep}, Forwarding.{ForwardStands, StandsSo}, Turns.{ForwardGives, GivesBack, CarriedItem, ScrubsFirst, StepDoes, Told, TurnDoes, stage_of, with_due}};
+ghost use Rattle.zc_poll.specs.{Standing.{Desk, HoldsLoan}, Steps.{IsItem, OnlySteps}, PourTurns.{IsTold, ScrubsIfQuiet}};
+ghost use Rattle.zc_forward.specs.{Tags.{Pace, Tags, TakesTag}, Seats.{SameSeat}, OutboxOf.{outbox_of}, Handing.{CanHand, CanStep}, Forwarding.{ForwardStands, StandsSo}, Turns.{ForwardGives, GivesBack, CarriedItem, ScrubsFirst, StepDoes, Told, TurnDoes, stage_of, with_due}};
 
 use crate::carrier::Carrier;
 use crate::carrying::{fail, send};
 use crate::outbox::{Outbox, is_full, room_for};
 use crate::sent::{Sent, free_tag, take_sent};
 use board_face::{AppFace, Loan};
-use zc_poll::{Lent, LoanStream, PollTurn, Rests, Step, Waits, count, count_item, told};
+use zc_poll::{Lent, LoanStream, PollTurn, Poured, Rests, Step, Waits};
 use zr_kinds::Stopped;
 
 /// Gives a loan back. Where the refill slot is in use it stays due.
@@ -62,20 +62,6 @@ fn take_notice<F: AppFace>(stream: &mut LoanStream<F>, work: &mut Outbox, tag: u
     give_back(stream, work, loan);
 }
 
-/// Gives the loan up that wasn't carried.
-pub fn give_up_uncarried<F: AppFace>(stream: &mut LoanStream<F>, work: &mut Outbox)
-    requires stands { StreamStands stream.old.desk (F.seen stream.old.face) }
-    requires out { IfSome work.old.uncarried (λ loan. HasLoan (F.seen stream.old.face) loan) }
-    ensures stays { DeskStays F.seen F.beside stream.old stream.new }
-    ensures view { F.seen stream.new.face
-        ≡ without_uncarried work.old.uncarried (F.seen stream.old.face) }
-    ensures work { work.new ≡ record work.old { uncarried = None } }
-{
-    if let Some(loan) = work.uncarried.take() {
-        stream.abandon(loan);
-    }
-}
-
 /// Lets the face leave, once all is given back. A loan that wasn't carried is given up before.
 fn leave<F: AppFace>(stream: &mut LoanStream<F>, work: &mut Outbox) -> PollTurn
     requires stands { StandsSo (outbox_of work.old) stream.old.desk (F.seen stream.old.face) }
@@ -99,11 +85,11 @@ fn leave<F: AppFace>(stream: &mut LoanStream<F>, work: &mut Outbox) -> PollTurn
         F.tells look (app_gist (F.seen stream.new.face)) (F.beside stream.new.face)) result }
     ensures seat { SameSeat F.seen F.beside stream.old.face stream.new.face }
 {
-    give_up_uncarried(stream, work);
+    stream.abandon_kept(&mut work.uncarried);
     if !stream.leave() {
         return PollTurn::Idle(Rests::NotQuiet);
     }
-    let poured = told(&mut work.tally, stream.alloc());
+    let poured = Poured::of_tally(&mut work.tally, stream.alloc());
     PollTurn::Ended(poured)
 }
 
@@ -140,7 +126,7 @@ fn forward_item<F: AppFace, C: Carrier>(
         copied,
     } = lent;
     work.pressed = false;
-    count_item(&mut work.tally, copied);
+    work.tally.count_item(copied);
     if room_for(work, flow).is_err() {
         stream.stop();
         work.tally.stopped = Stopped::Memory;
@@ -153,7 +139,7 @@ fn forward_item<F: AppFace, C: Carrier>(
         loan,
     };
     let done = send(stream, carrier, &sent);
-    count(&mut work.tally, sent.flow, done);
+    work.tally.count(sent.flow, done);
     let len = sent.loan.place().len;
     work.out.push_reserved(sent);
     if done < len {
@@ -244,7 +230,7 @@ fn scrub_stopped<F: AppFace>(stream: &mut LoanStream<F>, work: &mut Outbox)
     if !work.out.is_empty() {
         return;
     }
-    give_up_uncarried(stream, work);
+    stream.abandon_kept(&mut work.uncarried);
     stream.scrub();
 }
 

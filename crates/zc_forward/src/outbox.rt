@@ -1,18 +1,18 @@
 //! What forwarding keeps beside its stream and its carrier.
 ghost use Rattle.std.specs.{Prelude.{◌≡◌, ◌≤◌, ◌+◌, ◌==◌, length, vec_capacity, OnOk, IsSome}, Ordering.{nat_cmp}, BTreeMap.{get}};
-ghost use Rattle.zc_poll.specs.{Counting.{AddsTo, HasRoomForFlows}, TallyOf.{tally_of}};
+ghost use Rattle.flow_queues.specs.{Counting.{AddsTo, HasRoomForFlows}, TallyOf.{tally_of}};
 ghost use Rattle.zc_forward.specs.{OutboxOf.{outbox_of}, Sending.{is_urgent as urgent, most_out, many_kept}};
 
 use crate::sent::{MOST, Sent};
 use board_face::Loan;
+use flow_queues::LoanTally;
 use std::alloc::AllocError;
-use zc_poll::{PourTally, make_room};
 
 /// What forwarding keeps beside its stream and its carrier.
 #[derive(Drop)]
 pub struct Outbox {
     /// The counts, and the loan whose notice came and that is to be given back.
-    pub tally: PourTally,
+    pub tally: LoanTally,
     /// The loans whose tags are out.
     pub out: Vec<Sent>,
     /// A loan that wasn't carried for want of memory. It is given up at the end.
@@ -53,5 +53,5 @@ pub fn room_for(work: &mut Outbox, flow: u32) -> Result<(), AllocError>
     ensures room { HasRoomForFlows (tally_of work.new.tally) }
 {
     work.out.reserve(1)?;
-    make_room(&mut work.tally, flow)
+    work.tally.make_room(flow)
 }

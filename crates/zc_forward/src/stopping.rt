@@ -2,16 +2,14 @@
 ghost use Rattle.std.specs.Prelude.{◌≡◌, ℕ, None};
 ghost use Rattle.zr_kinds.specs.declared.place.Place.{Place};
 ghost use Rattle.board_face.specs.declared.views.app.LentPiece.{LentPiece};
-ghost use Rattle.flow_queues.specs.Core.{total};
-ghost use Rattle.zc_poll.specs.Stops.{quit_by};
+ghost use Rattle.flow_queues.specs.{Core.{total}, Counting.{quit_by}};
 ghost use Rattle.zc_forward.specs.{Seats.{DeskStays}, Carrying.{Cancels, carrying}, Sending.{of_sent}, OutboxOf.{outbox_of}, Forwarding.{StandsSo}, GivenUp.{GaveUp, Halts}};
 
 use crate::carrier::Carrier;
 use crate::carrying::give_up;
-use crate::forwarding::give_up_uncarried;
 use crate::outbox::Outbox;
 use board_face::AppFace;
-use zc_poll::{LoanStream, give_up_due, quit};
+use zc_poll::LoanStream;
 
 /// Gives up the loan that is due and the one that wasn't carried.
 fn give_up_kept<F: AppFace>(stream: &mut LoanStream<F>, work: &mut Outbox)
@@ -26,8 +24,8 @@ fn give_up_kept<F: AppFace>(stream: &mut LoanStream<F>, work: &mut Outbox)
       uncarried = None;
     } }
 {
-    give_up_due(stream, &mut work.tally);
-    give_up_uncarried(stream, work);
+    stream.abandon_kept(&mut work.tally.due);
+    stream.abandon_kept(&mut work.uncarried);
 }
 
 /// Takes each tag back from the carrier, gives each loan up, and stops the stream.
@@ -43,5 +41,5 @@ pub fn halt<F: AppFace, C: Carrier>(stream: &mut LoanStream<F>, carrier: &mut C,
     give_up_kept(stream, work);
     give_up(stream, &mut work.out);
     stream.stop();
-    quit(&mut work.tally);
+    work.tally.quit();
 }

@@ -5,8 +5,8 @@ use Rattle.zr_io.{specs.Moved.{Gained}, proofs.Moved.{Gained-then, Gained-nothin
 use Rattle.board_face.specs.declared.views.app.AppView.{AppView}
 use Rattle.flow_queues.specs.{declared.queues.Lending.{Lending}, Marks.{Mark, marks_from}, Core.{IsIn, lent_piece, marks_of_loan, AreReadAt, IsReadOf, total}}
 use Rattle.flow_queues.specs.{Totals.{capped, lent_len}, Shelves.{AreOfOneLoan, kept_loans}, Ends.{bytes_in, times}}
-use Rattle.flow_queues.proofs.{Entering.{marks-length, marks-take, marks-drop}, ReadLemmas.{read-append}, Tokens.{in-left}}
-use Rattle.zc_poll.specs.{Counting.{TallyState, AddsTo}, Standing.{Desk}, Items.{Given, HasGiven, marks_given}, Pouring.{IsPoured, HasPoured, given_len}}
+use Rattle.flow_queues.{proofs.{Entering.{marks-length, marks-take, marks-drop}, ReadLemmas.{read-append}, Tokens.{in-left}}, specs.Counting.{TallyState, AddsTo}}
+use Rattle.zc_poll.specs.{Standing.{Desk}, Items.{Given, HasGiven, marks_given}, Pouring.{IsPoured, HasPoured, given_len}}
 use Rattle.zc_poll.proofs.{Marking.{given-push}, PouredOn.{SeesOn, read-on, poured-exact}, EntriesFirst.{first-more, first-same}, ItemPoured.{push-length, same-kept}}
 
 -- the marks of a flow up to so many of the item behind them

@@ -1,11 +1,11 @@
 -- What was poured, step for step.
-use Rattle.std.proofs.Common.{◌≡◌, ◌≢◌, ℕ, ◌+◌, ◌<◌, ◌≤◌, ◌==◌, Bool, true, false, if◌then◌else◌, List, [], ◌∷◌, ◌++◌, length, take, drop, Option, refl, sym, ap, subst, ◌∙◌, arith, ⊎_elim, length-append, append-nil}
+use Rattle.std.proofs.Common.{◌≡◌, ◌≢◌, ℕ, ◌+◌, ◌<◌, ◌≤◌, ◌==◌, Bool, true, false, if◌then◌else◌, List, [], ◌∷◌, ◌++◌, length, take, drop, Option, refl, sym, ap, subst, ◌∙◌, arith, ⊎_elim, vec_capacity, length-append, append-nil}
 use Rattle.std.proofs.lemmas.{Bool.{cases_eq, eq-eqb, ne_eqb}, List.{take-append-le}}
 use Rattle.zr_io.proofs.Moved.{Gained-weaker}
 use Rattle.board_face.specs.declared.views.app.{LentPiece.{LentPiece}, WrittenEntry.{WrittenEntry}, AppView.{AppView}}
 use Rattle.flow_queues.specs.{Marks.{Mark}, Core.{total, lent_piece, marks_of_loan, AreReadAt}, Totals.{capped, lent_len, loan_entries}, Shelves.{kept_loans}}
-use Rattle.flow_queues.{specs.Ends.{bytes_in, times}, proofs.{Entering.{marks-length}, Tokens.{total-append, loan-some}}}
-use Rattle.zc_poll.specs.{Counting.{TallyState, AddsTo, item_counted}, declared.step.Lent.{Lent}, Standing.{Desk, StreamStands}, Items.{Given, HasGiven, marks_given}}
+use Rattle.flow_queues.{specs.{Ends.{bytes_in, times}, Counting.{TallyState, AddsTo, HasRoomForFlows, item_counted}, TallyOf.{tally_of}, declared.tally.LoanTally.{LoanTally}}, proofs.{Entering.{marks-length}, Tokens.{total-append, loan-some}}}
+use Rattle.zc_poll.specs.{declared.step.Lent.{Lent}, Standing.{Desk, StreamStands}, Items.{Given, HasGiven, marks_given}}
 use Rattle.zc_poll.{specs.{Steps.{OnlySteps, IsItem, given_as}, Pouring.{GaveFirst, IsPoured, HasPoured, given_len}}, proofs.Marking.{given-push}}
 use Rattle.zc_poll.proofs.{PouredOn.{SeesOn, read-on, poured-within, poured-on, poured-exact}, EntriesFirst.{first-more, first-same}, Views.{total-one}}
 
@@ -166,6 +166,14 @@ pub record Roomy (u w : TallyState) : Type 0 where
   pub same : w ≡ record u { counts = w.counts; flows = w.flows; room = w.room }
   pub room : length w.counts ≤ w.room
   pub empty : w.flows ≡ []
+
+pub is-roomy : (u v w : LoanTally) (copied : Bool) → tally_of v ≡ item_counted (tally_of u) copied → w ≡ record v { counts = w.counts; flows = w.flows }
+    → HasRoomForFlows (tally_of w) → Roomy (item_counted (tally_of u) copied) (tally_of w)
+is-roomy u v w copied counted same roomy = record {
+  same = ap tally_of same ∙ ap (λ (t : TallyState). record t { counts = w.counts.entries; flows = w.flows.items; room = vec_capacity w.flows }) counted;
+  room = roomy.room;
+  empty = roomy.empty;
+}
 
 pub poured-roomy : (P : Type 0) (first kept : ℕ → Option (List ℕ)) (u w : TallyState) (st : Desk) (v : AppView) (items : List Given) (torn missing : ℕ)
     → HasPoured P first u st kept v items torn missing → Roomy u w → (flow : ℕ) → AddsTo flow 0 u.counts w.counts

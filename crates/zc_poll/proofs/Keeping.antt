@@ -3,7 +3,7 @@ use Rattle.std.proofs.Common.{◌≡◌, ℕ, zero, suc, ◌+◌, ◌<◌, ◌�
 use Rattle.std.{specs.Prelude.{Bool, MatchBool}, proofs.lemmas.Bool.{cases_lt}}
 use Rattle.zr_kinds.specs.{declared.place.Place.{Place}, CopyingReceiver.{next_missing}}
 use Rattle.board_face.specs.{AppCalls.{AppOnlySaw, HasLoan, ShowsCopy}, AppEvents.{app_saw, abandoned, gave, has_read, left_board, loan_origin}, declared.views.app.AppLook.{AppLook, TheVariants.{NotQuiet}}}
-use Rattle.flow_queues.specs.{Leaving.{HasScrubbed, ScrubsOnce, Leaves}, declared.queues.Lending.{Lending}}
+use Rattle.flow_queues.specs.{Leaving.{HasScrubbed, ScrubsOnce, LeavesOnce}, declared.queues.Lending.{Lending}}
 use Rattle.board_face.specs.declared.views.app.{Reading.{Reading}, LentPiece.{LentPiece}, TakenNote.{TakenNote}, AppView.{AppView}}
 use Rattle.flow_queues.specs.Core.{total, Each, IsIn, LieApart, lent_piece, over_read, own_notes, placed_of, held_len, unsplit_len, AreReadAt, FlowStands, Stands}
 use Rattle.flow_queues.{specs.Marks.{marks_from}, proofs.Reading.{read-there}}
@@ -44,29 +44,33 @@ module _ (st : Desk) (old new : AppView) (view : new ≡ without_step old new) (
 
   going-kept : Going st old → Going st new
   going-kept going =
-      let stands : Stands st.notes st.flows [] going.out old = going.stands in
+      let stands : Stands st.notes st.flows [] going.out old = going.stand.stands in
       let later = goes going.out (record { are = λ f. omega (arith, stands.tokens.loans f); known = stands.due_lent }) in
       record {
         out = later.0;
-        stands = record {
-          tokens = record {
-            apart = apart;
-            helds = λ f. ap (λ (v : AppView). total f v.helds) view ∙ stands.tokens.helds f;
-            loans = λ f. omega (arith, later.1.are f, ap (λ ts. over_read ts f later.0) taken-kept);
+        stand = record {
+          stands = record {
+            tokens = record {
+              apart = apart;
+              helds = λ f. ap (λ (v : AppView). total f v.helds) view ∙ stands.tokens.helds f;
+              loans = λ f. omega (arith, later.1.are f, ap (λ ts. over_read ts f later.0) taken-kept);
+            };
+            notes = stands.notes ∙ ap length taken-kept;
+            distinct = stands.distinct;
+            flows = subst (λ (ts : List TakenNote). Each (FlowStands ts []) st.flows) taken-kept stands.flows;
+            known = λ n none. ap (own_notes n) (sym taken-kept) ∙ stands.known n none;
+            posted = stands.posted;
+            lent = tt;
+            due_lent = subst (λ ts. Each (λ l. l.note < length ts) later.0) taken-kept later.1.known;
+            counted = ap (λ (v : AppView). v.scrubbed) view ∙ stands.counted;
           };
-          notes = stands.notes ∙ ap length taken-kept;
-          distinct = stands.distinct;
-          flows = subst (λ (ts : List TakenNote). Each (FlowStands ts []) st.flows) taken-kept stands.flows;
-          known = λ n none. ap (own_notes n) (sym taken-kept) ∙ stands.known n none;
-          posted = stands.posted;
-          lent = tt;
-          due_lent = subst (λ ts. Each (λ l. l.note < length ts) later.0) taken-kept later.1.known;
-          counted = ap (λ (v : AppView). v.scrubbed) view ∙ stands.counted;
+          rest = going.stand.rest;
+          index = going.stand.index;
+          bounded = record {
+            spares = omega (arith, going.stand.bounded.spares, ap (λ (v : AppView). v.spares) view, ap (total unsplit_len) taken-kept);
+            loans = omega (arith, going.stand.bounded.loans, counts, ap (λ (v : AppView). total held_len v.helds) view, ap (total taken_len) taken-kept);
+          };
         };
-        rest = going.rest;
-        index = going.index;
-        spares = omega (arith, going.spares, ap (λ (v : AppView). v.spares) view, ap (total unsplit_len) taken-kept);
-        bound = omega (arith, going.bound, counts, ap (λ (v : AppView). total held_len v.helds) view, ap (total taken_len) taken-kept);
       }
 
   pub stands-kept : StreamStands st old → StreamStands st new
@@ -244,7 +248,7 @@ module _ (st : Desk) (v new : AppView) (stands : StreamStands st v) (done : Bool
   stands-scrubbed stopped none false (is, saw) = subst (λ b. StreamStands (record st { scrubbed = b }) new) (sym is)
       (saw-stands st v new NotQuiet saw.event stands)
 
-  pub left-of : (result : Bool) → Leaves st.scrubbed done v new result
+  pub left-of : (result : Bool) → LeavesOnce st.scrubbed done v new result
       → MatchBool result (new ≡ has_left v) (StreamStands st new × AppOnlySaw NotQuiet v new)
   left-of true (is, (mid, scrubbed, left)) = left ∙ ap left_board (quiet-then st v mid stands scrubbed)
   left-of false (is, saw) = (saw-stands st v new NotQuiet saw.event stands, saw)

@@ -12,9 +12,8 @@ use Rattle.flow_queues.proofs.{Tokens.{total-append, in-contains, that-loan, is_
 use Rattle.flow_queues.proofs.{Standing.{At, split-at, each-right, each-changed, is_number, number-is, total-changed, many-same}, Releasing.{map-set, length-set-same}}
 use Rattle.flow_queues.proofs.{NotesStay.{note-there}, Resting.{rest-set}, Indexing.{index-set}, Fronts.{front-of-flow}, NoteTaken.{ends-of}}
 use Rattle.zc_poll.specs.declared.step.{Lent.{Lent}, Step.TheVariants.{Item, Waiting as waiting}, Waits.TheVariants.{ReserveHeld}}
-use Rattle.zc_poll.specs.{Standing.{Desk, Common, Going, StreamStands}, Items.{Given, HasGiven, marks_given, IsAt}, Steps.{Stepped, counted_on}}
-use Rattle.zc_poll.proofs.{FlowsKept.{queues_of, with_queues, all_read, stand-of, going-of}, Marking.{IsGivenOf, given-push, items-released}, Views.{is-with}}
-use Rattle.zc_poll.proofs.Passing.{saw-stepped}
+use Rattle.zc_poll.specs.{Standing.{Desk, Common, Going, StreamStands, all_read, queues_of}, Items.{Given, HasGiven, marks_given, IsAt}, Steps.{Stepped, counted_on}}
+use Rattle.zc_poll.proofs.{FlowsKept.{with_queues}, Marking.{IsGivenOf, given-push, items-released}, Views.{is-with}, Passing.{saw-stepped}}
 
 copied-is : (split b : Bool) (note at : ℕ) (bytes : List ℕ) → one_copy (if split then of_note note at else of_copy bytes) ≡ (if b then 1 else 0)
     → b ≡ not split
@@ -239,7 +238,7 @@ module _ (was : Desk) (old new : AppView) (stands : StreamStands was old) (more 
         (omega (arith, loans-more (is_that_loan (lent_piece new.taken loan)), that-loan (lent_piece new.taken loan)))
 
     lent-stand : QueuesStand mid (with_unread (all_read going.out) (told_of own) loan) new
-    lent-stand = one.stands (all_read going.out) (told_of own) (ap (λ (f : FlowQueue). f.number) (own-is ∙ lent.flow)) (stand-of was old going)
+    lent-stand = one.stands (all_read going.out) (told_of own) (ap (λ (f : FlowQueue). f.number) (own-is ∙ lent.flow)) going.stand
 
     later-stand : QueuesStand (counted_in mid own loan) (all_read (loan ∷ going.out)) new
     later-stand = counted-stand mid own loan going.out new within-now value sound lent-stand
@@ -271,7 +270,7 @@ module _ (was : Desk) (old new : AppView) (stands : StreamStands was old) (more 
         record {
           stands = record {
             common = later-common;
-            going = λ _ _. going-of was (counted_in mid own loan) (loan ∷ going.out) new later-stand;
+            going = λ _ _. record { out = loan ∷ going.out; stand = later-stand };
             released = ⊎_elim (λ (is : was.stopped ≡ true). absurd (cc)) (λ (is : was.ended ≡ true). absurd (cc));
             whole = λ is _. absurd (cc);
           };

@@ -8,7 +8,6 @@ pub mod Passing
 pub mod Lends
 pub mod Whole
 pub mod Untouched
-pub mod Counts
 pub mod PouredOn
 pub mod EntriesFirst
 pub mod Appending
@@ -19,7 +18,6 @@ pub mod Pours
 pub mod PourTurns
 pub mod PourEnds
 pub mod PourNew
-pub mod Shown
 pub mod Scrubbing
 pub mod Waiting
 pub mod Stopping

@@ -4,8 +4,8 @@ use Rattle.board_face.specs.declared.views.app.{TakenNote.{TakenNote}, AppView.{
 use Rattle.flow_queues.specs.{declared.{queues.{FlowQueue.{FlowQueue}}, noting.Taken.{Taken, TheVariants.{Did, NoNote, Ended, Memory}}}, Marks.{Mark}}
 use Rattle.flow_queues.specs.{Core.{total, Each, many, LieApart}, Totals.{taken_len}, Shelves.{FlowEnds}, Kept.{QueueState, QueuesStand, marks_done}, Noting.{TakesNote, PassesNote}}
 use Rattle.flow_queues.proofs.{Tokens.{total-append}, Standing.{each-map}, Done.{done-grown, done-of, done-none, each-done, ends-note}}
-use Rattle.zc_poll.specs.{Standing.{Desk, Common, Going, StreamStands}, Items.{Given, HasGiven, marks_given}, Steps.{Unlent, Passed, LooksFor}}
-use Rattle.zc_poll.proofs.{FlowsKept.{queues_of, with_queues, all_read, stand-of, going-of}, Views.{only-noted}}
+use Rattle.zc_poll.specs.{Standing.{Desk, Common, Going, StreamStands, all_read, queues_of}, Items.{Given, HasGiven, marks_given}, Steps.{Unlent, Passed, LooksFor}}
+use Rattle.zc_poll.proofs.{FlowsKept.{with_queues}, Views.{only-noted}}
 
 -- the bytes that are done with are those that were, so the same items were given
 given-stay : (was now : List FlowQueue) (old new : List TakenNote) → ((n : ℕ) → marks_done n now new ≡ marks_done n was old)
@@ -83,12 +83,12 @@ module _ (was : Desk) (old new : AppView) (stands : StreamStands was old) (more 
       → LooksFor was (with_queues was q) old new result
   looks-on on q Did takes =
       let going : Going was old = stands.going on more in
-      let stand : QueuesStand q (all_read going.out) new = takes.stands (all_read going.out) (stand-of was old going) in
+      let stand : QueuesStand q (all_read going.out) new = takes.stands (all_read going.out) going.stand in
       passed-in was q old new takes.noted.note stands more takes.noted.view stand.stands.tokens.apart takes.noted.done takes.noted.sound.ends
-      takes.noted.sound.distinct (λ _. going-of was q going.out new stand) (λ (is : was.stopped ≡ true). absurd (cc))
+      takes.noted.sound.distinct (λ _. record { out = going.out; stand = stand }) (λ (is : was.stopped ≡ true). absurd (cc))
   looks-on on q Memory noted =
       let going : Going was old = stands.going on more in
-      let tokens = noted.tokens (all_read going.out) (stand-of was old going) in
+      let tokens = noted.tokens (all_read going.out) going.stand in
       record {
         common = common-in was q old new noted.note stands more noted.view tokens.apart noted.done noted.sound.ends noted.sound.distinct;
         can = record { apart = tokens.apart; helds = tokens.helds };

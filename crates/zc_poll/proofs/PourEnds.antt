@@ -8,10 +8,10 @@ use Rattle.board_face.specs.{AppEvents.{reserve_of}, declared.views.app.AppView.
 use Rattle.flow_queues.specs.{Marks.{Mark, FramesStandTogether, marks_of}, Core.{total, Each, IsIn, own_notes, BeginAt, AreReadAt}}
 use Rattle.flow_queues.specs.{Totals.{Quits, capped, lent_len, loan_entries}, Shelves.{FlowEnds, AreOfOneLoan}, Streams.{IsFront}}
 use Rattle.flow_queues.specs.{Ends.{AppEnd, HasLeft, IsCounted, IsTorn, bytes_in, times}, Entries.{AreBlocks, WasLive, lies_in}, Returned.{AreKeptBack, HasReturned}}
-use Rattle.flow_queues.proofs.{Fronts.{pick}, Tokens.{in-total}}
-use Rattle.zc_poll.specs.{Counting.{TallyState, with_bytes}, Fresh.{has_left}, Standing.{Desk}, Items.{marks_given}, Pouring.{IsPoured, OnlyDue, PourStands, given_len}}
+use Rattle.flow_queues.{proofs.{Fronts.{pick}, Tokens.{in-total}, Shown.{shown-total, shown-times, shown-bytes, shown-each}}, specs.Counting.{TallyState, with_bytes}}
+use Rattle.zc_poll.specs.{Fresh.{has_left}, Standing.{Desk}, Items.{marks_given}, Pouring.{IsPoured, OnlyDue, PourStands, given_len}}
 use Rattle.zc_poll.proofs.{PouredOn.{poured-within}, EntriesFirst.{loans-alone}, LoanGone.{drop-all}, Pours.{no-write}}
-use Rattle.zc_poll.proofs.{Shown.{shown-total, shown-times, shown-bytes, shown-each}, ItemPoured.{none-at}, Whole.{items-front, items-whole}}
+use Rattle.zc_poll.proofs.{ItemPoured.{none-at}, Whole.{items-front, items-whole}}
 
 each-of : {A : Type 0} (P : A → Type 0) (xs : List A) → ((x : A) → IsIn x xs → P x) → Each P xs
 each-of P [] all = tt

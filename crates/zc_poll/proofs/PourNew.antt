@@ -3,8 +3,8 @@ use Rattle.std.proofs.{Common.{◌≡◌, ℕ, if◌then◌else◌, List, [], le
 use Rattle.zr_kinds.specs.declared.behaviour.Stopped.TheVariants as stop
 use Rattle.zr_io.{specs.Moved.{ShelfCounts}, proofs.Moved.{Gained-nothing}}
 use Rattle.board_face.specs.declared.views.app.{WrittenEntry.{WrittenEntry}, AppView.{AppView}}
-use Rattle.flow_queues.specs.{Core.{total}, Totals.{capped, lent_len, loan_entries}}
-use Rattle.zc_poll.specs.{Counting.{new_tally}, Fresh.{HasDoneNothing, new_desk}, Standing.{StreamStands}, Pouring.{IsPoured, HasPoured, PourStands}}
+use Rattle.flow_queues.specs.{Core.{total}, Totals.{capped, lent_len, loan_entries}, Counting.{new_tally}}
+use Rattle.zc_poll.specs.{Fresh.{HasDoneNothing, new_desk}, Standing.{StreamStands}, Pouring.{IsPoured, HasPoured, PourStands}}
 use Rattle.zc_poll.proofs.{EntriesFirst.{first-none}, ItemPoured.{none-at}}
 
 module _ (kept : ℕ → Option (List ℕ)) (losses : ShelfCounts) (room app : ℕ) (v : AppView) (fresh : HasDoneNothing app v) (stands : StreamStands (new_desk app) v) where

@@ -3,8 +3,8 @@ use Rattle.std.proofs.Common.{◌≡◌, ◌≢◌, ℕ, ◌+◌, true, false, L
 use Rattle.zr_kinds.specs.declared.place.Place.{Place}
 use Rattle.zr_kinds.specs.declared.behaviour.Stopped.TheVariants as stop
 use Rattle.board_face.specs.{AppCalls.{HasLoan}, AppEvents.{app_saw, entry_of, gave}, declared.views.app.{AppLook.{AppLook}, LentPiece.{LentPiece}, AppView.{AppView}}}
-use Rattle.flow_queues.specs.{Core.{OnlyReads, total}, Totals.{lent_len, loan_entries}}
-use Rattle.zc_poll.specs.{Counting.{TallyState}, Standing.{Desk, StreamStands}, Items.{HasGiven}, declared.{step.Lent.{Lent}, to_shelf.PollTurn.{PollTurn}}}
+use Rattle.flow_queues.specs.{Core.{OnlyReads, total}, Totals.{lent_len, loan_entries}, Counting.{TallyState}}
+use Rattle.zc_poll.specs.{Standing.{Desk, StreamStands}, Items.{HasGiven}, declared.{step.Lent.{Lent}, to_shelf.PollTurn.{PollTurn}}}
 use Rattle.zc_poll.specs.declared.to_shelf.{PollTurn.TheVariants.{Did, Idle, Ended}, Rests.TheVariants.{Stream, RefillFull, NotQuiet, NoNotice}}
 use Rattle.zc_poll.specs.{Steps.{OnlySteps, Unlent, IsItem}, Pouring.{HasPoured, OnlyDue, PourStands}, PourTurns.{GoesBack, HadItem, IsRead, PourStage, TurnDoes, pour_stage}}
 use Rattle.zc_poll.proofs.{ItemPoured.{SameCounts, poured-moved, poured-all, same-kept}, EntriesFirst.{first-gave, first-same}}

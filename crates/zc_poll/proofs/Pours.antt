@@ -6,8 +6,8 @@ use Rattle.zr_kinds.specs.declared.behaviour.Stopped.TheVariants as stop
 use Rattle.zr_io.{specs.Moved.{Gained, Rose, ShelfCounts, raised_by}, proofs.Moved.{Rose-earlier}}
 use Rattle.board_face.specs.{AppEvents.{abandoned}, declared.views.app.{LentPiece.{LentPiece}, TakenNote.{TakenNote}, AppView.{AppView}}}
 use Rattle.flow_queues.specs.{declared.queues.Lending.{Lending}, Core.{total, IsIn, LieApart, lent_piece, OnlyReads, IsReadOf}, Totals.{lent_len, loan_entries}}
-use Rattle.flow_queues.{specs.{Shelves.{kept_loans}, Ends.{bytes_in}}, proofs.Tokens.{loan-some}}
-use Rattle.zc_poll.specs.{Counting.{TallyState, AddsTo, item_counted}, declared.step.Lent.{Lent}, Standing.{Desk, StreamStands}, Items.{Given, HasGiven, marks_given}}
+use Rattle.flow_queues.{specs.{Shelves.{kept_loans}, Ends.{bytes_in}, Counting.{TallyState, AddsTo, item_counted}}, proofs.Tokens.{loan-some}}
+use Rattle.zc_poll.specs.{declared.step.Lent.{Lent}, Standing.{Desk, StreamStands}, Items.{Given, HasGiven, marks_given}}
 use Rattle.zc_poll.{specs.{Steps.{OnlySteps, IsItem, given_as}, Pouring.{HasPoured, OnlyDue, PourStands}}, proofs.{Views.{total-one}, PouredOn.{sees-still}}}
 use Rattle.zc_poll.proofs.{EntriesFirst.{first-gone}, ItemPoured.{Roomy, poured-moved, poured-roomy, item-poured, push-length}, Appended.{appended, at-flow}}
 use Rattle.zc_poll.proofs.LoanGone.{one-loan, gone-loans, gone-returned, gone-many, gone-lent, gone-kept}

@@ -12,7 +12,7 @@ use Rattle.zc_poll.proofs.{Marking.{many-released, found-released, items-release
 -- what stands may be given up
 pub may-release : (st : Desk) (v : AppView) → StreamStands st v → MayRelease st v
 may-release st v stands = record {
-  going = λ on more. (let going : Going st v = stands.going on more in record { apart = stands.common.apart; helds = going.stands.tokens.helds });
+  going = λ on more. (let going : Going st v = stands.going on more in record { apart = stands.common.apart; helds = going.stand.stands.tokens.helds });
   released = stands.released;
 }
 
@@ -136,7 +136,7 @@ all-popped taken f stands =
 
 -- and what is in order of it is all that it received
 whole-of : (was : Desk) (v : AppView) → Going was v → Each IsAtRest was.flows → IsWhole was v
-whole-of was v going rest = record { flows = each was.flows going.stands.flows rest; known = going.stands.known }
+whole-of was v going rest = record { flows = each was.flows going.stand.stands.flows rest; known = going.stand.stands.known }
   where
     each : (fs : List FlowQueue) → Each (FlowStands v.taken []) fs → Each IsAtRest fs → Each (λ f. f.bytes ≡ next_missing (placed_of f v.taken)) fs
     each [] stand rest = tt

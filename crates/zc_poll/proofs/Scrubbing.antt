@@ -4,8 +4,8 @@ use Rattle.std.proofs.Common.{◌≡◌, ℕ, Bool, true, false, List, [], Optio
 use Rattle.zr_kinds.specs.declared.place.Place.{Place}
 use Rattle.zr_kinds.specs.declared.behaviour.Stopped.TheVariants as stop
 use Rattle.board_face.specs.{Looks.{AppRose}, declared.views.app.{AppLook.TheVariants.{NotQuiet as not_quiet}, AppView.{AppView}}}
-use Rattle.flow_queues.specs.{Core.{total}}
-use Rattle.zc_poll.specs.{Counting.{TallyState}, Standing.{Desk, StreamStands}, Items.{HasGiven}, Steps.{OnlySteps, Scrubs}}
+use Rattle.flow_queues.specs.{Core.{total}, Counting.{TallyState}}
+use Rattle.zc_poll.specs.{Standing.{Desk, StreamStands}, Items.{HasGiven}, Steps.{OnlySteps, Scrubs}}
 use Rattle.zc_poll.specs.{Pouring.{PourStands}, PourTurns.{PourStage, ScrubsFirst, ScrubsIfQuiet, TookStep, TurnDoes, pour_stage}}
 use Rattle.zc_poll.specs.declared.to_shelf.{PollTurn.{PollTurn, TheVariants.{Did, Idle, Ended}}, Rests.TheVariants.{Stream, RefillFull, NotQuiet, NoNotice}}
 use Rattle.zc_poll.proofs.{EntriesFirst.{first-same}, ItemPoured.{poured-moved}, PourTurns.{same-counts}}

@@ -6,9 +6,9 @@ use Rattle.zr_kinds.specs.declared.behaviour.Stopped.TheVariants as stop
 use Rattle.zr_io.{specs.Moved.{Gained}, proofs.Moved.{Gained-weaker}}
 use Rattle.board_face.specs.{AppCalls.{HasLoan}, declared.views.app.{LentPiece.{LentPiece}, Reading.{Reading}, TakenNote.{TakenNote}, AppView.{AppView}}}
 use Rattle.flow_queues.specs.{Marks.{Mark, FramesStandTogether, marks_of}, Core.{Each, LieApart}, Totals.{capped}, Shelves.{FlowEnds}, Streams.{HasFronts, IsFront}}
-use Rattle.flow_queues.specs.Ends.{IsCounted, bytes_in}
-use Rattle.zc_poll.specs.{Counting.{TallyState, with_bytes}, Standing.{Desk}, Items.{Given, marks_given}, Pouring.{HasPoured, IsPoured, OnlyDue}, Stops.{HasStopped, quit_by, without_due}}
-use Rattle.zc_poll.proofs.{LoanGone.{gone-loans, gone-many}, Shown.{shown-total, shown-bytes}, Whole.{items-front}}
+use Rattle.flow_queues.{specs.{Ends.{IsCounted, bytes_in}, Counting.{TallyState, with_bytes, quit_by}}, proofs.Shown.{shown-total, shown-bytes}}
+use Rattle.zc_poll.specs.{Standing.{Desk}, Items.{Given, marks_given}, Pouring.{HasPoured, IsPoured, OnlyDue}, Stops.{HasStopped, without_loan}}
+use Rattle.zc_poll.proofs.{LoanGone.{gone-loans, gone-many}, Whole.{items-front}}
 
 pub quit-some : (s : Stopped) → quit_by s ≢ stop.No
 quit-some stop.No = λ e. absurd (cc)
@@ -34,7 +34,7 @@ pub record AllGone (v y : AppView) : Type 0 where
   pub reads : y.reads ≡ v.reads
   pub spares : y.spares ≡ v.spares
 
-pub due-gone : (due : Option Place) (v : AppView) → OnlyDue due v.loans → LieApart v → AllGone v (without_due due v)
+pub due-gone : (due : Option Place) (v : AppView) → OnlyDue due v.loans → LieApart v → AllGone v (without_loan due v)
 due-gone None v none apart = record { loans = none; many = omega (arith, ap length none); taken = refl; reads = refl; spares = refl }
 due-gone (Some loan) v (piece, one, place) apart =
     let gone = gone-loans v apart piece one loan place in
@@ -47,11 +47,11 @@ due-gone (Some loan) v (piece, one, place) apart =
     }
 
 -- and all pieces were
-pub then-released : (due : Option Place) (v y z : AppView) → y ≡ without_due due v → z ≡ record y { helds = [] }
-    → z ≡ record (without_due due v) { helds = [] }
+pub then-released : (due : Option Place) (v y z : AppView) → y ≡ without_loan due v → z ≡ record y { helds = [] }
+    → z ≡ record (without_loan due v) { helds = [] }
 then-released due v y z given released = released ∙ ap (λ (x : AppView). record x { helds = [] }) given
 
-pub none-then : (due : Option Place) (v y z : AppView) → AllGone v (without_due due v) → y ≡ without_due due v → z ≡ record y { helds = [] } → z.loans ≡ []
+pub none-then : (due : Option Place) (v y z : AppView) → AllGone v (without_loan due v) → y ≡ without_loan due v → z ≡ record y { helds = [] } → z.loans ≡ []
 none-then due v y z gone given released = ap (λ (x : AppView). x.loans) (then-released due v y z given released) ∙ gone.loans
 
 -- ---- what was written

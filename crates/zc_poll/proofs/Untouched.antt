@@ -28,21 +28,25 @@ module _ (app : ℕ) (v : AppView) (new : HasDoneNothing app v) where
     };
     going = λ _ _. record {
       out = [];
-      stands = record {
-        tokens = record { apart = apart; helds = λ f. ap (total f) new.helds; loans = λ f. ap (total f) new.loans };
-        notes = sym (ap length new.taken);
-        distinct = λ n. omega arith;
-        flows = tt;
-        known = λ n _. ap (own_notes n) new.taken;
-        posted = tt;
-        lent = tt;
-        due_lent = tt;
-        counted = new.counted;
+      stand = record {
+        stands = record {
+          tokens = record { apart = apart; helds = λ f. ap (total f) new.helds; loans = λ f. ap (total f) new.loans };
+          notes = sym (ap length new.taken);
+          distinct = λ n. omega arith;
+          flows = tt;
+          known = λ n _. ap (own_notes n) new.taken;
+          posted = tt;
+          lent = tt;
+          due_lent = tt;
+          counted = new.counted;
+        };
+        rest = tt;
+        index = λ number. refl;
+        bounded = record {
+          spares = omega (arith, new.spares);
+          loans = omega (arith, ap length new.loans, ap length new.returned, ap (total held_len) new.helds);
+        };
       };
-      rest = tt;
-      index = λ number. refl;
-      spares = omega (arith, new.spares);
-      bound = omega (arith, ap length new.loans, ap length new.returned, ap (total held_len) new.helds);
     };
     released = λ _. new.helds;
     whole = λ is _. absurd (cc);

@@ -2,9 +2,9 @@
 use Rattle.std.{proofs.Common.{◌≡◌, ℕ, List, [], ◌∷◌, Option, Some, None, sym, ap, subst, ◌∙◌, arith}, specs.Prelude.{Ok, Err}}
 use Rattle.zr_io.specs.Moved.{ShelfCounts}
 use Rattle.board_face.specs.declared.views.app.AppView.{AppView}
-use Rattle.flow_queues.specs.Core.{total}
+use Rattle.flow_queues.specs.{Core.{total}, Counting.{TallyState}}
 use Rattle.zc_poll.specs.declared.step.{Step.TheVariants.{Waiting}, Waits.{Waits}}
-use Rattle.zc_poll.specs.{Counting.{TallyState}, Standing.{Desk}, Steps.{OnlySteps, Steps}, Pouring.{PourStands}, Polls.{Answer, GivesNext, IsLastTurn, Tells, Yields}}
+use Rattle.zc_poll.specs.{Standing.{Desk}, Steps.{OnlySteps, Steps}, Pouring.{PourStands}, Polls.{Answer, GivesNext, IsLastTurn, Tells, Yields}}
 use Rattle.zc_poll.{specs.declared.to_shelf.Poured.{Poured}, proofs.{Views.{only-then}, Released.{unlent-then}}}
 
 module _ (was mid : Desk) (old view : AppView) (why : Waits) (only : OnlySteps old view) (waited : Steps was mid old view (Waiting why)) where

@@ -4,8 +4,6 @@ pub mod Items
 pub mod Steps
 pub mod Streaming
 pub mod Fresh
-pub mod Counting
-pub mod TallyOf
 pub mod Pouring
 pub mod PourTurns
 pub mod Polls

@@ -3,7 +3,8 @@ use Rattle.std.specs.{Prelude.{◌≡◌, ℕ, true, List, [], ◌∷◌, Option
 use Rattle.zr_io.specs.Moved.{ShelfCounts}
 use Rattle.futures.specs.{Poll.{OnPending}, Task.{Covers, Keeps}, declared.task.{context.Context.{Context}, Poll.{Poll, TheVariants.{Ready}}}}
 use Rattle.board_face.specs.declared.views.app.AppView.{AppView}
-use Rattle.zc_poll.specs.{Counting.{TallyState}, Standing.{Desk}, Steps.{OnlySteps, PollGives}, declared.step.Lent.{Lent}}
+use Rattle.zc_poll.specs.{Standing.{Desk}, Steps.{OnlySteps, PollGives}, declared.step.Lent.{Lent}}
+use Rattle.flow_queues.specs.Counting.{TallyState}
 use Rattle.zc_poll.specs.{Pouring.{PourStands}, PourTurns.{PourGives, PourStage, TurnDoes}, declared.to_shelf.{Poured.{Poured}, PollTurn.TheVariants.{Ended}}}
 
 -- a poll that is pending asks for another, whatever its sources do, and the task keeps what it had asked for

@@ -8,8 +8,8 @@ pub use Rattle.board_face.specs.Looks.{ScrubsIfQuiet}
 use Rattle.board_face.specs.{AppCalls.{AppOnlySaw}, AppEvents.{abandoned, gave}, NotNow.{HasWritten, HasWrittenRingful}, declared.views.app.AppLook.{AppLook}}
 use Rattle.board_face.specs.declared.views.app.{AppLook.TheVariants.{RefillInUse, NotQuiet as not_quiet}, AppView.{AppView}}
 use Rattle.zr_io.specs.Moved.{ShelfCounts}
-use Rattle.flow_queues.specs.{Core.{Each, OnlyReads}, Ends.{AppEnd, HasLeft}, Returned.{HasReturned}}
-use Rattle.zc_poll.specs.{Counting.{TallyState, with_bytes}, declared.step.Lent.{Lent}}
+use Rattle.flow_queues.specs.{Core.{Each, OnlyReads}, Ends.{AppEnd, HasLeft}, Returned.{HasReturned}, Counting.{TallyState, with_bytes}}
+use Rattle.zc_poll.specs.declared.step.Lent.{Lent}
 use Rattle.zc_poll.specs.declared.{step.Step.{Step, TheVariants.{Waiting, Memory, Ended as stream_ended}}, to_shelf.{Poured.{Poured}, PollTurn.{PollTurn}}}
 use Rattle.zc_poll.specs.declared.to_shelf.{PollTurn.TheVariants.{Did, Idle, Ended}, Rests.{Rests, TheVariants.{Stream, RefillFull, NotQuiet, NoNotice}}}
 use Rattle.zc_poll.specs.{Fresh.{has_left}, Standing.{Desk, stopped_with}, Steps.{OnlySteps, Steps, IsItem, IsSoWaiting, Scrubs}, Pouring.{PourStands}}

@@ -7,8 +7,8 @@ use Rattle.board_face.specs.declared.views.app.{LentPiece.{LentPiece}, AppView.{
 use Rattle.std.specs.Io.KnownBytes.{Keeps}
 use Rattle.flow_queues.specs.declared.queues.Lending.{Lending}
 use Rattle.flow_queues.specs.{Marks.{Mark}, Core.{total, AreReadAt, IsIn, IsReadOf, lent_piece, most_at_once}, Totals.{capped, lent_len, loan_entries, raw_entries}}
-use Rattle.flow_queues.specs.{Shelves.{AreOfOneLoan, kept_loans}, Entries.{Gives}, Ends.{bytes_in, times}}
-use Rattle.zc_poll.specs.{Counting.{TallyState}, Standing.{Desk, StreamStands}, Items.{Given, HasGiven, marks_given}}
+use Rattle.flow_queues.specs.{Shelves.{AreOfOneLoan, kept_loans}, Entries.{Gives}, Ends.{bytes_in, times}, Counting.{TallyState}}
+use Rattle.zc_poll.specs.{Standing.{Desk, StreamStands}, Items.{Given, HasGiven, marks_given}}
 
 -- how many bytes an item has
 abbrev pub given_len : Given → ℕ

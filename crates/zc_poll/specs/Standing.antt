@@ -3,8 +3,8 @@ use Rattle.std.specs.Prelude.{◌≡◌, ℕ, ◌+◌, ◌≤◌, ◌⊎◌, Boo
 use Rattle.zr_kinds.specs.{CopyingReceiver.{next_missing}, declared.place.Place.{Place}}
 use Rattle.board_face.specs.{AppCalls.{HasLoan}, declared.views.app.{HeldPiece.{HeldPiece}, AppView.{AppView}}}
 use Rattle.flow_queues.specs.declared.queues.{FlowQueue.{FlowQueue}, Lending.{Lending}}
-use Rattle.flow_queues.specs.Core.{total, Each, many, LieApart, own_notes, placed_of, over_kept, held_len, short_bytes, unsplit_len, Stands}
-use Rattle.flow_queues.specs.{Flows.{IsAtRest, RestBut, IsIndex, facts_of}, Shelves.{FlowEnds}, Totals.{taken_len}}
+use Rattle.flow_queues.specs.{Core.{total, Each, many, LieApart, own_notes, placed_of, over_kept}, Kept.{QueueState, LoansOut, QueuesStand}}
+use Rattle.flow_queues.specs.{Flows.{IsAtRest, facts_of}, Shelves.{FlowEnds}, Totals.{taken_len}}
 
 pub record Desk : Type 0 where
   pub app : ℕ
@@ -22,17 +22,19 @@ pub record Desk : Type 0 where
   -- its user counts were scrubbed
   pub scrubbed : Bool
 
+-- what it keeps of its flows
+abbrev pub queues_of : Desk → QueueState
+queues_of st = record { notes = st.notes; flows = st.flows; index = st.index; active = st.active }
+
+-- each loan that is out was read
+abbrev pub all_read : List Lending → LoansOut
+all_read out = record { unread = []; read = out }
+
 -- notes enter the queues, and pieces are lent
 pub record Going (st : Desk) (v : AppView) : Type 0 where
   -- the loans that are out
   pub out : List Lending
-  pub stands : Stands st.notes st.flows [] out v
-  pub rest : RestBut st.active st.flows
-  pub index : IsIndex st.index st.flows
-  -- each spare was for a byte that came in a note, and is for one that isn't kept any more
-  pub spares : v.spares + total (λ f. short_bytes f.queue) st.flows ≤ total unsplit_len v.taken
-  -- each loan was of a byte that was taken, and is of one that isn't kept any more
-  pub bound : length v.loans + length v.returned + total held_len v.helds + total (λ f. short_bytes f.queue) st.flows ≤ total taken_len v.taken
+  pub stand : QueuesStand (queues_of st) (all_read out) v
 
 -- all that is in order of each flow's notes was given
 pub record IsWhole (st : Desk) (v : AppView) : Type 0 where

@@ -1,6 +1,6 @@
 -- Pouring was stopped by its user, and a stopped stream leaves.
 use Rattle.std.specs.Prelude.{◌≡◌, ◌≢◌, ℕ, true, List, [], length, Option, Some, None}
-use Rattle.zr_kinds.specs.declared.{place.Place.{Place}, behaviour.Stopped.{Stopped}}
+use Rattle.zr_kinds.specs.declared.place.Place.{Place}
 use Rattle.zr_kinds.specs.declared.behaviour.Stopped.TheVariants as stop
 use Rattle.zr_io.specs.Moved.{Gained}
 use Rattle.board_face.specs.{AppEvents.{abandoned}, declared.views.app.AppView.{AppView}}
@@ -11,17 +11,10 @@ use Rattle.zc_poll.specs.Standing.{Desk, StreamStands}
 abbrev pub IsStill : Desk → AppView → Type 0
 IsStill st v = StreamStands st v × (st.stopped ≡ true) × (v.loans ≡ [])
 
--- with the loan given up that is due
-abbrev pub without_due : Option Place → AppView → AppView
-without_due None v = v
-without_due (Some loan) v = abandoned v loan
-
--- its user stopped it, unless something had
-abbrev pub quit_by : Stopped → Stopped
-quit_by stop.No = stop.Quit
-quit_by stop.Quit = stop.Quit
-quit_by stop.Write = stop.Write
-quit_by stop.Memory = stop.Memory
+-- with this loan given up, if it is one
+abbrev pub without_loan : Option Place → AppView → AppView
+without_loan None v = v
+without_loan (Some loan) v = abandoned v loan
 
 -- What was written until then. No loan and no piece is out; what the shelf gained of a flow is a front of its bytes, and all of that
 -- is counted but where it failed.

@@ -3,7 +3,6 @@
 //! turn or as a future.
 #![tactic(auto)]
 
-mod counting;
 mod laws;
 mod leaving;
 mod lending;
@@ -15,10 +14,9 @@ mod taking;
 mod to_shelf;
 mod with_parts;
 
-pub use counting::{PourTally, count, count_item, make_room};
 pub use laws::items_law;
 pub use leaving::Leaving;
 pub use step::{Lent, Step, Waits};
 pub use stream::LoanStream;
-pub use to_shelf::{PollTurn, Poured, Rests, ToShelf, give_up_due, quit, told};
+pub use to_shelf::{PollTurn, Poured, Rests, ToShelf};
 pub use with_parts::WithParts;

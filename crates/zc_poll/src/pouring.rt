@@ -2,18 +2,15 @@
 ghost use Rattle.std.specs.Prelude.{◌≡◌, ℕ, List, [], Option, None};
 ghost use Rattle.zr_io.specs.Moved.{ShelfCounts};
 ghost use Rattle.board_face.specs.{AppEvents.{abandoned}, declared.views.app.AppView.{AppView}};
-ghost use Rattle.flow_queues.specs.Core.{OnlyReads};
-ghost use Rattle.zc_poll.specs.{Standing.{Desk, StreamStands, HoldsLoan, StaysAt, stopped_with}, Items.{Given, HasGiven}, Steps.{IsItem, OnlySteps}, Counting.{HasRoomForFlows}, Pouring.{CountsAppends, GainsLoan, PourStands}, PourTurns.{IsRead}, TallyOf.{tally_of}};
+ghost use Rattle.flow_queues.specs.{Core.{OnlyReads}, Counting.{HasRoomForFlows}, TallyOf.{tally_of}};
+ghost use Rattle.zc_poll.specs.{Standing.{Desk, StreamStands, HoldsLoan, StaysAt, stopped_with}, Items.{Given, HasGiven}, Steps.{IsItem, OnlySteps}, Pouring.{CountsAppends, GainsLoan, PourStands}, PourTurns.{IsRead}};
 
-use crate::counting::{PourTally, count, count_item, make_room};
 use crate::step::Lent;
 use crate::stream::LoanStream;
 use board_face::{AppFace, Loan};
+use flow_queues::{CHUNK, LoanTally};
 use zr_io::Shelf;
 use zr_kinds::Stopped;
-
-/// How many bytes are read and appended at once.
-const CHUNK: usize = 4096;
 
 /// Appends the bytes of a loan to a flow of the shelf, and tells how many of them the appends that went well have. Fewer than all
 /// say that the shelf failed.
@@ -47,7 +44,7 @@ pub fn append_loan<F: AppFace, T: Shelf>(
 }
 
 /// Gives a loan up, and stops the stream for this.
-fn give_up<F: AppFace>(stream: &mut LoanStream<F>, work: &mut PourTally, loan: Loan, why: Stopped)
+fn give_up<F: AppFace>(stream: &mut LoanStream<F>, work: &mut LoanTally, loan: Loan, why: Stopped)
     requires holds { HoldsLoan stream.old.desk (F.seen stream.old.face) loan }
     ensures stands { StreamStands stream.new.desk (F.seen stream.new.face) }
     ensures stopped { stream.new.desk ≡ stopped_with stream.old.desk stream.new.desk.flows }
@@ -69,7 +66,7 @@ fn give_up<F: AppFace>(stream: &mut LoanStream<F>, work: &mut PourTally, loan: L
 pub fn pour<F: AppFace, T: Shelf>(
     stream: &mut LoanStream<F>,
     shelf: &mut T,
-    work: &mut PourTally,
+    work: &mut LoanTally,
     lent: Lent,
 ) -> Option<Loan>
     requires holds { HoldsLoan stream.old.desk (F.seen stream.old.face) lent.loan }
@@ -94,13 +91,13 @@ pub fn pour<F: AppFace, T: Shelf>(
         loan,
         copied,
     } = lent;
-    count_item(work, copied);
-    if make_room(work, flow).is_err() {
+    work.count_item(copied);
+    if work.make_room(flow).is_err() {
         give_up(stream, work, loan, Stopped::Memory);
         return None;
     }
     let done = append_loan(stream, &loan, flow, shelf);
-    count(work, flow, done);
+    work.count(flow, done);
     if done < loan.place().len {
         give_up(stream, work, loan, Stopped::Write);
         return None;

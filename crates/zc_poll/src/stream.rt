@@ -1,13 +1,13 @@
-ghost use Rattle.std.specs.Prelude.{◌≡◌, ◌+◌, ◌<◌, ◌≤◌, [], List, length, Some, None, true, false, IfErr, IfSome, MatchBool, MatchResult, ⊤};
+ghost use Rattle.std.specs.Prelude.{◌≡◌, ◌+◌, ◌≤◌, [], List, length, None, true, false, IfErr, IfSome, MatchBool, MatchResult, ⊤};
 ghost use Rattle.futures.specs.{Poll.{IfReady, OnPending}, Runs.{After, Within}, declared.task.Poll.TheVariants.{Ready}};
-ghost use Rattle.board_face.specs.{Looks.{AppTold}, NotNow.{HasWrittenRingful}, AppCalls.{AppOnlySaw}, AppEvents.{app_gist, gave, abandoned}, declared.views.app.AppLook.TheVariants.{RefillInUse, NotQuiet}};
+ghost use Rattle.board_face.specs.{Looks.{AppTold}, NotNow.{HasWrittenRingful}, AppCalls.{AppOnlySaw, HasLoan}, AppEvents.{app_gist, gave, abandoned}, declared.views.app.AppLook.TheVariants.{RefillInUse, NotQuiet}};
 ghost use Rattle.flow_queues.specs.Leaving.{IsHeldUp};
-ghost use Rattle.zc_poll.specs.{Standing.{StreamStands, HoldsLoan, StaysAt, MayClose, stopped_with}, Items.{Given, HasGiven}, Steps.{Stepped, OnlySteps, PollGives, ReadsLoan, Scrubs, IsStepTold}, Fresh.{HasDoneNothing, new_desk, has_left}, Polls.{AsksAgain, Yields}, Stops.{IsStill}, declared.step.Step.TheVariants.{Ended}};
+ghost use Rattle.zc_poll.specs.{Standing.{StreamStands, HoldsLoan, StaysAt, MayClose, stopped_with}, Items.{Given, HasGiven}, Steps.{Stepped, OnlySteps, PollGives, ReadsLoan, Scrubs, IsStepTold}, Fresh.{HasDoneNothing, new_desk, has_left}, Polls.{AsksAgain, Yields}, Stops.{IsStill, without_loan}, declared.step.Step.TheVariants.{Ended}};
 
 use crate::lending::offer;
 use crate::state::{StreamState, stop};
 use crate::step::{Lent, Step, Waits};
-use crate::taking::take_note;
+use crate::taking::next_note;
 use board_face::{AppFace, Loan};
 use flow_queues::{Queues, leave, scrub};
 use futures::Stream;
@@ -70,7 +70,7 @@ impl<F: AppFace> LoanStream<F> {
         }
         let mut left = self.face.places();
         while left > 0 {
-            if let Some(step) = take_note(&mut self.face, &mut self.state) {
+            if let Some(step) = next_note(&mut self.face, &mut self.state) {
                 return step;
             }
             if let Some(step) = offer(&mut self.face, &mut self.state) {
@@ -117,6 +117,20 @@ impl<F: AppFace> LoanStream<F> {
         ensures beside { F.beside self.new.face ≡ F.beside self.old.face }
     {
         self.face.abandon(loan);
+    }
+
+    /// Gives the loan up that is kept here, if one is.
+    pub fn abandon_kept(&mut self, kept: &mut Option<Loan>)
+        requires stands { StreamStands self.old.desk (F.seen self.old.face) }
+        requires out { IfSome kept.old (λ loan. HasLoan (F.seen self.old.face) loan) }
+        ensures stays { StaysAt self.old.desk self.new.desk (F.seen self.new.face) }
+        ensures view { F.seen self.new.face ≡ without_loan kept.old (F.seen self.old.face) }
+        ensures none { kept.new ≡ None }
+        ensures beside { F.beside self.new.face ≡ F.beside self.old.face }
+    {
+        if let Some(loan) = kept.take() {
+            self.abandon(loan);
+        }
     }
 
     /// Gives all pieces up. The stream goes on taking notes, and gives no more items.
@@ -183,6 +197,7 @@ impl<F: AppFace> LoanStream<F> {
             (F.seen self.old.face) (F.seen self.new.face) }
         ensures beside { F.beside self.new.face ≡ F.beside self.old.face }
     {
+        // By a flag of its own: what the stream keeps stays as it was.
         let mut scrubbed = self.state.scrubbed;
         leave(&mut self.face, &mut scrubbed)
     }

@@ -6,7 +6,7 @@ ghost use Rattle.zc_poll.specs.{Standing.{MayLook}, Steps.{IsStepTold, Takes, Lo
 use crate::state::{StreamState, release, stop};
 use crate::step::{Step, Waits};
 use board_face::AppFace;
-use flow_queues::{Taken, pass_note};
+use flow_queues::{Taken, pass_note, take_note};
 
 /// Looks for a note, which enters the queue of its flow, or goes past it where the stream is stopped.
 fn look<F: AppFace>(face: &mut F, st: &mut StreamState) -> Taken
@@ -20,12 +20,12 @@ fn look<F: AppFace>(face: &mut F, st: &mut StreamState) -> Taken
     if st.stopped {
         return pass_note(face);
     }
-    flow_queues::take_note(face, &mut st.queues)
+    take_note(face, &mut st.queues)
 }
 
 /// Takes the next note. `None` says that one was taken. Want of memory stops the stream, and where no note comes any more all
 /// pieces are given up that wait behind gaps.
-pub fn take_note<F: AppFace>(face: &mut F, st: &mut StreamState) -> Option<Step>
+pub fn next_note<F: AppFace>(face: &mut F, st: &mut StreamState) -> Option<Step>
     requires may { MayLook (desk_of st.old) (F.seen face.old) }
     ensures takes { Takes (desk_of st.old) (desk_of st.new) (F.seen face.old) (F.seen face.new)
         result }

@@ -1,24 +1,22 @@
 //! The items of a stream are written to a shelf, one turn after another.
-ghost use Rattle.std.specs.{Prelude.{◌≡◌, ◌≢◌, ◌<◌, ℕ, List, [], IfSome, Option, Some, None, true, false, ⊤}, Ordering.{nat_cmp}, Map.{keys_of}, List.Sorted.{IsStrictlySortedBy}};
-ghost use Rattle.board_face.specs.{AppCalls.{HasLoan}, AppEvents.{app_gist}, declared.views.app.AppView.{AppView}};
-ghost use Rattle.flow_queues.specs.Core.{Each};
+ghost use Rattle.std.specs.{Prelude.{◌≡◌, ◌≢◌, ◌<◌, ℕ, List, [], Option, Some, None, true, false, ⊤}, Ordering.{nat_cmp}, Map.{keys_of}, List.Sorted.{IsStrictlySortedBy}};
+ghost use Rattle.board_face.specs.{AppEvents.{app_gist}, declared.views.app.AppView.{AppView}};
+ghost use Rattle.flow_queues.specs.{Core.{Each}, Counting.{HasRoomForFlows, new_tally, quit_by}, TallyOf.{tally_of}};
 ghost use Rattle.zr_kinds.specs.declared.{behaviour.Stopped.TheVariants.{No}, place.Place.{Place}};
-ghost use Rattle.zc_poll.specs.{Counting.{HasRoomForFlows, new_tally}, Standing.{Desk, StreamStands, HoldsLoan, StaysAt, MayClose}, Fresh.{HasDoneNothing, new_desk}, Pouring.{CanTurn, PourStands}, PourTurns.{HadItem, IsTold, PourGives, PourStage, ScrubsFirst, ScrubsIfQuiet, StepDoes, TurnDoes, PollPours, PollDoes, pour_stage}, Steps.{IsItem, OnlySteps}, TallyOf.{tally_of}};
-ghost use Rattle.zc_poll.specs.{Polls.{AsksAgain, Tells}, PourTurns.{TellsCounts, pour_end}, Stops.{HasStopped, IsStill, quit_by, without_due}, declared.to_shelf.Poured.{Poured as Told}};
+ghost use Rattle.zc_poll.specs.{Standing.{Desk, StreamStands, HoldsLoan, MayClose}, Fresh.{HasDoneNothing, new_desk}, Pouring.{CanTurn, PourStands}, PourTurns.{HadItem, IsTold, PourGives, PourStage, ScrubsFirst, ScrubsIfQuiet, StepDoes, TurnDoes, PollPours, PollDoes, pour_stage}, Steps.{IsItem, OnlySteps}};
+ghost use Rattle.zc_poll.specs.{Polls.{AsksAgain, Tells}, PourTurns.{TellsCounts, pour_end}, Stops.{HasStopped, IsStill, without_loan}, declared.to_shelf.Poured.{Poured as Told}};
 ghost use Rattle.futures.specs.Poll.{IfReady, OnPending};
 ghost use Rattle.zr_io.specs.Moved.{ShelfCounts};
 
-use crate::counting::PourTally;
 use crate::pouring::pour;
 use crate::step::{Lent, Step, Waits};
 use crate::stream::LoanStream;
 use board_face::{AppFace, Loan};
+use flow_queues::LoanTally;
 use futures::Future;
 use futures::task::{Context, Poll};
 use std::alloc::Global;
-use std::collections::BTreeMap;
 use std::marker::Model;
-use std::mem;
 use zr_io::Shelf;
 use zr_kinds::Stopped;
 
@@ -33,6 +31,26 @@ pub struct Poured {
     pub stopped: Stopped,
     /// How many bytes of each flow that was written, by ascending flow.
     pub flows: Vec<(u32, u64)>,
+}
+
+impl Poured {
+    /// What a tally says once nothing comes any more.
+    pub fn of_tally(tally: &mut LoanTally, alloc: Global) -> Poured
+        requires room { HasRoomForFlows (tally_of tally.old) }
+        ensures tells { TellsCounts (tally_of tally.old) result }
+        ensures some { Each (λ f. 0 < f.1) result.flows.items }
+        ensures ascending { IsStrictlySortedBy nat_cmp (keys_of result.flows.items) }
+        ensures due { tally.new.due ≡ tally.old.due }
+    {
+        let flows = tally.written_flows(alloc);
+        Poured {
+            written: tally.written,
+            loans: tally.loans,
+            copied: tally.copied,
+            stopped: tally.stopped,
+            flows,
+        }
+    }
 }
 
 /// What a turn that did nothing rests on.
@@ -56,31 +74,8 @@ pub enum PollTurn {
     Ended(Poured),
 }
 
-/// What was written, once nothing comes any more.
-pub fn told(work: &mut PourTally, alloc: Global) -> Poured
-    requires room { HasRoomForFlows (tally_of work.old) }
-    ensures tells { TellsCounts (tally_of work.old) result }
-    ensures some { Each (λ f. 0 < f.1) result.flows.items }
-    ensures ascending { IsStrictlySortedBy nat_cmp (keys_of result.flows.items) }
-    ensures due { work.new.due ≡ work.old.due }
-{
-    let mut flows = mem::replace(&mut work.flows, Vec::new(alloc));
-    for (flow, bytes) in &work.counts {
-        if *bytes > 0 {
-            flows.push_reserved((*flow, *bytes));
-        }
-    }
-    Poured {
-        written: work.written,
-        loans: work.loans,
-        copied: work.copied,
-        stopped: work.stopped,
-        flows,
-    }
-}
-
 /// Gives the loan back that is due.
-fn give_back<F: AppFace>(stream: &mut LoanStream<F>, work: &mut PourTally, loan: Loan) -> PollTurn
+fn give_back<F: AppFace>(stream: &mut LoanStream<F>, work: &mut LoanTally, loan: Loan) -> PollTurn
     requires holds { HoldsLoan stream.old.desk (F.seen stream.old.face) loan }
     requires due { work.old.due ≡ None }
     ensures gives { (first kept : ℕ → Option (List ℕ)) (losses now : ShelfCounts)
@@ -106,7 +101,7 @@ fn give_back<F: AppFace>(stream: &mut LoanStream<F>, work: &mut PourTally, loan:
 }
 
 /// Lets the face leave, once all is given back.
-fn close<F: AppFace>(stream: &mut LoanStream<F>, work: &mut PourTally) -> PollTurn
+fn close<F: AppFace>(stream: &mut LoanStream<F>, work: &mut LoanTally) -> PollTurn
     requires may { MayClose stream.old.desk (F.seen stream.old.face) }
     requires due { work.old.due ≡ None }
     requires room { HasRoomForFlows (tally_of work.old) }
@@ -130,38 +125,15 @@ fn close<F: AppFace>(stream: &mut LoanStream<F>, work: &mut PourTally) -> PollTu
     if !stream.leave() {
         return PollTurn::Idle(Rests::NotQuiet);
     }
-    let poured = told(work, stream.alloc());
+    let poured = Poured::of_tally(work, stream.alloc());
     PollTurn::Ended(poured)
-}
-
-/// Gives the loan up that is due.
-pub fn give_up_due<F: AppFace>(stream: &mut LoanStream<F>, work: &mut PourTally)
-    requires stands { StreamStands stream.old.desk (F.seen stream.old.face) }
-    requires out { IfSome work.old.due (λ loan. HasLoan (F.seen stream.old.face) loan) }
-    ensures stays { StaysAt stream.old.desk stream.new.desk (F.seen stream.new.face) }
-    ensures view { F.seen stream.new.face ≡ without_due work.old.due (F.seen stream.old.face) }
-    ensures work { work.new ≡ record work.old { due = None } }
-    ensures beside { F.beside stream.new.face ≡ F.beside stream.old.face }
-{
-    if let Some(loan) = work.due.take() {
-        stream.abandon(loan);
-    }
-}
-
-/// Its user stopped it, unless something had.
-pub fn quit(work: &mut PourTally)
-    ensures { work.new ≡ record work.old { stopped = quit_by work.old.stopped } }
-{
-    if work.stopped == Stopped::No {
-        work.stopped = Stopped::Quit;
-    }
 }
 
 /// Writes an item to the shelf, and gives its loan back. Where the refill slot is in use the loan stays due.
 fn pour_item<F: AppFace, T: Shelf>(
     stream: &mut LoanStream<F>,
     shelf: &mut T,
-    work: &mut PourTally,
+    work: &mut LoanTally,
     lent: Lent,
 )
     requires holds { HoldsLoan stream.old.desk (F.seen stream.old.face) lent.loan }
@@ -189,7 +161,7 @@ fn pour_item<F: AppFace, T: Shelf>(
 fn take_step<F: AppFace, T: Shelf>(
     stream: &mut LoanStream<F>,
     shelf: &mut T,
-    work: &mut PourTally,
+    work: &mut LoanTally,
 ) -> PollTurn
     requires stands { StreamStands stream.old.desk (F.seen stream.old.face) }
     requires more { stream.old.desk.ended ≡ false }
@@ -225,7 +197,7 @@ fn take_step<F: AppFace, T: Shelf>(
 }
 
 /// Scrubs where the stream was stopped, unless a refill slot is in use.
-fn scrub_stopped<F: AppFace>(stream: &mut LoanStream<F>, work: &PourTally)
+fn scrub_stopped<F: AppFace>(stream: &mut LoanStream<F>, work: &LoanTally)
     requires stands { (first kept : ℕ → Option (List ℕ)) × (losses now : ShelfCounts)
         × PourStands first losses (tally_of work.now) stream.old.desk kept now
         (F.seen stream.old.face) }
@@ -255,7 +227,7 @@ fn scrub_stopped<F: AppFace>(stream: &mut LoanStream<F>, work: &PourTally)
 fn go_on<F: AppFace, T: Shelf>(
     stream: &mut LoanStream<F>,
     shelf: &mut T,
-    work: &mut PourTally,
+    work: &mut LoanTally,
 ) -> PollTurn
     requires stands { CanTurn (tally_of work.old) stream.old.desk (T.kept shelf.old)
         (T.counts shelf.old) (F.seen stream.old.face) }
@@ -284,7 +256,7 @@ fn go_on<F: AppFace, T: Shelf>(
 fn take_turn<F: AppFace, T: Shelf>(
     stream: &mut LoanStream<F>,
     shelf: &mut T,
-    work: &mut PourTally,
+    work: &mut LoanTally,
 ) -> PollTurn
     requires stands { CanTurn (tally_of work.old) stream.old.desk (T.kept shelf.old)
         (T.counts shelf.old) (F.seen stream.old.face) }
@@ -317,11 +289,12 @@ fn take_turn<F: AppFace, T: Shelf>(
 pub struct ToShelf<F, T> {
     stream: LoanStream<F>,
     shelf: T,
-    work: PourTally,
+    work: LoanTally,
 }
 
 impl<F, T> Model for ToShelf<F, T> {
-    ghost use Rattle.zc_poll.specs.{PourTurns.{PourView}, TallyOf.{tally_of}};
+    ghost use Rattle.zc_poll.specs.PourTurns.{PourView};
+    ghost use Rattle.flow_queues.specs.TallyOf.{tally_of};
 
     ghost Value = { PourView F T };
 
@@ -345,15 +318,7 @@ impl<F: AppFace, T: Shelf> ToShelf<F, T> {
         ToShelf {
             stream,
             shelf,
-            work: PourTally {
-                due: None,
-                written: 0,
-                loans: 0,
-                copied: 0,
-                stopped: Stopped::No,
-                counts: BTreeMap::new(alloc),
-                flows: Vec::new(alloc),
-            },
+            work: LoanTally::new(alloc),
         }
     }
 
@@ -393,7 +358,7 @@ impl<F: AppFace, T: Shelf> ToShelf<F, T> {
         // No loan is out.
         ensures still { IsStill result.1.desk (F.seen result.1.face) }
         ensures view { F.seen result.1.face
-            ≡ record (without_due self.tally.due (F.seen self.face)) { helds = [] } }
+            ≡ record (without_loan self.tally.due (F.seen self.face)) { helds = [] } }
         ensures stops { (first : ℕ → Option (List ℕ)) (losses : ShelfCounts)
             → PourStands first losses self.tally self.desk (T.kept self.shelf) (T.counts self.shelf)
             (F.seen self.face)
@@ -407,10 +372,10 @@ impl<F: AppFace, T: Shelf> ToShelf<F, T> {
             shelf,
             mut work,
         } = self;
-        give_up_due(&mut stream, &mut work);
+        stream.abandon_kept(&mut work.due);
         stream.stop();
-        quit(&mut work);
-        let poured = told(&mut work, stream.alloc());
+        work.quit();
+        let poured = Poured::of_tally(&mut work, stream.alloc());
         (poured, stream, shelf)
     }
 

@@ -1,8 +1,8 @@
 use Rattle.std.proofs.Common.{ℕ, true, List, Option, sym, ap, subst, ◌∙◌, refl}
 use Rattle.board_face.specs.declared.views.app.AppView.{AppView}
 use Rattle.flow_queues.specs.{Kept.{QueueState}, KeptOf.{queue_state}}
-use Rattle.app_worker.specs.{State.{State, Working, Common}, StateOf.{state_of}, Whole.{TookOne, TookNone}, Turns.{MayPoll, Turns}}
-use Rattle.app_worker.proofs.{InQueues.{with_queues, queues-work}, NoteTaken.{noted-none, noted-one}, TurnLemmas.{turns-saw}}
+use Rattle.app_worker.specs.{State.{State, Working, Common}, StateOf.{state_of}, Turns.{MayPoll, Turns}}
+use Rattle.app_worker.proofs.{InQueues.{with_queues, queues-work}, NoteTaken.{TookOne, TookNone, noted-none, noted-one}, TurnLemmas.{turns-saw}}
 use Rattle.app_worker.proofs.Looking.{took-failed, took-did, ended-working, ended-common, turns-ended, turns-memory}
 use Rattle.app_worker.{specs.declared.turn.Why.TheVariants.{NoNote}, proofs.{LentAll.{none-in-reserve, leaves-none}, working.look.Goals.{After-take_note, In-Did, In-Memory}}}
 use Rattle.app_worker.proofs.working.look.Goals as goal

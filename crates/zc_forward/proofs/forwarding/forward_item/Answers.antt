@@ -1,18 +1,17 @@
 use Rattle.std.{proofs.Common.{rules, inl, inr, false, ◌≡◌, ◌<◌, ◌∙◌, ◌++◌, ◌∷◌, [], ℕ, true, None, Some, nat_eq, refl, sym, ap, subst}, specs.Map.{lookup}}
 use Rattle.zr_kinds.specs.declared.behaviour.Stopped.TheVariants as stop
 use Rattle.board_face.specs.declared.views.app.{LentPiece.{LentPiece}, AppView.{AppView}}
-use Rattle.flow_queues.specs.Core.{total}
-use Rattle.zc_poll.{specs.{Standing.{Desk, StreamStands, stopped_with}, Items.{HasGiven}, Counting.{TallyState, AddsTo, item_counted}, TallyOf.{tally_of}}, proofs.ItemPoured.{Roomy}}
-use Rattle.zc_poll.proofs.PourTurns.{only-reads-none}
+use Rattle.flow_queues.specs.{Core.{total}, Counting.{TallyState, AddsTo, item_counted}, TallyOf.{tally_of}}
+use Rattle.zc_poll.{specs.{Standing.{Desk, StreamStands, stopped_with}, Items.{HasGiven}}, proofs.{ItemPoured.{Roomy, is-roomy}, PourTurns.{only-reads-none}}}
 use Rattle.zc_forward.specs.{declared.{outbox.Outbox.{Outbox as Kept}, sent.Sent.{Sent}}, OutboxOf.{outbox_of}, Sending.{of_sent}, Tags.{Tags}}
-use Rattle.zc_forward.{specs.Forwarding.{ForwardStands}, proofs.{Items.{carries, fails, is-roomy, wants}, Live.{pushed-sum}}}
+use Rattle.zc_forward.{specs.Forwarding.{ForwardStands}, proofs.{Items.{carries, fails, wants}, Live.{pushed-sum}}}
 use Rattle.zc_forward.proofs.forwarding.forward_item.Goals as goal
 
 pub returns-then-is_err-clause-gives : goal.returns-then-is_err-clause-gives
 returns-then-is_err-clause-gives g c =
     let roomy : Roomy (item_counted (tally_of c.args.work.now.tally) c.args.lent.copied) (tally_of c.room_for.new.work.tally) =
-    is-roomy c.args.work.now.tally c.count_item.new.work c.room_for.new.work.tally c.args.lent.copied c.count_item.ensures.tally c.room_for.ensures.same
-    c.room_for.ensures.room.room c.room_for.ensures.room.empty in
+    is-roomy c.args.work.now.tally c.count_item.new.self c.room_for.new.work.tally c.args.lent.copied c.count_item.ensures.tally c.room_for.ensures.same
+    c.room_for.ensures.room in
     let adds : AddsTo c.args.lent.flow 0 c.args.work.now.tally.counts.entries c.room_for.new.work.tally.counts.entries =
     subst (λ es. AddsTo c.args.lent.flow 0 es c.room_for.new.work.tally.counts.entries) (ap (λ (t : TallyState). t.counts) c.count_item.ensures.tally)
     c.room_for.ensures.none in
@@ -84,7 +83,7 @@ returns-else-done-len-clause-had g c = λ st v pace later item only.
       lent = c.args.lent;
       item = item;
       only = only;
-      tally = tally_of c.count.new.work;
+      tally = tally_of c.count.new.self;
       due = ap (λ (t : TallyState). t.due) (ap tally_of c.count.ensures.same)
           ∙ ap (λ (t : TallyState). t.due) (ap tally_of c.room_for.ensures.same) ∙ ap (λ (t : TallyState). t.due) c.count_item.ensures.tally;
       read = g.F.AppFace.seen c.send-done.new.stream.face;
@@ -117,8 +116,8 @@ fail-requires g c =
 pub returns-then-done-len-clause-gives : goal.returns-then-done-len-clause-gives
 returns-then-done-len-clause-gives g c =
     let roomy : Roomy (item_counted (tally_of c.args.work.now.tally) c.args.lent.copied) (tally_of c.room_for.new.work.tally) =
-    is-roomy c.args.work.now.tally c.count_item.new.work c.room_for.new.work.tally c.args.lent.copied c.count_item.ensures.tally c.room_for.ensures.same
-    c.room_for.ensures.room.room c.room_for.ensures.room.empty in
+    is-roomy c.args.work.now.tally c.count_item.new.self c.room_for.new.work.tally c.args.lent.copied c.count_item.ensures.tally c.room_for.ensures.same
+    c.room_for.ensures.room in
     let adds : AddsTo c.args.lent.flow 0 c.args.work.now.tally.counts.entries c.room_for.new.work.tally.counts.entries =
     subst (λ es. AddsTo c.args.lent.flow 0 es c.room_for.new.work.tally.counts.entries) (ap (λ (t : TallyState). t.counts) c.count_item.ensures.tally)
     c.room_for.ensures.none in
@@ -133,7 +132,7 @@ returns-then-done-len-clause-gives g c =
     (g.C.Carrier.counts c.send-done.new.carrier) (g.F.AppFace.seen c.fail.new.stream.face) =
     fails first (g.C.Carrier.got c.args.carrier.now) losses (g.C.Carrier.counts c.args.carrier.now) (outbox_of c.args.work.now) st c.args.stream.now.desk
     (g.C.Carrier.tags c.args.carrier.now) v (g.F.AppFace.seen c.args.stream.now.face) before c.requires.can.due c.args.lent item only c.requires.can.holds.stands
-    (tally_of c.room_for.new.work.tally) roomy adds (g.C.Carrier.got c.send-done.new.carrier) y (tally_of c.count.new.work) c.send-done.result read.only
+    (tally_of c.room_for.new.work.tally) roomy adds (g.C.Carrier.got c.send-done.new.carrier) y (tally_of c.count.new.self) c.send-done.result read.only
     read.counted read.gained read.others (ap tally_of c.count.ensures.same) c.count.ensures.adds c.count.ensures.many (g.C.Carrier.got c.fail.new.carrier)
     (g.C.Carrier.counts c.send-done.new.carrier) gone.halts.gave_up.0 (g.F.AppFace.seen c.fail.new.stream.face) c.fail.new.stream.desk (outbox_of c.fail.new.work)
     gone.carrier.got gone.halts.gave_up.1 gone.halts.gave_up.3 gone.halts.still.2
@@ -149,8 +148,8 @@ returns-then-done-len-clause-gives g c =
 pub returns-else-done-len-clause-gives : goal.returns-else-done-len-clause-gives
 returns-else-done-len-clause-gives g c =
     let roomy : Roomy (item_counted (tally_of c.args.work.now.tally) c.args.lent.copied) (tally_of c.room_for.new.work.tally) =
-    is-roomy c.args.work.now.tally c.count_item.new.work c.room_for.new.work.tally c.args.lent.copied c.count_item.ensures.tally c.room_for.ensures.same
-    c.room_for.ensures.room.room c.room_for.ensures.room.empty in
+    is-roomy c.args.work.now.tally c.count_item.new.self c.room_for.new.work.tally c.args.lent.copied c.count_item.ensures.tally c.room_for.ensures.same
+    c.room_for.ensures.room in
     let adds : AddsTo c.args.lent.flow 0 c.args.work.now.tally.counts.entries c.room_for.new.work.tally.counts.entries =
     subst (λ es. AddsTo c.args.lent.flow 0 es c.room_for.new.work.tally.counts.entries) (ap (λ (t : TallyState). t.counts) c.count_item.ensures.tally)
     c.room_for.ensures.none in
@@ -164,7 +163,7 @@ returns-else-done-len-clause-gives g c =
     c.push_reserved.ensures.items ∙ ap (λ ss. ss ++ sent ∷ []) c.room_for.ensures.beside.0 in
     let free : lookup (nat_eq tag) (g.C.Carrier.tags c.args.carrier.now) ≡ None = search rules in
     let k : Kept = record {
-      tally = c.count.new.work;
+      tally = c.count.new.self;
       out = c.push_reserved.new.self;
       uncarried = c.room_for.new.work.uncarried;
       pressed = c.room_for.new.work.pressed;
@@ -174,7 +173,7 @@ returns-else-done-len-clause-gives g c =
     (g.C.Carrier.got c.send-done.new.carrier) (g.C.Carrier.counts c.send-done.new.carrier) y =
     carries first (g.C.Carrier.got c.args.carrier.now) losses (g.C.Carrier.counts c.args.carrier.now) (outbox_of c.args.work.now) st c.args.stream.now.desk
     (g.C.Carrier.tags c.args.carrier.now) v (g.F.AppFace.seen c.args.stream.now.face) before c.requires.can.due c.args.lent item only c.requires.can.holds.stands
-    (tally_of c.room_for.new.work.tally) roomy adds (g.C.Carrier.got c.send-done.new.carrier) y (tally_of c.count.new.work) c.send-done.result read.only
+    (tally_of c.room_for.new.work.tally) roomy adds (g.C.Carrier.got c.send-done.new.carrier) y (tally_of c.count.new.self) c.send-done.result read.only
     read.counted read.gained read.others (ap tally_of c.count.ensures.same) c.count.ensures.adds c.count.ensures.many
     (g.C.Carrier.counts c.send-done.new.carrier) tag (outbox_of k) refl out c.room_for.ensures.beside.1 free c.requires.can.few full
     (subst (λ (d : Desk). StreamStands d y) call.stays.desk call.stays.stands) (read.still full) read.appended in

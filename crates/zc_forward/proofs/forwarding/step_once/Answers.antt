@@ -1,6 +1,7 @@
 use Rattle.std.proofs.Common.{◌≡◌, ◌∙◌, true, false, refl, sym}
 use Rattle.zr_kinds.specs.declared.behaviour.Stopped.TheVariants as stop
-use Rattle.zc_poll.{proofs.PourTurns.{same-counts}, specs.TallyOf.{tally_of}}
+use Rattle.zc_poll.proofs.PourTurns.{same-counts}
+use Rattle.flow_queues.specs.TallyOf.{tally_of}
 use Rattle.zc_forward.{specs.{declared.outbox.Outbox.{Outbox as Kept}, OutboxOf.{outbox_of}}, proofs.Forwards.{step-forwards, memory-forwards}}
 use Rattle.zc_forward.proofs.forwarding.step_once.Goals as goal
 

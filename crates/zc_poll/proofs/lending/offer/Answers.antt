@@ -1,7 +1,7 @@
 use Rattle.std.proofs.Common.{rules, sym, ap, subst}
 use Rattle.board_face.specs.declared.views.app.AppView.{AppView}
 use Rattle.flow_queues.specs.{Kept.{QueueState}, KeptOf.{queue_state}}
-use Rattle.zc_poll.{specs.{Standing.{Desk}, DeskOf.{desk_of}}, proofs.{FlowsKept.{queues_of, with_queues, work-of}, Lends.{LentAs, item-is, held-stepped}}}
+use Rattle.zc_poll.{specs.{Standing.{Desk, queues_of}, DeskOf.{desk_of}}, proofs.{FlowsKept.{with_queues, work-of}, Lends.{LentAs, item-is, held-stepped}}}
 use Rattle.zc_poll.proofs.lending.offer.Goals as goal
 use Rattle.zc_poll.proofs.lending.offer.Goals.{in-Lent, in-LentCopy}
 

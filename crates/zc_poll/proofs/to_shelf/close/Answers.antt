@@ -1,7 +1,7 @@
 use Rattle.std.proofs.Common.{rules, ◌≡◌, ap, inl, inr, sym, subst}
 use Rattle.board_face.specs.declared.views.app.{AppLook.TheVariants.{NotQuiet}, AppView.{AppView}}
-use Rattle.flow_queues.specs.{Ends.{AppEnd, HasLeft}, Returned.{HasReturned}}
-use Rattle.zc_poll.{specs.{PourTurns.{pour_end}, TallyOf.{tally_of}}, proofs.{PourEnds.{left-pours, returned-pours, work_end}, PourTurns.{saw-pours}}}
+use Rattle.flow_queues.specs.{Ends.{AppEnd, HasLeft}, Returned.{HasReturned}, TallyOf.{tally_of}}
+use Rattle.zc_poll.{specs.PourTurns.{pour_end}, proofs.{PourEnds.{left-pours, returned-pours, work_end}, PourTurns.{saw-pours}}}
 use Rattle.zc_poll.proofs.to_shelf.close.Goals as goal
 
 pub returns-then-not-leave-clause-gives : goal.returns-then-not-leave-clause-gives
@@ -13,7 +13,7 @@ returns-then-not-leave-clause-gives g c =
 
 pub returns-clause-gives : goal.returns-clause-gives
 returns-clause-gives g c = λ first kept losses now before how.
-    let left : AppEnd = pour_end c.told-poured.result in
+    let left : AppEnd = pour_end c.of_tally-poured.result in
     let same : work_end (tally_of c.args.work.now) ≡ left = search rules in (
       λ quit. subst (HasLeft how first kept losses now (g.F.AppFace.seen c.leave.new.self.face)) same
           (subst (λ (v : AppView). HasLeft how first kept losses now v (work_end (tally_of c.args.work.now))) (sym c.if-not-leave.ensures.left)

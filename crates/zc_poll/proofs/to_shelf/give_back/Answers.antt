@@ -1,5 +1,6 @@
 use Rattle.std.proofs.Common.{Some, refl}
-use Rattle.zc_poll.{specs.TallyOf.{tally_of}, proofs.PourTurns.{gave-pours}}
+use Rattle.zc_poll.proofs.PourTurns.{gave-pours}
+use Rattle.flow_queues.specs.TallyOf.{tally_of}
 use Rattle.zc_poll.proofs.to_shelf.give_back.Goals as goal
 
 pub returns-in-Ok-clause-gives : goal.returns-in-Ok-clause-gives

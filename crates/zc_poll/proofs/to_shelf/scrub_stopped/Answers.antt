@@ -1,6 +1,7 @@
 use Rattle.std.proofs.Common.{rules, ap}
 use Rattle.board_face.specs.declared.views.app.AppView.{AppView}
-use Rattle.zc_poll.{specs.{Standing.{Desk}, TallyOf.{tally_of}}, proofs.Scrubbing.{scrub-pours, scrubs-first, scrubbed-desk, scrubbed-view, scrubs-quiet}}
+use Rattle.zc_poll.{specs.Standing.{Desk}, proofs.Scrubbing.{scrub-pours, scrubs-first, scrubbed-desk, scrubbed-view, scrubs-quiet}}
+use Rattle.flow_queues.specs.TallyOf.{tally_of}
 use Rattle.zc_poll.proofs.to_shelf.scrub_stopped.Goals as goal
 
 pub scrub-requires : goal.scrub-requires

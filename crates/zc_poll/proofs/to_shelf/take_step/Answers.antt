@@ -1,6 +1,7 @@
 use Rattle.std.proofs.Common.{refl}
 use Rattle.zr_kinds.specs.declared.behaviour.Stopped.TheVariants as stop
-use Rattle.zc_poll.{specs.TallyOf.{tally_of}, proofs.PourTurns.{step-pours, memory-pours, same-counts}}
+use Rattle.zc_poll.proofs.PourTurns.{step-pours, memory-pours, same-counts}
+use Rattle.flow_queues.specs.TallyOf.{tally_of}
 use Rattle.zc_poll.proofs.to_shelf.take_step.Goals as goal
 
 pub returns-in-Waiting-clause-gives : goal.returns-in-Waiting-clause-gives

@@ -1,5 +1,6 @@
 use Rattle.std.{proofs.Common.{rules, ◌≡◌, sym, subst}, specs.Prelude.{None}}
-use Rattle.zc_poll.specs.{Counting.{TallyState}, Pouring.{PourStands}, PourTurns.{TurnDoes, pour_stage}, TallyOf.{tally_of}}
+use Rattle.zc_poll.specs.{Pouring.{PourStands}, PourTurns.{TurnDoes, pour_stage}}
+use Rattle.flow_queues.specs.{Counting.{TallyState}, TallyOf.{tally_of}}
 use Rattle.zc_poll.proofs.to_shelf.take_turn.Goals as goal
 
 pub returns-then-has_ended-clause-does : goal.returns-then-has_ended-clause-does

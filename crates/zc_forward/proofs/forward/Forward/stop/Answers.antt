@@ -1,8 +1,8 @@
 use Rattle.std.proofs.Common.{rules, ◌≡◌, ap, sym, subst}
 use Rattle.zr_kinds.specs.declared.behaviour.Stopped.TheVariants as stop
 use Rattle.board_face.specs.declared.views.app.AppView.{AppView}
-use Rattle.flow_queues.specs.Ends.{AppEnd}
-use Rattle.zc_poll.{specs.{Counting.{with_bytes}, PourTurns.{pour_end}, Stops.{HasStopped, quit_by}}, proofs.Stopping.{quit-some, quit-write, stopped-pours}}
+use Rattle.flow_queues.specs.{Ends.{AppEnd}, Counting.{with_bytes, quit_by}}
+use Rattle.zc_poll.{specs.{PourTurns.{pour_end}, Stops.{HasStopped}}, proofs.Stopping.{quit-some, quit-write, stopped-pours}}
 use Rattle.zc_forward.{specs.{OutboxOf.{outbox_of}, Forwarding.{ForwardStands}, Turns.{ForwardView}}, proofs.{Forwards.{kept-forwards}, AllGone.{all-gone}}}
 use Rattle.zc_forward.proofs.forward.Forward.stop.Goals as goal
 
@@ -18,7 +18,7 @@ returns-clause-stops g c = λ first losses before.
     (g.C.Carrier.counts s.carrier) (g.F.AppFace.seen s.face)) (sym c.self.view_is) before in
     let now = kept-forwards first (g.C.Carrier.got inside.carrier) (g.C.Carrier.got c.halt.new.carrier) losses (g.C.Carrier.counts inside.carrier)
     (g.C.Carrier.counts c.halt.new.carrier) (outbox_of inside.work) inside.stream.desk (g.C.Carrier.tags inside.carrier) v on c.halt.ensures.carrier.got c.halt.ensures.carrier.counts in
-    let end : AppEnd = pour_end c.told-poured.result in
+    let end : AppEnd = pour_end c.of_tally-poured.result in
     let same : record { written = w.written; loans = w.loans; copied = w.copied; stopped = quit_by w.stopped; flows = with_bytes w.counts } ≡ end = search rules in
     let (y, gave, none, view) = c.halt.ensures.halts.gave_up in
     subst (HasStopped first (g.C.Carrier.got c.halt.new.carrier) z) same

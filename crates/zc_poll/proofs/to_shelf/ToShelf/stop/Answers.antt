@@ -1,13 +1,13 @@
 use Rattle.std.proofs.Common.{rules, ◌≡◌, ◌∙◌, [], length, ap, subst}
 use Rattle.zr_kinds.specs.declared.behaviour.Stopped.TheVariants as stop
 use Rattle.board_face.specs.{declared.views.app.AppView.{AppView}}
-use Rattle.flow_queues.specs.Ends.{AppEnd}
-use Rattle.zc_poll.specs.{Counting.{with_bytes}, Pouring.{PourStands}, PourTurns.{pour_end}, Standing.{Desk}, Stops.{HasStopped, quit_by, without_due}, TallyOf.{tally_of}}
+use Rattle.flow_queues.specs.{Ends.{AppEnd}, Counting.{with_bytes, quit_by}, TallyOf.{tally_of}}
+use Rattle.zc_poll.specs.{Pouring.{PourStands}, PourTurns.{pour_end}, Standing.{Desk}, Stops.{HasStopped, without_loan}}
 use Rattle.zc_poll.proofs.Stopping.{due-gone, due-out, none-then, quit-some, quit-write, stopped-pours, then-released}
 use Rattle.zc_poll.proofs.to_shelf.ToShelf.stop.Goals as goal
 
-pub give_up_due-requires-clause-out : goal.give_up_due-requires-clause-out
-give_up_due-requires-clause-out g c =
+pub abandon_kept-requires-clause-out : goal.abandon_kept-requires-clause-out
+abandon_kept-requires-clause-out g c =
     let (first, losses, before) = rw (← c.self.view_is) at c.requires.stands in
     due-out c.self.inside.work.due (g.F.AppFace.seen c.self.inside.stream.face) before.due
 
@@ -18,7 +18,7 @@ returns-clause-still g c =
     let gone = due-gone c.self.inside.work.due v before.due before.stands.common.apart in (
       c.stop.ensures.stands,
       ap (λ (d : Desk). d.stopped) c.stop.ensures.stopped,
-      none-then c.self.inside.work.due v (g.F.AppFace.seen c.give_up_due.new.stream.face) (g.F.AppFace.seen c.stop.new.self.face) gone c.give_up_due.ensures.view
+      none-then c.self.inside.work.due v (g.F.AppFace.seen c.abandon_kept.new.self.face) (g.F.AppFace.seen c.stop.new.self.face) gone c.abandon_kept.ensures.view
           c.stop.ensures.view,
     )
 
@@ -27,10 +27,10 @@ returns-clause-stops g c =
     let w = tally_of c.self.inside.work in
     let v : AppView = g.F.AppFace.seen c.self.inside.stream.face in
     let z : AppView = g.F.AppFace.seen c.stop.new.self.face in
-    let end : AppEnd = pour_end c.told-poured.result in
+    let end : AppEnd = pour_end c.of_tally-poured.result in
     let same : record { written = w.written; loans = w.loans; copied = w.copied; stopped = quit_by w.stopped; flows = with_bytes w.counts } ≡ end = search rules in
-    let same_view : z ≡ record (without_due c.self.inside.work.due v) { helds = [] } =
-    then-released c.self.inside.work.due v (g.F.AppFace.seen c.give_up_due.new.stream.face) z c.give_up_due.ensures.view c.stop.ensures.view in
+    let same_view : z ≡ record (without_loan c.self.inside.work.due v) { helds = [] } =
+    then-released c.self.inside.work.due v (g.F.AppFace.seen c.abandon_kept.new.self.face) z c.abandon_kept.ensures.view c.stop.ensures.view in
     rw (← c.self.view_is) (λ first losses (before : PourStands first losses w c.self.inside.stream.desk (g.T.Shelf.kept c.self.inside.shelf)
     (g.T.Shelf.counts c.self.inside.shelf) v).
     let gone = due-gone c.self.inside.work.due v before.due before.stands.common.apart in

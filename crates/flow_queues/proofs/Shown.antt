@@ -2,8 +2,7 @@
 use Rattle.std.proofs.Common.{◌≡◌, ◌≢◌, ℕ, zero, suc, ◌+◌, ◌<◌, ◌≤◌, ◌==◌, true, false, List, [], ◌∷◌, length, nat_lt, refl, ap, ◌∙◌, arith, ⊎_elim}
 use Rattle.std.specs.{List.{AllByRecursion, Sorted.{IsStrictlySortedBy}}, Map.{keys_of}, Ordering.{nat_cmp}, declared.cmp.Ordering.TheVariants.{Less}}
 use Rattle.std.proofs.lemmas.Bool.{cases_eq, eq-eqb, lt-ltb, ne_eqb}
-use Rattle.flow_queues.specs.{Core.{total, Each}, Ends.{bytes_in, times}}
-use Rattle.zc_poll.specs.Counting.{with_bytes}
+use Rattle.flow_queues.specs.{Core.{total, Each}, Ends.{bytes_in, times}, Counting.{with_bytes}}
 
 some-pass : (k : ℕ) → nat_lt 0 (suc k) ≡ true
 some-pass k = lt-ltb 0 (suc k) (omega arith)

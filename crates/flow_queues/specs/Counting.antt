@@ -4,7 +4,7 @@ use Rattle.zr_kinds.specs.declared.{place.Place.{Place}, behaviour.Stopped.{Stop
 use Rattle.zr_kinds.specs.declared.behaviour.Stopped.TheVariants as stop
 use Rattle.flow_queues.specs.{Core.{total}, Totals.{capped}, Ends.{bytes_in, times}}
 
--- what pouring keeps beside its stream and its shelf
+-- what was written of an application's loans, and what stopped that
 pub record TallyState : Type 0 where
   -- the loan that was written and is to be given back
   pub due : Option Place
@@ -30,6 +30,13 @@ pub record HasRoomForFlows (w : TallyState) : Type 0 where
 -- once an item was counted among the loans
 abbrev pub item_counted : TallyState → Bool → TallyState
 item_counted w copied = record w { loans = capped (w.loans + 1); copied = if copied then capped (w.copied + 1) else w.copied }
+
+-- its user stopped it, unless something had
+abbrev pub quit_by : Stopped → Stopped
+quit_by stop.No = stop.Quit
+quit_by stop.Quit = stop.Quit
+quit_by stop.Write = stop.Write
+quit_by stop.Memory = stop.Memory
 
 -- the flows of which bytes were written
 abbrev pub with_bytes : List (ℕ × ℕ) → List (ℕ × ℕ)

@@ -2,8 +2,7 @@
 use Rattle.std.proofs.Common.{◌≡◌, ◌≢◌, ℕ, ◌+◌, ◌<◌, ◌≤◌, ◌==◌, true, false, if◌then◌else◌, List, [], ◌∷◌, refl, sym, ap, subst, ◌∙◌, arith, ⊎_elim}
 use Rattle.std.specs.{Prelude.{Some, None, IsSome}, Ordering.{nat_cmp}, Cmp.{nat_cmp_is}, Map.{lookup, set_value}, BTreeMap.{insert_entry, is_at}}
 use Rattle.std.{specs.declared.cmp.Ordering.TheVariants.{Less, Equal, Greater}, proofs.lemmas.Bool.{cases_eq, cases_lt, eq-eqb, ne_eqb}}
-use Rattle.flow_queues.specs.Ends.{bytes_in, times}
-use Rattle.zc_poll.specs.Counting.{AddsTo}
+use Rattle.flow_queues.specs.{Ends.{bytes_in, times}, Counting.{AddsTo}}
 
 is-less : (a b : ℕ) → a < b → nat_cmp a b ≡ Less
 is-less a b below = sym (nat_cmp_is a b Less below)

@@ -2,7 +2,7 @@ use Rattle.std.proofs.Common.{◌∙◌, ap, map, true}
 use Rattle.flow_queues.specs.Flows.{facts_of}
 use Rattle.board_face.specs.declared.views.app.AppLook.TheVariants.{NoNote as no_note}
 use Rattle.zc_poll.{specs.{Standing.{Desk}, DeskOf.{desk_of}, declared.step.Waits.TheVariants.{NoNote}}, proofs.{Passing.{saw-stepped}, Released.{may-end, memory-stepped, ended-stepped}}}
-use Rattle.zc_poll.proofs.taking.take_note.Goals as goal
+use Rattle.zc_poll.proofs.taking.next_note.Goals as goal
 
 pub returns-in-NoNote-clause-takes : goal.returns-in-NoNote-clause-takes
 returns-in-NoNote-clause-takes g c = (

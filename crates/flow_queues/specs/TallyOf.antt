@@ -1,8 +1,8 @@
--- What pouring keeps beside its stream and its shelf, as plain data.
+-- What is counted of loans, as plain data.
 use Rattle.std.specs.Prelude.{vec_capacity}
-use Rattle.zc_poll.specs.{declared.counting.PourTally.{PourTally as Kept}, Counting.{TallyState}}
+use Rattle.flow_queues.specs.{declared.tally.LoanTally.{LoanTally}, Counting.{TallyState}}
 
-abbrev pub tally_of : Kept → TallyState
+abbrev pub tally_of : LoanTally → TallyState
 tally_of w = record {
   due = w.due;
   written = w.written;
