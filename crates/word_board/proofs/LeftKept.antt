@@ -6,7 +6,7 @@ use Rattle.std.proofs.lemmas.List.{get_or-set_same, get_or-set_other, get_or-rep
 use Rattle.atomic_table.proofs.Lists.{one_turn}
 use Rattle.board_face.specs.{NicCalls.{apps_of}, Opened.{unseen}, SlotSteps.{next_slot}, declared.views.{nic.{NicSide.{NicSide}, SentNote.{SentNote}}, parts.Setting.{Setting}}}
 use Rattle.board_face.{specs.declared.views.parts.Slot.{Slot}, proofs.{NicLemmas.{sent_to-same, sent_to-other}, OpenedLemmas.{all-alike}}}
-use Rattle.word_rings.{specs.Slots.{note_width, IsBlankFrom}, proofs.NoteSlots.{note-blank, zeros-blank}}
+use Rattle.word_rings.{specs.Slots.{note_width, field_words, payload_width, IsBlankFrom}, proofs.NoteSlots.{note-blank, zeros-blank}}
 use Rattle.ref_words.{specs.Rings.{left_for, left_in_note, writes_note_at, area_of_note, words_of_note, linear_bytes}, proofs.LeftWords.{left-more, left-turn}}
 use Rattle.word_board.specs.Hands.{KnowsLeft}
 
@@ -16,7 +16,7 @@ KnowsLeft-new setting = record {
   many = length-replicate {A = ℕ} 2048 0;
   most = λ i. omega (arith, all-alike 2048 i 0);
   blank = λ a k there from to.
-      let zeros : List ℕ = replicate 38 0 in
+      let zeros : List ℕ = replicate (field_words + payload_width) 0 in
       let turn : List (List ℕ) = replicate setting.places zeros in
       let left : left_for note_width (words_of_note setting) setting.places [] k ≡ zeros =
       get_or_append_left turn [] [] k (omega (arith, length-replicate setting.places zeros, to))
@@ -33,7 +33,7 @@ KnowsLeft-new setting = record {
 
 -- of its next note slot to an application
 pub next-left : (setting : Setting) (nic : NicSide) (filled : List ℕ) → KnowsLeft setting nic.view.sent nic.inside.note_slots filled → (a : ℕ)
-    → a < apps_of setting → 0 < setting.places → (get_or filled (256 * a + writes_note_at setting nic a) 0 ≤ 32)
+    → a < apps_of setting → 0 < setting.places → (get_or filled (256 * a + writes_note_at setting nic a) 0 ≤ payload_width)
     × IsBlankFrom (get_or filled (256 * a + writes_note_at setting nic a) 0) (left_in_note setting nic a)
 next-left setting nic filled knows a here some = (
   knows.most (256 * a + writes_note_at setting nic a),
@@ -49,7 +49,7 @@ unstored-then (x ∷ slots) (suc a) zero was = was
 unstored-then (x ∷ slots) (suc a) (suc k) was = unstored-then slots a k was
 
 module _ (setting : Setting) (sent : List SentNote) (slots : List Slot) (filled : List ℕ) (knows : KnowsLeft setting sent slots filled)
-    (s : SentNote) (count : ℕ) (fits : (s.app < 8) × (0 < setting.places) × (setting.places ≤ 256)) (most : count ≤ 32)
+    (s : SentNote) (count : ℕ) (fits : (s.app < 8) × (0 < setting.places) × (setting.places ≤ 256)) (most : count ≤ payload_width)
     (long : length (linear_bytes s) ≤ 8 * count) where
   abbrev a : ℕ
   a = s.app

@@ -4,7 +4,7 @@ use Rattle.std.proofs.{Common.{◌≤◌, sym}, lemmas.List.{get_or-set_same, se
 use Rattle.board_face.specs.{declared.views.parts.Setting.{Setting}, Opened.{unseen}, NicEvents.{sent, sent_linear}}
 use Rattle.board_face.specs.{SlotSteps.{seen_with, one_more, next_slot, at_note, side_note_stored, side_sent, side_sent_linear}, declared.views.parts.Slot.{Slot}}
 use Rattle.board_face.specs.declared.views.nic.NicSide.{NicSide}
-use Rattle.word_rings.specs.Slots.{IsBlankFrom}
+use Rattle.word_rings.specs.Slots.{field_words, payload_width, IsBlankFrom}
 use Rattle.ref_words.specs.Rings.{left_in_note, note_so_far}
 use Rattle.zr_kinds.specs.declared.place.Note.{Note}
 
@@ -41,12 +41,12 @@ module _ (nic : NicSide) (a : ℕ) (there : a < length nic.inside.note_slots) wh
       ap (λ slots. record { view = sent_linear nic.view a note bytes; inside = record nic.inside { note_slots = slots } }) (twice slot unseen)
 
   -- All of a note's words stand in the slot once those were stored behind which there are zeros, in the note and from before.
-  pub filled-so : (setting : Setting) (body : List ℕ) (many m : ℕ) → length body ≡ 38 → many ≡ 6 + m → m ≤ 32 → IsBlankFrom m body
+  pub filled-so : (setting : Setting) (body : List ℕ) (many m : ℕ) → length body ≡ field_words + payload_width → many ≡ field_words + m → m ≤ payload_width → IsBlankFrom m body
       → IsBlankFrom m (left_in_note setting nic a) → note_so_far setting (at_note nic a (seen_with (take many body))) a ≡ body
   filled-so setting body many m long is few blank left_blank =
       let left = left_in_note setting nic a in
       let stored = take many body in
-      let stored_many : length stored ≡ 6 + m = length-take-le many body (omega arith) ∙ is in
+      let stored_many : length stored ≡ field_words + m = length-take-le many body (omega arith) ∙ is in
       ap (λ (slot : Slot). slot.words ++ drop (length slot.words) left) (slot-is (seen_with stored))
       ∙ (ap (λ n. stored ++ drop n left) stored_many
       ∙ (ap (λ xs. stored ++ xs) (left_blank ∙ (sym blank ∙ ap (λ n. drop n body) (sym is))) ∙ take-append-drop many body))

@@ -2,7 +2,7 @@ use Rattle.std.proofs.{Common.{rules, true, false, ◌≡◌, ℕ, ◌+◌, ◌<
 use Rattle.zr_kinds.specs.declared.place.{Note.{Note}, Place.{Place}}
 use Rattle.area_layout.specs.Layout.{area_of_buffer, pool_buffers}
 use Rattle.board_face.specs.{SlotSteps.{next_slot, at_note, seen_with, side_sent}, declared.views.{nic.PlacedText.{PlacedText}, parts.{Slot.{Slot}, Setting.{Setting}}}}
-use Rattle.word_rings.{specs.Slots.{note_body}, proofs.NoteSlots.{note-blank}}
+use Rattle.word_rings.{specs.Slots.{field_words, payload_width, note_body}, proofs.NoteSlots.{note-blank}}
 use Rattle.ref_words.specs.Rings.{note_so_far}
 use Rattle.word_board.{specs.Board.{TheNic}, proofs.{NoteFilled.{again, slot-is, filled-so, sent-so}, AtHandKept.{still-writes-note}}}
 use Rattle.word_board.proofs.kinds.notes.send_note.Goals as goal
@@ -22,7 +22,7 @@ returns-clause-event c =
     let card = c.args.card.now.side in
     let a : ℕ = c.args.app in
     let there : a < length card.inside.note_slots = subst (λ n. a < n) (sym c.if-not-look_note.ensures.slots) c.requires.slot.here in
-    let slot = seen_with (take (6 + c.args.left) (drop 1 c.note_words-body.result)) in
+    let slot = seen_with (take (field_words + c.args.left) (drop 1 c.note_words-body.result)) in
     let looked = c.if-not-look_note.ensures.event in
     let stored = c.store_words.ensures
     ∙ (ap (λ (me : TheNic). (record me { side = at_note me.side a slot })) looked ∙ ap (λ s. (record c.args.card.now { side = s })) (again card a there (seen_with []) slot)) in
@@ -39,7 +39,7 @@ publish_note-requires-clause-note c =
     let card = c.args.card.now.side in
     let a : ℕ = c.args.app in
     let there : a < length card.inside.note_slots = subst (λ n. a < n) (sym c.if-not-look_note.ensures.slots) c.requires.slot.here in
-    let slot = seen_with (take (6 + c.args.left) (drop 1 c.note_words-body.result)) in
+    let slot = seen_with (take (field_words + c.args.left) (drop 1 c.note_words-body.result)) in
     let looked = c.if-not-look_note.ensures.event in
     let stored = c.store_words.ensures
     ∙ (ap (λ (me : TheNic). (record me { side = at_note me.side a slot })) looked ∙ ap (λ s. (record c.args.card.now { side = s })) (again card a there (seen_with []) slot)) in
@@ -66,10 +66,10 @@ publish_note-requires-clause-note c =
       };
       seen = ap (λ (me : TheNic). (next_slot me.side.inside.note_slots a).seen) stored ∙ ap (λ (s : Slot). s.seen) (slot-is card a there slot);
       words = ap (λ (me : TheNic). note_so_far me.board.setting me.side a) stored
-          ∙ (ap (λ ws. note_so_far setting (at_note card a (seen_with (take (6 + m) ws))) a) is
-          ∙ filled-so card a there setting body (6 + m) m (long c.args.note [] (area_of_buffer setting.layout c.args.note.place.buffer)) refl c.requires.left.few (note-blank c.args.note [] (area_of_buffer setting.layout c.args.note.place.buffer) m (omega arith)) c.requires.left.blank
+          ∙ (ap (λ ws. note_so_far setting (at_note card a (seen_with (take (field_words + m) ws))) a) is
+          ∙ filled-so card a there setting body (field_words + m) m (long c.args.note [] (area_of_buffer setting.layout c.args.note.place.buffer)) refl c.requires.left.few (note-blank c.args.note [] (area_of_buffer setting.layout c.args.note.place.buffer) m (omega arith)) c.requires.left.blank
           ∙ sym (ap (λ (me : TheNic). note_body c.args.note [] (area_of_buffer me.board.setting.layout c.args.note.place.buffer)) stored));
     }
   where
-    long : (n : Note) (linear : List ℕ) (area : ℕ) → length (note_body n linear area) ≡ 38
+    long : (n : Note) (linear : List ℕ) (area : ℕ) → length (note_body n linear area) ≡ field_words + payload_width
     long n linear area = refl

@@ -1,6 +1,7 @@
 use Rattle.std.proofs.Common.{◌≡◌, ℕ, ◌+◌, ◌<◌, [], ◌∷◌, ◌++◌, length, take, append_assoc, ap, sym, ◌∙◌, arith}
 use Rattle.std.proofs.{lemmas.List.{length-take-le, length-append, length-set, take_more_set}, Common.{refl}}
 use Rattle.board_face.specs.SlotSteps.{seen_with, at_slot, side_slot_loaded}
+use Rattle.word_rings.specs.Slots.{field_words}
 use Rattle.word_board.{specs.Board.{TheApp}, proofs.AtHandKept.{still-takes-note}}
 use Rattle.word_board.proofs.kinds.taken_notes.load_payload.Goals as goal
 
@@ -10,7 +11,7 @@ load_slot-requires-clause-so_far c =
     let payload = c.loop-k.payload in
     let k : ℕ = c.loop-k.k in
     let so_far = length-take-le k payload (omega (arith, c.loop-k.auto.k-end, c.requires.many, c.loop-k.invariant.1)) in
-    let many : length (fields ++ take k payload) ≡ 6 + k = omega (arith, length-append fields (take k payload), so_far, c.requires.fields) in
+    let many : length (fields ++ take k payload) ≡ field_words + k = omega (arith, length-append fields (take k payload), so_far, c.requires.fields) in
     omega (arith, many, ap (λ (me : TheApp). length me.side.inside.note_slot.words) c.loop-k.invariant.0)
 
 pub loop-k-preserved : goal.loop-k-preserved

@@ -1,5 +1,6 @@
 use Rattle.std.proofs.Common.{rules, ◌++◌, take, min, ap, ◌∙◌, refl}
 use Rattle.board_face.specs.SlotSteps.{seen_with, at_slot, side_took_linear}
+use Rattle.word_rings.specs.Slots.{payload_width}
 use Rattle.ref_words.specs.Rings.{loaded_note, loaded_bytes}
 use Rattle.word_board.{specs.Board.{TheApp}, proofs.{NoteLoaded.{linear-taken}, AtHandKept.{still-takes-note}}}
 use Rattle.word_board.proofs.kinds.taken_notes.take_full.Goals as goal
@@ -18,7 +19,7 @@ returns-else-note-clause-event c =
     c.load_fields-fields.ensures.event
     ∙ ap (λ side. (record c.args.app.now { side = side }))
     (linear-taken app c.load_fields-fields.result payload c.payload_read.new.linear c.note_read-note.result many c.load_fields-fields.ensures.full
-    (search rules) (search rules) c.note_read-note.ensures (c.min-many.ensures ∙ ap (λ n. min n 32) c.payload_words.ensures) c.payload_read.ensures
+    (search rules) (search rules) c.note_read-note.ensures (c.min-many.ensures ∙ ap (λ n. min n payload_width) c.payload_words.ensures) c.payload_read.ensures
     c.if-note.false)))
 
 pub free_note-requires-clause-slot : goal.free_note-requires-clause-slot
