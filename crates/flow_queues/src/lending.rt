@@ -1,6 +1,7 @@
 //! What is next in a stream is lent: a piece that lies in the area, or a copy of bytes that came with their note.
-ghost use Rattle.std.specs.Prelude.{◌≡◌, true, false, ℕ, ◌≤◌, [], None, MatchOption};
-ghost use Rattle.board_face.specs.{AppEvents.{app_gist}, declared.views.app.{AppLook.TheVariants.{NoSpare}, HeldPiece.{HeldPiece}}};
+ghost use Rattle.std.specs.Prelude.{◌≡◌, true, false, ℕ, ◌<◌, ◌≤◌, [], None, MatchOption};
+ghost use Rattle.area_layout.specs.Layout.{IsLayout, total as buffers_of};
+ghost use Rattle.board_face.specs.{AppEvents.{app_gist, reserve_of}, declared.views.app.{AppLook.TheVariants.{NoSpare}, HeldPiece.{HeldPiece}}};
 ghost use Rattle.flow_queues.specs.Core.{HoldsApart, total, over_kept, IsOfNote, Each, lent_piece, is_copy};
 ghost use Rattle.flow_queues.specs.{Active.{LendsActive}, Kept.{QueuesWork}, KeptOf.{queue_state}};
 ghost use Rattle.flow_queues.specs.Lent.{MayLendNext, IsBacked, IsNext, IsSoOfNext, LentNext, LendsNext, SawNoSpare};
@@ -55,6 +56,16 @@ fn lend_piece<F: AppFace>(face: &mut F, own: &mut FlowQueue) -> Lending
     }
 }
 
+/// The reserve is a buffer of the layout, so that what is copied into it lies in the area. Only the answers of `reserve` and
+/// `size` say so.
+fn has_reserve<F: AppFace>(face: &F)
+    ensures layout { IsLayout (F.seen face.now).setting.layout }
+    ensures within { reserve_of (F.seen face.now) < buffers_of (F.seen face.now).setting.layout }
+{
+    let _ = face.reserve();
+    let _ = face.size();
+}
+
 /// Copies the bytes that are next in the stream into a spare, and lends that. `None` says that no buffer is free, and the
 /// reserve is held.
 fn lend_copy<F: AppFace>(face: &mut F, own: &mut FlowQueue) -> Option<Lending>
@@ -70,8 +81,7 @@ fn lend_copy<F: AppFace>(face: &mut F, own: &mut FlowQueue) -> Option<Lending>
         → F.tells NoSpare (app_gist (F.seen face.new)) (F.beside face.new) }
     ensures beside { F.beside face.new ≡ F.beside face.old }
 {
-    let _reserve = face.reserve();
-    let _size = face.size();
+    has_reserve(face);
     let Some(mut spare) = face.spare() else {
         return None;
     };

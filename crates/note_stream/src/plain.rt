@@ -8,7 +8,7 @@ use crate::app::{leave, take_all};
 use crate::card::gather;
 use crate::plan::LOOKS;
 use crate::{Plan, Receiver, Sender};
-use plain_board::{PlainBoard, PlainNic};
+use plain_board::PlainBoard;
 use std::alloc::{AllocError, Global};
 
 /// The card's half has the board, and sends what it can.
@@ -22,15 +22,6 @@ fn send_turn(board: PlainBoard, sender: &mut Sender, notes: u32, text: &mut [u8]
 {
     let mut nic = board.nic();
     sender.go(&mut nic, notes, text);
-    taken_back(nic)
-}
-
-/// The board out of the card's hands. There is an application.
-fn taken_back(nic: PlainNic) -> PlainBoard
-    ensures board { result ≡ nic }
-    ensures few { 0 < nic.arrays.layout.reserves }
-{
-    nic.sound();
     nic.back()
 }
 
@@ -46,7 +37,6 @@ fn take_turn(board: PlainBoard, receiver: &mut Receiver, into: &mut [u8]) -> (Pl
 {
     let mut part = board.app(0);
     let told = take_all(&mut part, receiver, LOOKS, into);
-    part.sound();
     (part.back(), told)
 }
 
@@ -65,12 +55,12 @@ fn end_turns(
     if !sender.end(&mut nic) {
         return false;
     }
-    let mut board = taken_back(nic);
+    let mut board = nic.back();
     for _ in 0..LOOKS {
         let (then, told) = take_turn(board, receiver, into);
         let mut nic = then.nic();
         gather(&mut nic);
-        board = taken_back(nic);
+        board = nic.back();
         if told {
             return leave(&mut board.app(0), LOOKS);
         }

@@ -1,7 +1,7 @@
 use Rattle.std.proofs.Common.{rules, ◌≡◌, ◌<◌, ℕ, List, length, ap, subst, ◌∙◌}
 use Rattle.tcp_reorder.specs.Gaps.{LosesFirst}
-use Rattle.area_layout.specs.Layout.{LiesIn, total as buffers_of}
-use Rattle.board_face.specs.{AppEvents.{reserve_of, got_spare, filled, lent_own, own_bytes, begin_place}, AppCalls.{GotSpare}, NicEvents.{fresh}, Tokens.{filled_by}}
+use Rattle.area_layout.specs.Layout.{LiesIn}
+use Rattle.board_face.specs.{AppEvents.{got_spare, filled, lent_own, own_bytes, begin_place}, AppCalls.{GotSpare}, NicEvents.{fresh}, Tokens.{filled_by}}
 use Rattle.board_face.specs.declared.views.{parts.Filling.{Filling}, app.AppView.{AppView}}
 use Rattle.flow_queues.{specs.{declared.queues.{Short.{Short}, Waiting.{Waiting, TheVariants.{Copied}}}, Core.{IsShort, IsOfNote}}, proofs.Lends.{each-first}}
 use Rattle.flow_queues.proofs.Copying.{own-lies, may-spare, filled_spare, copy_lent, bytes-are, copy-lent}
@@ -37,7 +37,6 @@ returns-clause-lent g c =
     ∙ ap (λ (x : AppView). begin_place c.fill.new.own.buffer (length (own_bytes x c.fill.new.own))) e1
     ∙ ap (λ (o : Filling). begin_place o.buffer (length (own_bytes (filled_spare v b bs c.requires.can.owns) o))) e2
     ∙ ap (λ (x : List ℕ). begin_place b (length x)) (bytes-are v b bs c.requires.can.owns) in
-    let reserve : reserve_of v < buffers_of v.setting.layout = search rules in
-    let lies : LiesIn v.setting.layout (begin_place b (length bs)) = own-lies v b (length bs) got.buffer reserve c.size-size.ensures.sound of.few in
+    let lies : LiesIn v.setting.layout (begin_place b (length bs)) = own-lies v b (length bs) got.buffer c.has_reserve.ensures.within c.has_reserve.ensures.layout of.few in
     copy-lent v w c.args.own.now c.pop_front.new.self c.in-Some-pop_front.field-0-1 (search rules) c.requires.next.some c.requires.settled c.requires.can.holds.apart
     c.lend_own-loan.result s b c.requires.can.owns loses of got.apart lies some e3 place
