@@ -40,7 +40,8 @@ impl Feed {
     /// A feed that has read nothing. The keys of the flows are hashed with `random`.
     pub fn new(alloc: Global, random: RandomState, plan: &Plan) -> Result<Feed, AllocError>
         requires { IsPlan plan.now }
-        ensures value { IfOk result (λ feed. feed ≡ new_feed plan.now.ports.items plan.now.options.split) }
+        ensures value { IfOk result
+            (λ feed. feed ≡ new_feed plan.now.ports.items plan.now.options.split) }
         // It fits each face that is open and has no token out.
         ensures ready { IfOk result
             (λ feed. (v : NicView) → IsOpen v → HasNoToken v
