@@ -10,6 +10,7 @@ use crate::options::{FLAGS, NAMES, read_options, read_turns, stand_together};
 use crate::{assign, numbers};
 use clap::ArgMatches;
 use std::alloc::{AllocError, Global};
+use zr_kinds::Options;
 
 /// A command that words ask for.
 #[derive(Debug, Drop)]
