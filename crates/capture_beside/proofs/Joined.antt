@@ -11,7 +11,7 @@ use Rattle.card_feed.specs.{Coming.{Arrives, ComesTo, TookBytes, is_over}, Feed.
 use Rattle.card_feed.proofs.Further.{took-then}
 use Rattle.card_feed.specs.declared.arrived.Arrived.TheVariants as arrived
 use Rattle.card_feed.specs.declared.intake.Stage.TheVariants as stage
-use Rattle.run_account.{specs.{CardTurns.{CardTurns}, Ran.{HasReadOn}}, proofs.ReadOn.{HasReadOn-refl}}
+use Rattle.run_account.{specs.{CardTurns.{CardTurns}, Ran.{HasReadOn}, Views.{source_seen}}, proofs.ReadOn.{HasReadOn-refl}}
 use Rattle.capture_beside.specs.{declared.carried.Carried.{Carried}, Carried.{MayFollow, arrived_of, has_end, is_end}, Made.{IsMade}}
 use Rattle.capture_beside.{specs.Cards.{IsFrame, Brought, nothing, frame, ends, over, dropped, CardStands}, proofs.{CardTurns.{drop-brought}, ReaderTurns.{made-last}}}
 use Rattle.capture_beside.specs.declared.carried.Carried.TheVariants as carried
@@ -109,12 +109,12 @@ module _ (split : ℕ) (ports : List ℕ) where
         ComesTo (WantsRoom split ports) left faults first to ports to_stage frames
     Joins messages frames (stage.Open capture) to to_stage = ⊥
     Joins messages frames (stage.Over end) to to_stage =
-        (at : S) × HasReadOn left faults at to end
+        (at : S) × HasReadOn (source_seen left faults) at to end
         × HasEnded (WantsRoom split ports) (left first) (left at) (faults first) (faults at) ports frames end
 
     -- what came behind an ending of the card's
-    read-on : (at mid to : S) (end : Option Fault) → IsOwn end → HasReadOn left faults at mid end → TookBytes (left mid) (left to)
-        → faults mid ≤ faults to → HasReadOn left faults at to end
+    read-on : (at mid to : S) (end : Option Fault) → IsOwn end → HasReadOn (source_seen left faults) at mid end → TookBytes (left mid) (left to)
+        → faults mid ≤ faults to → HasReadOn (source_seen left faults) at to end
     read-on at mid to end own on further later = record {
       same = λ memory flows. absurd (⊎_elim memory flows own);
       taken = took-then (left at) (left mid) (left to) on.taken further;
@@ -139,7 +139,7 @@ module _ (split : ℕ) (ports : List ℕ) where
         let (mid, mid_stage, behind, makes) = made-last left faults first to stage.Unopened to_stage before m made in
         let comes = joined before frames stage.Unopened was mid mid_stage behind in
         let brings = makes.brings split first ports frames (many-frames split ports before frames stage.Unopened refl was) comes in
-        (to, HasReadOn-refl left faults to (Some fault), ended m is brings)
+        (to, HasReadOn-refl (source_seen left faults) to (Some fault), ended m is brings)
       where
         ended : (m : Carried) → IsFrame m bytes → Arrives (WantsRoom split ports) left faults first to ports to_stage frames (arrived_of m)
             → HasEnded (WantsRoom split ports) (left first) (left to) (faults first) (faults to) ports frames (Some fault)
@@ -149,7 +149,7 @@ module _ (split : ℕ) (ports : List ℕ) where
         let (mid, mid_stage, behind, makes) = made-last left faults first to stage.Unopened to_stage before m made in
         let comes = joined before frames stage.Unopened was mid mid_stage behind in
         let brings = makes.brings split first ports frames (many-frames split ports before frames stage.Unopened refl was) comes in
-        (to, HasReadOn-refl left faults to end, rw is at brings)
+        (to, HasReadOn-refl (source_seen left faults) to end, rw is at brings)
     joined _ _ _ (dropped before frames m end was follows) to to_stage made =
         let (mid, mid_stage, behind, makes) = made-last left faults first to stage.Unopened to_stage before m made in
         let (at, on, ended) = joined before frames (stage.Over end) was mid mid_stage behind in
@@ -161,7 +161,7 @@ module _ (split : ℕ) (ports : List ℕ) where
 pub record HasReadAll {S : Type 0} (left : S → Option (List ℕ)) (faults : S → ℕ) (source source_now : S) (ports : List ℕ) (split : ℕ)
     (feed : FeedState) (v : NicView) : Type 0 where
   pub at : S
-  pub ahead : HasReadOn left faults at source_now (end_of feed.stage)
+  pub ahead : HasReadOn (source_seen left faults) at source_now (end_of feed.stage)
   pub frames : List (List ℕ)
   pub stands : FeedStands left faults source at ports split frames feed v
   pub turns : CardTurns ports split frames feed v

@@ -4,7 +4,7 @@ use Rattle.zr_kinds.specs.declared.fault.Fault.{Fault}
 use Rattle.frames_read.specs.Reading.{HasEnded}
 use Rattle.card_feed.specs.{Offered.{WantsRoom}, declared.intake.Stage.{Stage}}
 use Rattle.card_feed.specs.declared.intake.Stage.TheVariants as stage
-use Rattle.run_account.specs.Ran.{HasReadOn}
+use Rattle.run_account.specs.{Ran.{HasReadOn}, Views.{source_seen}}
 use Rattle.capture_beside.specs.{declared.carried.Carried.{Carried, TheVariants.{Frame, Over}}, Cards.{Brought}, Made.{IsMade}}
 
 -- the frames of messages, in order
@@ -20,7 +20,7 @@ pub record HasCarried {S : Type 0} (left : S → Option (List ℕ)) (faults : S 
   pub behind : List (List ℕ)
   pub in_order : frames_in messages ≡ frames ++ behind
   pub at : S
-  pub ahead : HasReadOn left faults at source_now end
+  pub ahead : HasReadOn (source_seen left faults) at source_now end
   pub ended : HasEnded (WantsRoom split ports) (left source) (left at) (faults source) (faults at) ports frames end
 
 -- What the reading made of a source, one message after another, and what these brought to the card until its reading ended.

@@ -1,9 +1,8 @@
 -- What is told of a run that was played, with the shelves that were set aside behind those of its applications.
-use Rattle.std.{proofs.Common.{◌≡◌, ℕ, List, ◌++◌, Option, inr, sym, subst}, specs.Prelude.{Result, Ok, Err, OnErr}}
-use Rattle.zr_io.specs.Moved.{ShelfCounts}
+use Rattle.std.{proofs.Common.{◌≡◌, List, ◌++◌, inr, sym, subst}, specs.Prelude.{Result, Ok, Err, OnErr}}
 use Rattle.flow_queues.specs.Ends.{AppEnd}
 use Rattle.card_feed.specs.{Feed.{FeedState}, declared.{outcome.Outcome.{Outcome}, plan.Plan.{Plan}}}
-use Rattle.run_account.specs.{Laws.{RunsAreTold, RunsEndWell}, Ran.{HasReadOn, LacksMemoryBeside, Ran, TellsOfEnds, told_of}, Running.{HasRun}}
+use Rattle.run_account.specs.{Laws.{RunsAreTold, RunsEndWell}, Ran.{HasReadOn, LacksMemoryBeside, RanBeside, TellsOfEnds, told_of}, Running.{HasRun}, Views.{Ends, Streams, ends_at}}
 use Rattle.word_board.specs.Board.{TheDesk, card_of}
 use Rattle.replay_threads.specs.Played.{HasPlayed}
 
@@ -11,32 +10,32 @@ pub on-err : {A E : Type 0} (r : Result A E) (P : Type 0) → P → OnErr r P
 on-err (Ok x) P holds = tt
 on-err (Err e) P holds = holds
 
-module _ {S T : Type 0} (left : S → Option (List ℕ)) (faults : S → ℕ) (kept : T → ℕ → Option (List ℕ)) (losses : T → ShelfCounts)
-    (source source_now : S) (all mid mid_now all_now more : List T) (plan : Plan) (desk : TheDesk) (feed : FeedState) (ends : List AppEnd)
-    (first : all ≡ mid ++ more) (last : all_now ≡ mid_now ++ more)
-    (played : HasPlayed left faults kept losses source source_now mid mid_now plan desk feed ends) where
-  all-ran : HasRun left faults kept losses source played.at all all_now plan (card_of desk.view) desk.view.apps feed ends
-  all-ran = subst (λ xs. HasRun left faults kept losses source played.at xs all_now plan (card_of desk.view) desk.view.apps feed ends) (sym first)
-      (subst (λ xs. HasRun left faults kept losses source played.at (mid ++ more) xs plan (card_of desk.view) desk.view.apps feed ends) (sym last)
+module _ {S T : Type 0} {m : Streams S T} (was now : Ends m) (mid mid_now more : List T) (plan : Plan) (desk : TheDesk) (feed : FeedState)
+    (ends : List AppEnd) (first : was.shelves ≡ mid ++ more) (last : now.shelves ≡ mid_now ++ more)
+    (played : HasPlayed (ends_at m was.source mid) (ends_at m now.source mid_now) plan desk feed ends) where
+  -- where the reading ended
+  abbrev there : Ends m
+  there = ends_at m played.at now.shelves
+
+  all-ran : HasRun was there plan (card_of desk.view) desk.view.apps feed ends
+  all-ran = subst (λ xs. HasRun (ends_at m was.source xs) there plan (card_of desk.view) desk.view.apps feed ends) (sym first)
+      (subst (λ xs. HasRun (ends_at m was.source (mid ++ more)) (ends_at m played.at xs) plan (card_of desk.view) desk.view.apps feed ends) (sym last)
       (played.runs more))
 
-  pub run-told : RunsEndWell left faults kept losses → (outcome : Outcome) → TellsOfEnds feed ends plan.ports.items outcome
-      → (at : S) × HasReadOn left faults at source_now outcome.end
-      × Ran left faults kept losses source at all all_now plan (told_of outcome) (card_of desk.view) desk.view.apps
-  run-told law outcome tells = (
-    played.at,
-    subst (HasReadOn left faults played.at source_now) (sym tells.is.end) played.ahead,
-    law source played.at all all_now plan (card_of desk.view) desk.view.apps feed ends outcome played.ended all-ran tells,
-  )
+  pub run-told : RunsEndWell m → (outcome : Outcome) → TellsOfEnds feed ends plan.ports.items outcome
+      → RanBeside was now plan (told_of outcome) (card_of desk.view) desk.view.apps
+  run-told law outcome tells = record {
+    at = played.at;
+    ahead = subst (HasReadOn m.source played.at now.source) (sym tells.is.end) played.ahead;
+    ran = law was there plan (card_of desk.view) desk.view.apps feed ends outcome played.ended all-ran tells;
+  }
 
-  pub run-lacks : RunsAreTold left faults kept losses → LacksMemoryBeside left faults kept losses source source_now all all_now plan
+  pub run-lacks : RunsAreTold m → LacksMemoryBeside was now plan
   run-lacks law =
-      let told = law source played.at all all_now plan (card_of desk.view) desk.view.apps feed ends played.ended all-ran in
+      let told = law was there plan (card_of desk.view) desk.view.apps feed ends played.ended all-ran in
       inr (
-        played.at,
         told.0,
         card_of desk.view,
         desk.view.apps,
-        subst (HasReadOn left faults played.at source_now) (sym told.1) played.ahead,
-        told.2,
+        record { at = played.at; ahead = subst (HasReadOn m.source played.at now.source) (sym told.1) played.ahead; ran = told.2 },
       )

@@ -1,10 +1,9 @@
 -- What a run begins with, and all its turns: every role is back at the desk.
-use Rattle.std.specs.Prelude.{◌≡◌, ℕ, List, ◌++◌, length, Option}
-use Rattle.zr_io.specs.Moved.{ShelfCounts}
+use Rattle.std.specs.Prelude.{◌≡◌, List, ◌++◌, length}
 use Rattle.board_face.specs.{Ended.{HaveEnded}, NicCalls.{HasNoToken, IsOpen, apps_of}, declared.views.nic.NicView.{NicView}}
 use Rattle.flow_queues.specs.Ends.{AppEnd}
 use Rattle.card_feed.specs.{Feed.{FeedState, IsReady, end_of, new_feed}, Plan.{layout_of}, declared.plan.Plan.{Plan}}
-use Rattle.run_account.specs.{Ran.{HasReadOn}, Running.{HasRun}}
+use Rattle.run_account.specs.{Ran.{HasReadOn, RanBeside, Told}, Running.{HasRun}, Views.{Ends, Streams, ends_at}}
 use Rattle.word_board.specs.{Board.{TheBoard, TheDesk, card_of, new_desk}, Desk.{AllAreBack}}
 use Rattle.app_lanes.specs.{Seated.{AreStarts}, declared.seated.Start.{Start}}
 
@@ -22,13 +21,21 @@ pub record BeginWith (plan : Plan) (feed : FeedState) (starts : List Start) : Ty
 
 -- All is over and back at the desk, and the plan was run to there: this is what the card keeps and the applications left with, whatever
 -- shelves stand behind those of the applications.
-pub record HasPlayed {S T : Type 0} (left : S → Option (List ℕ)) (faults : S → ℕ) (kept : T → ℕ → Option (List ℕ)) (losses : T → ShelfCounts)
-    (source source_now : S) (shelves shelves_now : List T) (plan : Plan) (desk : TheDesk) (feed : FeedState)
+pub record HasPlayed {S T : Type 0} {m : Streams S T} (was now : Ends m) (plan : Plan) (desk : TheDesk) (feed : FeedState)
     (ends : List AppEnd) : Type 0 where
   pub back : AllAreBack desk.board.setting desk.view
   pub ended : HaveEnded (card_of desk.view) desk.view.apps
   -- the source as the ending of the reading left it
   pub at : S
-  pub ahead : HasReadOn left faults at source_now (end_of feed.stage)
-  pub runs : (more : List T)
-      → HasRun left faults kept losses source at (shelves ++ more) (shelves_now ++ more) plan (card_of desk.view) desk.view.apps feed ends
+  pub ahead : HasReadOn m.source at now.source (end_of feed.stage)
+  pub runs : (more : List T) → HasRun (ends_at m was.source (was.shelves ++ more)) (ends_at m at (now.shelves ++ more)) plan
+      (card_of desk.view) desk.view.apps feed ends
+
+-- The stream theorem, what the outcome says, and that all is over at the board and it accounts for the run. The board is the plan's, and
+-- every role is back at its desk, so it may be finished.
+pub record RanByThreads {S T : Type 0} {m : Streams S T} (was now : Ends m) (plan : Plan) (told : Told) (board : TheBoard) (desk : TheDesk)
+    : Type 0 where
+  pub beside : RanBeside was now plan told (card_of desk.view) desk.view.apps
+  pub setting : board.setting ≡ record { layout = layout_of plan; places = plan.options.ring }
+  pub desk_is : desk.board ≡ board
+  pub back : AllAreBack board.setting desk.view

@@ -1,9 +1,8 @@
 //! A whole run.
 ghost use Rattle.std.specs.Prelude.{◌≡◌, ◌≤◌, [], length, map, vec_len, vec_capacity, IfOk, OnErr};
-ghost use Rattle.card_feed.specs.Plan.{IsPlan, layout_of};
-ghost use Rattle.run_account.specs.Ran.{HasReadOn, LacksMemoryBeside, Ran, told_of};
-ghost use Rattle.word_board.specs.{Board.{card_of}, Desk.{AllAreBack}};
-ghost use Rattle.replay_threads.specs.Played.{BeginWith, HasPlayed, IsOpenedFor};
+ghost use Rattle.card_feed.specs.Plan.{IsPlan};
+ghost use Rattle.run_account.specs.{Ran.{LacksMemoryBeside, told_of}, Views.{ends_at, streams}};
+ghost use Rattle.replay_threads.specs.Played.{BeginWith, HasPlayed, IsOpenedFor, RanByThreads};
 ghost use Rattle.capture_beside.specs.Reader.{IsOpened};
 ghost use Rattle.app_lanes.specs.Seated.{left_end};
 
@@ -77,9 +76,9 @@ fn play_seated<'b, S: Source + Send, T: Shelf + Send, G: Gate + Sync, R: Threads
     requires shelves { vec_len shelves.old ≡ length plan.now.ports.items }
     requires lanes { (lanes.items ≡ []) × (length plan.now.ports.items ≤ vec_capacity lanes) }
     requires reading { IsOpened reading }
-    ensures played { HasPlayed S.left S.faults T.kept T.counts source.old source.new
-        shelves.old.items shelves.new.items plan.now desk.new
-        result.0 (map left_end result.1.items) }
+    ensures played { let m = streams S.left S.faults T.kept T.counts in
+        HasPlayed (ends_at m source.old shelves.old.items) (ends_at m source.new shelves.new.items)
+        plan.now desk.new result.0 (map left_end result.1.items) }
     ensures board { desk.new.board ≡ desk.old.board }
     ensures shelves { (vec_len shelves.new ≡ vec_len shelves.old)
         × (vec_capacity shelves.new ≡ vec_capacity shelves.old) }
@@ -146,20 +145,14 @@ pub fn run_threads<S: Source + Send, T: Shelf + Send, G: Gate + Sync, R: Threads
     requires plan { IsPlan plan.now }
     requires shelves { length plan.now.ports.items ≤ vec_len shelves.old }
     ensures many { vec_len shelves.new ≡ vec_len shelves.old }
-    // The stream theorem, what the outcome says, and that all is over at the board and it accounts for the run. `at` is the source as
-    // the ending of the reading left it.
-    ensures ran { IfOk result (λ it. (at : S) × HasReadOn S.left S.faults at source.new it.0.end
-        × Ran S.left S.faults T.kept T.counts source.old at shelves.old.items shelves.new.items
-        plan.now
-        (told_of it.0) (card_of it.2.view) it.2.view.apps) }
-    // The board is the plan's, and every role is back at its desk, so it may be finished.
-    ensures setting { IfOk result
-        (λ it. it.1.setting ≡ record { layout = layout_of plan.now; places = plan.now.options.ring }) }
-    ensures back { IfOk result (λ it. (it.2.board ≡ it.1) × AllAreBack it.1.setting it.2.view) }
+    // The stream theorem, what the outcome says, and the board of the run and its desk.
+    ensures ran { let m = streams S.left S.faults T.kept T.counts in
+        IfOk result (λ it. RanByThreads (ends_at m source.old shelves.old.items)
+        (ends_at m source.new shelves.new.items) plan.now (told_of it.0) it.1 it.2) }
     // Want of memory comes before the first turn or behind the last.
-    ensures lacks { OnErr result
-        (LacksMemoryBeside S.left S.faults T.kept T.counts source.old source.new shelves.old.items
-        shelves.new.items plan.now) }
+    ensures lacks { let m = streams S.left S.faults T.kept T.counts in
+        OnErr result (LacksMemoryBeside (ends_at m source.old shelves.old.items)
+        (ends_at m source.new shelves.new.items) plan.now) }
 {
     let layout = plan.layout().unwrap();
     let apps = plan.ports.len();

@@ -1,6 +1,6 @@
 -- No run goes further than its records, their bytes and the plan let it.
 use Rattle.std.proofs.Common.{◌≡◌, ℕ, suc, ◌+◌, ◌*◌, ◌<◌, ◌≤◌, ◌==◌, Bool, true, false, List, [], ◌∷◌}
-use Rattle.std.{proofs.Common.{length, length-append, map, refl, sym, ap, subst, arith, Option, Some}, specs.Prelude.{All, filter, MatchBool, if◌then◌else◌}}
+use Rattle.std.{proofs.Common.{length, length-append, map, refl, sym, ap, subst, arith, Some}, specs.Prelude.{All, filter, MatchBool, if◌then◌else◌}}
 use Rattle.std.{specs.List.{slice_get}, proofs.{lemmas.{Option.{slice_get_within}, List.{length-map}}, Math.Nat.{mul-le-mul_left}}}
 use Rattle.card_feed.{specs.Coming.{is_over}, proofs.OfFlow.{there}}
 use Rattle.zr_kinds.specs.Limits.{most_records}
@@ -11,9 +11,8 @@ use Rattle.app_worker.{specs.{Core.{total}, State.{State, AppStands, Bare, Worki
 use Rattle.flow_queues.{specs.Totals.{raw_entries, loan_entries, taken_len}, proofs.Tokens.{total-append}}
 use Rattle.replay_turns.specs.{Running.{RunFits}, Steps.{worker_steps, steps_from, run_steps, most_bytes, entries_most, worker_most, run_most, RunsStayWithin}}
 use Rattle.replay_turns.proofs.BoardOver.{side-is}
-use Rattle.run_account.{specs.declared.run.{Run.{Run}, Worker.{Worker}}, proofs.{Shares.{shares, over-most}, NoteSums.{note_len, AreFew}}}
+use Rattle.run_account.{specs.{Views.{Streams}, declared.run.{Run.{Run}, Worker.{Worker}}}, proofs.{Shares.{shares, over-most}, NoteSums.{note_len, AreFew}}}
 use Rattle.run_account.proofs.SentFew.{notes-few, own-few, taken-sum}
-use Rattle.zr_io.specs.Moved.{ShelfCounts}
 
 -- ---- entries
 
@@ -129,11 +128,13 @@ module _ (board : Board) (run : Run) (shelves : ℕ) (fits : RunFits board run s
       let bytes = notes.bytes in
       omega (arith, records, some, bytes, dealt, apps, one-most run.feed.closed, one-most (is_over run.feed.stage))
 
-pub runs-within : {S T : Type 0} (left : S → Option (List ℕ)) (faults : S → ℕ) (kept : T → ℕ → Option (List ℕ)) (losses : T → ShelfCounts)
-    → RunsStayWithin left faults kept losses
-runs-within left faults kept losses source source_now shelves shelves_now plan board run fits runs =
-    let notes = notes-few left faults source source_now plan.ports.items plan.options.split runs.frames run.feed board.nic.view runs.feed runs.records
-    fits.sound.notes in
+pub runs-within : {S T : Type 0} (m : Streams S T) → RunsStayWithin m
+runs-within m first now plan fits runs =
+    let board = now.board in
+    let run = now.run in
+    let notes = notes-few m.source.left m.source.failed first.source now.ends.source plan.ports.items plan.options.split runs.frames run.feed board.nic.view
+    runs.feed runs.records fits.sound.notes in
     let dealt = subst (λ n. All (λ (d : Dealt). d.app < n) board.nic.view.dealt) (sym runs.many) runs.dealt in
     subst (λ n. run_steps board run ≤ run_most n plan.options.how.stray) runs.many
-    (run-within board run (length shelves_now) fits runs.records dealt notes plan.options.how.stray (λ a w at. ap (λ how. how.stray) (runs.worker a w at).runs.how_is))
+    (run-within board run (length now.ends.shelves) fits runs.records dealt notes plan.options.how.stray
+    (λ a w at. ap (λ how. how.stray) (runs.worker a w at).runs.how_is))

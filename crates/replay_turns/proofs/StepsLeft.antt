@@ -1,9 +1,8 @@
 -- How far a run can still come, which each round that did something brings down.
-use Rattle.std.{proofs.Common.{◌≡◌, ℕ, ◌-◌, ◌<◌, ◌≤◌, List, [], ◌∷◌, length, Some, Option, refl, ap, ◌∙◌, arith}, specs.List.{slice_get}}
+use Rattle.std.{proofs.Common.{◌≡◌, ℕ, ◌-◌, ◌<◌, ◌≤◌, List, [], ◌∷◌, length, Some, refl, ap, ◌∙◌, arith}, specs.List.{slice_get}}
 use Rattle.plain_board.specs.Board.{Board}
-use Rattle.replay_turns.{specs.{Rounds.{IsOfPlan}, Running.{Plays}, Steps.{run_steps, run_most}}, proofs.Bounds.{runs-within}}
-use Rattle.run_account.specs.{Running.{Running}, declared.run.{Run.{Run}, Worker.{Worker}}}
-use Rattle.zr_io.specs.Moved.{ShelfCounts}
+use Rattle.replay_turns.{specs.{Rounds.{IsOfPlan}, Running.{Moment, Plays, RunsSince}, Steps.{run_steps, run_most}}, proofs.Bounds.{runs-within}}
+use Rattle.run_account.specs.{Views.{Streams}, declared.run.{Run.{Run}, Worker.{Worker}}}
 
 -- how many entries may follow each loan, which is the same for all applications
 abbrev pub stray_of : List Worker → ℕ
@@ -25,27 +24,23 @@ comes-down : (before after most steps steps_now : ℕ) → before ≡ most → a
     → after - steps_now < before - steps
 comes-down before after most steps steps_now was now rises within = omega (arith, was, now, rises, within)
 
-module _ {S T : Type 0} (left : S → Option (List ℕ)) (faults : S → ℕ) (kept : T → ℕ → Option (List ℕ)) (losses : T → ShelfCounts)
-    (source source_now : S) (shelves shelves_now : List T) (board board_now : Board) (was now : Run)
-    (of : IsOfPlan left faults kept losses source shelves board was)
-    (plays : Plays left faults kept losses source source_now shelves shelves_now board board_now was now) where
+module _ {S T : Type 0} {m : Streams S T} (was now : Moment m) (of : IsOfPlan was) (plays : Plays was now) where
   -- it stays a run of that plan
-  pub still-of : IsOfPlan left faults kept losses source_now shelves_now board_now now
-  still-of = record { first = of.first; firsts = of.firsts; plan = of.plan; runs = plays.runs of.first of.firsts of.plan of.runs }
+  pub still-of : IsOfPlan now
+  still-of = record { first = of.first; plan = of.plan; runs = plays.runs of.first of.plan of.runs }
 
-  most-is : (run : Run) (mid : S) (there : List T) (at : Board) → Running left faults kept losses of.first mid of.firsts there of.plan at.nic at.apps run
-      → most_of run ≡ run_most (length of.plan.ports.items) of.plan.options.how.stray
-  most-is run mid there at runs =
+  most-is : (at : Moment m) → RunsSince of.first of.plan at → most_of at.run ≡ run_most (length of.plan.ports.items) of.plan.options.how.stray
+  most-is at runs =
+      let run = at.run in
       let some = runs.plan_is.some in
       let many = runs.many in
       ap (λ n. run_most n (stray_of run.workers.items)) many
       ∙ ap (run_most (length of.plan.ports.items)) (stray-is run.workers.items of.plan.options.how.stray (omega (arith, some, many))
       (λ a w is. ap (λ how. how.stray) (runs.worker a w is).runs.how_is))
 
-  pub left-falls : run_steps board was < run_steps board_now now → steps_left board_now now < steps_left board was
+  pub left-falls : run_steps was.board was.run < run_steps now.board now.run → steps_left now.board now.run < steps_left was.board was.run
   unfolding still-of
   left-falls rises =
       let later = still-of.runs in
-      comes-down (most_of was) (most_of now) (run_most (length of.plan.ports.items) of.plan.options.how.stray) (run_steps board was) (run_steps board_now now)
-      (most-is was source shelves board of.runs) (most-is now source_now shelves_now board_now later) rises
-      (runs-within left faults kept losses of.first source_now of.firsts shelves_now of.plan board_now now plays.fits later)
+      comes-down (most_of was.run) (most_of now.run) (run_most (length of.plan.ports.items) of.plan.options.how.stray) (run_steps was.board was.run)
+      (run_steps now.board now.run) (most-is was of.runs) (most-is now later) rises (runs-within m of.first now of.plan plays.fits later)

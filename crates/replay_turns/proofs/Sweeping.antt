@@ -1,26 +1,24 @@
 -- By turns nothing is searched ahead, so each sweep was made by a search that is counted as one that swept.
-use Rattle.std.proofs.Common.{◌≡◌, ℕ, ◌-◌, ◌^◌, ◌≤◌, List, [], ◌∷◌, Option, inl, inr, refl, sym, ap, subst, ◌∙◌, ⊎_elim, arith}
+use Rattle.std.proofs.Common.{◌≡◌, ℕ, ◌-◌, ◌^◌, ◌≤◌, List, [], ◌∷◌, inl, inr, refl, sym, ap, subst, ◌∙◌, ⊎_elim, arith}
 use Rattle.zr_kinds.specs.Limits.{most_records}
 use Rattle.plain_board.specs.Board.{Board}
 use Rattle.page_pool.specs.Pool.{PoolState}
 use Rattle.card_feed.specs.{Counts.{AreAllSwept, searches_in, sweeping_in, sweeps_in}, Feed.{FeedState, FeedStands}, declared.plan.Plan.{Plan}}
 use Rattle.card_feed.proofs.{Beginning.{feeds_stand}, Sweeping.{plays-all}}
-use Rattle.run_account.specs.{Ran.{Told}, declared.run.Run.{Run}}
-use Rattle.replay_turns.specs.{Following.{Moment, Moves, Follows, IsNewRun, RunsBy, moment}, declared.role.Role.{Role, TheVariants.{Card, App}}}
-use Rattle.zr_io.specs.Moved.{ShelfCounts}
+use Rattle.run_account.specs.{Ran.{Told}, Views.{Ends, Streams}, declared.run.Run.{Run}}
+use Rattle.replay_turns.specs.{Following.{Moves, Follows, IsNewRun, RunsBy}, Running.{Moment, moment}, declared.role.Role.{Role, TheVariants.{Card, App}}}
 
 -- the card stands by these frames, and each sweep is counted
-record SweptSoFar {S T : Type 0} (left : S → Option (List ℕ)) (faults : S → ℕ) (first : S) (ports : List ℕ) (split : ℕ) (now : Moment S T) : Type 0 where
+record SweptSoFar {S T : Type 0} {m : Streams S T} (first : S) (ports : List ℕ) (split : ℕ) (now : Moment m) : Type 0 where
   frames : List (List ℕ)
-  stands : FeedStands left faults first now.source ports split frames now.run.feed now.board.nic.view
+  stands : FeedStands m.source.left m.source.failed first now.ends.source ports split frames now.run.feed now.board.nic.view
   all : AreAllSwept now.run.feed.pool now.board.nic.view
 
-module _ {S T : Type 0} (left : S → Option (List ℕ)) (faults : S → ℕ) (kept : T → ℕ → Option (List ℕ)) (losses : T → ShelfCounts) (first : S)
-    (ports : List ℕ) (split : ℕ) where
-  abbrev Stands : Moment S T → Type 0
-  Stands now = SweptSoFar left faults first ports split now
+module _ {S T : Type 0} {m : Streams S T} (first : S) (ports : List ℕ) (split : ℕ) where
+  abbrev Stands : Moment m → Type 0
+  Stands now = SweptSoFar first ports split now
 
-  moved : (role : Role) (was now : Moment S T) → Moves left faults kept losses role was now → Stands was → Stands now
+  moved : (role : Role) (was now : Moment m) → Moves role was now → Stands was → Stands now
   moved Card was now moves before =
       let turns = moves.turns first ports split before.frames before.stands in
       record {
@@ -36,24 +34,23 @@ module _ {S T : Type 0} (left : S → Option (List ℕ)) (faults : S → ℕ) (k
     all = rw (moves.feed, moves.card) before.all;
   }
 
-  followed : (roles : List Role) (was now : Moment S T) → Follows left faults kept losses roles was now → Stands was → Stands now
+  followed : (roles : List Role) (was now : Moment m) → Follows roles was now → Stands was → Stands now
   followed [] was now same before = subst Stands (sym same) before
   followed (role ∷ roles) was now follows before = followed roles follows.0 now follows.2 (moved role was follows.0 follows.1 before)
 
-module _ {S T : Type 0} (left : S → Option (List ℕ)) (faults : S → ℕ) (kept : T → ℕ → Option (List ℕ)) (losses : T → ShelfCounts)
-    (source source_now : S) (shelves shelves_now : List T) (plan : Plan) (turns : List ℕ) (told : Told) (board_now : Board)
-    (by : RunsBy left faults kept losses source source_now shelves shelves_now plan turns told board_now) where
+module _ {S T : Type 0} {m : Streams S T} (was now : Ends m) (plan : Plan) (turns : List ℕ) (told : Told) (board_now : Board)
+    (by : RunsBy was now plan turns told board_now) where
   at-first : (opened : Board) (begun : Run) → IsNewRun plan opened begun
-      → SweptSoFar left faults source plan.ports.items plan.options.split (moment source shelves opened begun)
+      → SweptSoFar was.source plan.ports.items plan.options.split (moment was opened begun)
   at-first opened begun new = record {
     frames = [];
-    stands = rw (new.feed_is, new.board_is) (feeds_stand left faults source plan.ports.items plan.options.split _ refl refl refl);
+    stands = rw (new.feed_is, new.board_is) (feeds_stand m.source.left m.source.failed was.source plan.ports.items plan.options.split _ refl refl refl);
     all = rw (new.feed_is, new.board_is) (record { ahead = refl; sweeps = inl refl });
   }
 
   all-swept : AreAllSwept by.last.feed.pool board_now.nic.view
   all-swept =
-      let last = followed left faults kept losses source plan.ports.items plan.options.split _ _ _ by.follows (at-first by.opened by.begun by.new) in last.all
+      let last = followed was.source plan.ports.items plan.options.split _ _ _ by.follows (at-first by.opened by.begun by.new) in last.all
 
   pub each-swept : searches_in told.pool ≤ most_records → sweeping_in told.pool ≡ sweeps_in board_now.nic.view
   each-swept few =

@@ -1,15 +1,14 @@
 -- A turn goes on with the run: one of the card, and one of an application.
-use Rattle.std.proofs.{Common.{◌≡◌, ◌≢◌, ℕ, ◌<◌, ◌≤◌, List, [], ◌∷◌, All, length, set, Option, Some, sym, ap, ◌∙◌, subst, arith}, lemmas.List.{length-set, drop-set-lt}}
+use Rattle.std.proofs.{Common.{◌≡◌, ◌≢◌, ℕ, ◌<◌, ◌≤◌, List, [], ◌∷◌, All, length, set, Some, sym, ap, ◌∙◌, subst, arith}, lemmas.List.{length-set, drop-set-lt}}
 use Rattle.std.specs.List.{slice_get}
 use Rattle.zr_kinds.specs.Limits.{most_records}
 use Rattle.board_face.specs.{declared.views.{app.AppSide.{AppSide}, parts.Setting.{Setting}, nic.{Dealt.{Dealt}, NicSide.{NicSide}}}, Sides.{side_in}}
 use Rattle.plain_board.specs.{Board.{Board, stand_of, sides_of, side_of}, Recorded.{IsRecorded}, Stand.{setting_of}, Sound.{IsSound}}
-use Rattle.card_feed.specs.{Account.{kept_in}, Feed.{FeedState, IsReady, FeedStands}, Turns.{FeedTurns}, declared.plan.Plan.{Plan}}
+use Rattle.card_feed.specs.{Feed.{FeedState, IsReady, FeedStands}, Turns.{FeedTurns}, declared.plan.Plan.{Plan}}
 use Rattle.run_account.specs.{Behind.{behind}, CardTurns.{CardActs, card_moment, turns}}
-use Rattle.run_account.{specs.{Running.{losses_in, Running, WorkerFits, WorkerGoes}, declared.run.{Run.{Run}, Worker.{Worker}}}, proofs.DealtEntries.{dealt-of}}
+use Rattle.run_account.{specs.{Running.{WorkerFits, WorkerGoes}, Views.{Ends, Streams, counts_at, ends_at, kept_at}, declared.run.{Run.{Run}, Worker.{Worker}}}, proofs.DealtEntries.{dealt-of}}
 use Rattle.run_account.proofs.Places.{InSet, here, there, in-set, get-set_same, get-set_other, get-within, kept-here, kept-there, losses-here, losses-there}
-use Rattle.replay_turns.specs.Running.{RunFits, Plays}
-use Rattle.zr_io.specs.Moved.{ShelfCounts}
+use Rattle.replay_turns.specs.Running.{Moment, Plays, RunFits, RunsSince, moment, moment_at}
 
 -- ---- the board
 
@@ -49,14 +48,13 @@ module _ (board board_now : Board) (was now : Run) (workers : now.workers.items 
     shelves_enough = let same : length now.workers.items ≡ length was.workers.items = ap length workers in omega (arith, same, fits.shelves_enough);
   }
 
-  pub card-on : {S T : Type 0} (left : S → Option (List ℕ)) (faults : S → ℕ) (kept : T → ℕ → Option (List ℕ)) (losses : T → ShelfCounts)
-      (first source source_now : S) (firsts shelves : List T) (plan : Plan) → RunFits board was (length shelves)
-      → (runs : Running left faults kept losses first source firsts shelves plan board.nic board.apps was)
-      → (more : List (List ℕ)) → FeedStands left faults first source_now plan.ports.items plan.options.split more now.feed board_now.nic.view
+  pub card-on : {S T : Type 0} {m : Streams S T} (first ends : Ends m) (source_now : S) (plan : Plan) → RunFits board was (length ends.shelves)
+      → (runs : RunsSince first plan (moment ends board was)) → (more : List (List ℕ))
+      → FeedStands m.source.left m.source.failed first.source source_now plan.ports.items plan.options.split more now.feed board_now.nic.view
       → CardActs plan.ports.items plan.options.split (card_moment runs.frames was.feed board.nic.view) (card_moment more now.feed board_now.nic.view)
       → now.feed.tally.records ≤ most_records → All (λ (d : Dealt). d.app < length plan.ports.items) board_now.nic.view.dealt
-      → Running left faults kept losses first source_now firsts shelves plan board_now.nic board_now.apps now
-  card-on left faults kept losses first source source_now firsts shelves plan fits runs more stands acts records dealt =
+      → RunsSince first plan (moment_at m source_now ends.shelves board_now now)
+  card-on first ends source_now plan fits runs more stands acts records dealt =
       let some : 0 < length board.apps =
       omega (arith, runs.many, fits.many, fits.sound.set.many, runs.plan_is.some) in
       record {
@@ -68,23 +66,20 @@ module _ (board board_now : Board) (was now : Run) (workers : now.workers.items 
         setting = setting-same board board_now fits.sound sound_now apps some ∙ runs.setting;
         many = ap length workers ∙ runs.many;
         worker = λ a w is. subst
-            (λ all. WorkerGoes plan (kept_in kept firsts a) (kept_in kept shelves a) (losses_in losses firsts a) (losses_in losses shelves a)
-            (side_in all a).view w)
-            (sym apps) (runs.worker a w (ap (λ items. slice_get items a) (sym workers) ∙ is));
+            (λ all. WorkerGoes plan (kept_at first a) (kept_at ends a) (counts_at first a) (counts_at ends a) (side_in all a).view w) (sym apps)
+            (runs.worker a w (ap (λ items. slice_get items a) (sym workers) ∙ is));
         many_shelves = runs.many_shelves;
         beyond = runs.beyond;
         records = records;
         dealt = dealt;
       }
 
-  pub card-runs : {S T : Type 0} (left : S → Option (List ℕ)) (faults : S → ℕ) (kept : T → ℕ → Option (List ℕ)) (losses : T → ShelfCounts)
-      (first source source_now : S) (firsts shelves : List T) (plan : Plan) → RunFits board was (length shelves)
-      → (runs : Running left faults kept losses first source firsts shelves plan board.nic board.apps was)
-      → FeedTurns left faults first source_now plan.ports.items plan.options.split runs.frames was.feed now.feed board.nic.view board_now.nic.view
-      → now.feed.tally.records ≤ most_records
-      → Running left faults kept losses first source_now firsts shelves plan board_now.nic board_now.apps now
-  card-runs left faults kept losses first source source_now firsts shelves plan fits runs turn records =
-      card-on left faults kept losses first source source_now firsts shelves plan fits runs turn.more turn.stands
+  pub card-runs : {S T : Type 0} {m : Streams S T} (first ends : Ends m) (source_now : S) (plan : Plan) → RunFits board was (length ends.shelves)
+      → (runs : RunsSince first plan (moment ends board was))
+      → FeedTurns m.source.left m.source.failed first.source source_now plan.ports.items plan.options.split runs.frames was.feed now.feed board.nic.view
+      board_now.nic.view → now.feed.tally.records ≤ most_records → RunsSince first plan (moment_at m source_now ends.shelves board_now now)
+  card-runs first ends source_now plan fits runs turn records =
+      card-on first ends source_now plan fits runs turn.more turn.stands
       (turns now.feed board_now.nic.view
       (record { read = turn.read; more = turn.more; only = turn.only; reads = turn.reads; waits = turn.waits; plays = turn.plays })) records
       (dealt-of (length plan.ports.items) turn.read now.feed board.nic.view board_now.nic.view turn.plays
@@ -118,49 +113,48 @@ module _ (board board_now : Board) (was now : Run) (app : ℕ) (w_was w_now : Wo
     shelves_enough = let same = many-now in omega (arith, same, fits.shelves_enough);
   }
 
-  pub app-runs : {S T : Type 0} (left : S → Option (List ℕ)) (faults : S → ℕ) (kept : T → ℕ → Option (List ℕ)) (losses : T → ShelfCounts)
-      (first source : S) (firsts shelves : List T) (plan : Plan) (shelf shelf_now : T) → slice_get shelves app ≡ Some shelf
-      → Running left faults kept losses first source firsts shelves plan board.nic board.apps was
-      → (WorkerGoes plan (kept_in kept firsts app) (kept shelf) (losses_in losses firsts app) (losses shelf) (side_of board app).view w_was
-      → WorkerGoes plan (kept_in kept firsts app) (kept shelf_now) (losses_in losses firsts app) (losses shelf_now) (side_of board_now app).view w_now)
-      → Running left faults kept losses first source firsts (set shelves app shelf_now) plan board_now.nic board_now.apps now
-  app-runs left faults kept losses first source firsts shelves plan shelf shelf_now shelf_is runs goes =
-      let later = set shelves app shelf_now in
+  pub app-runs : {S T : Type 0} {m : Streams S T} (first ends : Ends m) (plan : Plan) (shelf shelf_now : T) → slice_get ends.shelves app ≡ Some shelf
+      → RunsSince first plan (moment ends board was)
+      → (WorkerGoes plan (kept_at first app) (m.shelf.kept shelf) (counts_at first app) (m.shelf.counts shelf) (side_of board app).view w_was
+      → WorkerGoes plan (kept_at first app) (m.shelf.kept shelf_now) (counts_at first app) (m.shelf.counts shelf_now) (side_of board_now app).view w_now)
+      → RunsSince first plan (moment_at m ends.source (set ends.shelves app shelf_now) board_now now)
+  app-runs {m} first ends plan shelf shelf_now shelf_is runs goes =
+      let kept = m.shelf.kept in
+      let counts = m.shelf.counts in
+      let shelves = ends.shelves in
+      let later = ends_at m ends.source (set shelves app shelf_now) in
       let within : app < length shelves = get-within shelves app shelf shelf_is in
       let below : app < length plan.ports.items = omega (arith, get-within was.workers.items app w_was is_was, runs.many) in
       let here_is = get-set_same shelves app shelf_now within in
-      let was_runs = subst (λ k. WorkerGoes plan (kept_in kept firsts app) k (losses_in losses firsts app) (losses shelf) (side_of board app).view w_was)
+      let was_runs = subst (λ k. WorkerGoes plan (kept_at first app) k (counts_at first app) (counts shelf) (side_of board app).view w_was)
       (kept-here kept shelves app shelf shelf_is)
-      (subst (λ n. WorkerGoes plan (kept_in kept firsts app) (kept_in kept shelves app) (losses_in losses firsts app) n (side_of board app).view w_was)
-      (losses-here losses shelves app shelf shelf_is) (runs.worker app w_was is_was)) in
-      let now_runs = subst (λ k. WorkerGoes plan (kept_in kept firsts app) k (losses_in losses firsts app) (losses_in losses later app)
+      (subst (λ n. WorkerGoes plan (kept_at first app) (kept_at ends app) (counts_at first app) n (side_of board app).view w_was)
+      (losses-here counts shelves app shelf shelf_is) (runs.worker app w_was is_was)) in
+      let now_runs = subst (λ k. WorkerGoes plan (kept_at first app) k (counts_at first app) (counts_at later app)
       (side_of board_now app).view w_now)
-      (sym (kept-here kept later app shelf_now here_is))
-      (subst (λ n. WorkerGoes plan (kept_in kept firsts app) (kept shelf_now) (losses_in losses firsts app) n (side_of board_now app).view w_now)
-      (sym (losses-here losses later app shelf_now here_is)) (goes was_runs)) in
+      (sym (kept-here kept later.shelves app shelf_now here_is))
+      (subst (λ n. WorkerGoes plan (kept_at first app) (kept shelf_now) (counts_at first app) n (side_of board_now app).view w_now)
+      (sym (losses-here counts later.shelves app shelf_now here_is)) (goes was_runs)) in
       record {
         plan_is = runs.plan_is;
         by_turns = runs.by_turns;
         frames = runs.frames;
         turns = rw (feed_is, nic_is) runs.turns;
-        feed = subst (λ f. FeedStands left faults first source plan.ports.items plan.options.split runs.frames f board_now.nic.view) (sym feed_is)
-            (subst (λ nic. FeedStands left faults first source plan.ports.items plan.options.split runs.frames was.feed nic.view) (sym nic_is) runs.feed);
+        feed = rw (feed_is, nic_is) runs.feed;
         setting = ap (λ nic. nic.view.setting) nic_is ∙ runs.setting;
         many = many-now ∙ runs.many;
         worker = λ a w is. elim (get-now a w is) [
-          | here at same ↦ subst (λ b. WorkerGoes plan (kept_in kept firsts b) (kept_in kept later b) (losses_in losses firsts b)
-              (losses_in losses later b)
-              (side_of board_now b).view w) (sym at)
-              (subst (λ x. WorkerGoes plan (kept_in kept firsts app) (kept_in kept later app) (losses_in losses firsts app) (losses_in losses later app)
-              (side_of board_now app).view x) (sym same) now_runs)
+          | here at same ↦
+              subst (λ b. WorkerGoes plan (kept_at first b) (kept_at later b) (counts_at first b) (counts_at later b) (side_of board_now b).view w)
+              (sym at) (subst (WorkerGoes plan _ _ _ _ (side_of board_now app).view) (sym same) now_runs)
           | there other is_there ↦
               let shelf_there = get-set_other shelves app a shelf_now other in
-              subst (λ k. WorkerGoes plan (kept_in kept firsts a) k (losses_in losses firsts a) (losses_in losses later a) (side_of board_now a).view w)
-              (sym (kept-there kept shelves later a shelf_there))
-              (subst (λ n. WorkerGoes plan (kept_in kept firsts a) (kept_in kept shelves a) (losses_in losses firsts a) n (side_of board_now a).view w)
-              (sym (losses-there losses shelves later a shelf_there))
-              (subst (λ side. WorkerGoes plan (kept_in kept firsts a) (kept_in kept shelves a) (losses_in losses firsts a)
-              (losses_in losses shelves a) side.view w)
+              subst (λ k. WorkerGoes plan (kept_at first a) k (counts_at first a) (counts_at later a) (side_of board_now a).view w)
+              (sym (kept-there kept shelves later.shelves a shelf_there))
+              (subst (λ n. WorkerGoes plan (kept_at first a) (kept_at ends a) (counts_at first a) n (side_of board_now a).view w)
+              (sym (losses-there counts shelves later.shelves a shelf_there))
+              (subst (λ side. WorkerGoes plan (kept_at first a) (kept_at ends a) (counts_at first a)
+              (counts_at ends a) side.view w)
               (sym (others a other)) (runs.worker a w is_there)))
         ];
         many_shelves = length-set shelves app shelf_now ∙ runs.many_shelves;
@@ -171,14 +165,11 @@ module _ (board board_now : Board) (was now : Run) (app : ℕ) (w_was w_now : Wo
 
 -- ---- turns behind turns
 
-pub plays-through : {S T : Type 0} (left : S → Option (List ℕ)) (faults : S → ℕ) (kept : T → ℕ → Option (List ℕ)) (losses : T → ShelfCounts)
-    (a b c : S) (k l m : List T) (first second third : Board) (u v w : Run)
-    → Plays left faults kept losses a b k l first second u v → Plays left faults kept losses b c l m second third v w
-    → Plays left faults kept losses a c k m first third u w
-plays-through left faults kept losses a b c k l m first second third u v w before after = record {
+pub plays-through : {S T : Type 0} {m : Streams S T} (a b c : Moment m) → Plays a b → Plays b c → Plays a c
+plays-through a b c before after = record {
   fits = after.fits;
   workers = after.workers ∙ before.workers;
   many = after.many ∙ before.many;
   room = after.room ∙ before.room;
-  runs = λ source firsts plan runs. after.runs source firsts plan (before.runs source firsts plan runs);
+  runs = λ first plan runs. after.runs first plan (before.runs first plan runs);
 }

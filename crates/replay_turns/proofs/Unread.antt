@@ -1,14 +1,13 @@
 -- Turns in which the card reads nothing, and rounds of the applications alone.
-use Rattle.std.{proofs.{Common.{◌≡◌, ℕ, ◌<◌, ◌≤◌, ◌||◌, Bool, true, false, List, length, Option, ⊎_elim, refl, sym, ap, ◌∙◌, subst, arith}, lemmas.Bool.{true≢false}}, specs.Prelude.{MatchBool}}
+use Rattle.std.{proofs.{Common.{◌≡◌, ℕ, ◌<◌, ◌≤◌, ◌||◌, Bool, true, false, List, length, ⊎_elim, refl, sym, ap, ◌∙◌, subst, arith}, lemmas.Bool.{true≢false}}, specs.Prelude.{MatchBool}}
 use Rattle.zr_kinds.specs.{Limits.{most_records}, declared.outcome.Tally.{Tally}}
 use Rattle.board_face.specs.{NicCalls.{apps_of}, declared.views.{parts.Setting.{Setting}, nic.{NicLook.{NicLook}, NicView.{NicView}}}}
 use Rattle.plain_board.specs.{Board.{Board, stand_of}, Sound.{IsSound}}
 use Rattle.card_feed.specs.{Coming.{ComesTo}, Feed.{FeedKnows, FeedState, IsReady, feed_steps}, Offered.{WantsRoom}, Turns.{FeedSteps, HasLooked}, declared.plan.Plan.{Plan}}
 use Rattle.card_feed.specs.declared.{intake.Stage.{Stage}, arrived.Arrived.TheVariants.{Nothing}}
 use Rattle.run_account.specs.CardTurns.{CardActs, card_moment, steps as acts}
-use Rattle.run_account.{specs.{Running.{Running}, declared.run.Run.{Run}}, proofs.DealtEntries.{dealt-of, dealt-up}}
-use Rattle.replay_turns.{specs.{Rounds.{DidNothing}, Running.{RunFits, Plays}, Steps.{run_steps}, declared.role.Role.{Role}}, proofs.{Rounds.{steps-same}, Turns.{card-on}}}
-use Rattle.zr_io.specs.Moved.{ShelfCounts}
+use Rattle.run_account.{specs.{Views.{Ends, Streams}, declared.run.Run.{Run}}, proofs.DealtEntries.{dealt-of, dealt-up}}
+use Rattle.replay_turns.{specs.{Rounds.{DidNothing}, Running.{Moment, Plays, RunFits, RunsSince, moment}, Steps.{run_steps}, declared.role.Role.{Role}}, proofs.{Rounds.{steps-same}, Turns.{card-on}}}
 
 -- ---- the card
 
@@ -27,21 +26,20 @@ module _ (board board_now : Board) (was now : Run) (workers : now.workers.items 
     (steps : (ports : List ℕ) (split : ℕ) (frames : List (List ℕ)) → FeedKnows ports split frames was.feed board.nic.view
     → FeedSteps ports split frames Nothing was.feed now.feed board.nic.view board_now.nic.view) where
   -- the run goes on by a step of the card for which nothing has come
-  pub card-waits : {S T : Type 0} (left : S → Option (List ℕ)) (faults : S → ℕ) (kept : T → ℕ → Option (List ℕ)) (losses : T → ShelfCounts)
-      (first source : S) (firsts shelves : List T) (plan : Plan) → RunFits board was (length shelves)
-      → Running left faults kept losses first source firsts shelves plan board.nic board.apps was
-      → Running left faults kept losses first source firsts shelves plan board_now.nic board_now.apps now
-  card-waits left faults kept losses first source firsts shelves plan fits runs =
+  pub card-waits : {S T : Type 0} {m : Streams S T} (first ends : Ends m) (plan : Plan) → RunFits board was (length ends.shelves)
+      → RunsSince first plan (moment ends board was) → RunsSince first plan (moment ends board_now now)
+  card-waits {m} first ends plan fits runs =
       let ports = plan.ports.items in
       let step = steps ports plan.options.split runs.frames runs.feed.knows in
       let stage = step.stage_is ∙ ap (λ (f : FeedState). f.stage) step.receives.0 in
       let knows = subst (λ frames. FeedKnows ports plan.options.split frames now.feed board_now.nic.view) step.receives.1 step.knows in
       let many : apps_of board.nic.view.setting ≡ length ports =
       ap (λ (s : Setting). s.layout.reserves) fits.sound.set.card ∙ sym fits.many ∙ runs.many in
-      card-on board board_now was now workers apps sound_now ready left faults kept losses first source source firsts shelves plan fits runs runs.frames
+      card-on board board_now was now workers apps sound_now ready first ends ends.source plan fits runs runs.frames
       (record {
         knows = knows;
-        comes = subst (λ (s : Stage). ComesTo (WantsRoom plan.options.split ports) left faults first source ports s runs.frames) (sym stage) runs.feed.comes;
+        comes = subst (λ (s : Stage). ComesTo (WantsRoom plan.options.split ports) m.source.left m.source.failed first.source ends.source ports s
+            runs.frames) (sym stage) runs.feed.comes;
       })
       (subst (λ frames. CardActs ports plan.options.split (card_moment runs.frames was.feed board.nic.view) (card_moment frames now.feed board_now.nic.view))
       step.receives.1 (acts Nothing now.feed board_now.nic.view tt step))
@@ -72,8 +70,5 @@ rises-on first was now false false before rose later rises is = absurd (true≢f
 
 -- ---- nothing was done
 
-pub plays-none : {S T : Type 0} (left : S → Option (List ℕ)) (faults : S → ℕ) (kept : T → ℕ → Option (List ℕ)) (losses : T → ShelfCounts)
-    (source : S) (shelves : List T) (board : Board) (run : Run) → RunFits board run (length shelves)
-    → Plays left faults kept losses source source shelves shelves board board run run
-plays-none left faults kept losses source shelves board run fits =
-    record { fits = fits; workers = refl; many = refl; room = refl; runs = λ first firsts plan runs. runs }
+pub plays-none : {S T : Type 0} {m : Streams S T} (now : Moment m) → RunFits now.board now.run (length now.ends.shelves) → Plays now now
+plays-none now fits = record { fits = fits; workers = refl; many = refl; room = refl; runs = λ first plan runs. runs }

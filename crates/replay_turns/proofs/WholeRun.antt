@@ -1,14 +1,15 @@
 -- A run from its opening to its end: the turns of the text, and then rounds; or rounds alone.
-use Rattle.std.{proofs.Common.{◌≡◌, ℕ, ◌≤◌, List, ◌++◌, length, map, take, drop, Option, inr, refl, sym, ap, subst, ◌∙◌, arith}, specs.Prelude.{Result, Ok, Err, OnErr}}
+use Rattle.std.{proofs.Common.{◌≡◌, ℕ, ◌≤◌, List, ◌++◌, length, map, take, drop, inr, refl, sym, ap, subst, ◌∙◌, arith}, specs.Prelude.{Result, Ok, Err, OnErr}}
 use Rattle.std.proofs.Math.Seq.{take-append_seam}
+use Rattle.board_face.specs.Ended.{HaveEnded}
 use Rattle.plain_board.specs.Board.{Board}
+use Rattle.flow_queues.specs.Ends.{AppEnd}
 use Rattle.zr_kinds.specs.Limits.{most_records}
 use Rattle.card_feed.specs.{Counts.{searches_in}, declared.{outcome.Outcome.{Outcome}, plan.Plan.{Plan}}}
-use Rattle.run_account.specs.{Ran.{TellsOf, Ran, LacksMemory, told_of}, Running.{HasRun, Running, AreOver, ends_of}, declared.run.Run.{Run}}
+use Rattle.run_account.specs.{Ran.{TellsOf, Ran, LacksMemory, told_of}, Running.{HasRun, AreOver, ends_of}, Views.{Streams, ends_at}, declared.run.Run.{Run}}
 use Rattle.run_account.proofs.{Ended.{end-few, end-well, end-told}, Leaving.{has-run}}
-use Rattle.replay_turns.specs.{Following.{Follows, IsNewRun, RunsBy, moment, rounds_of}, Rounds.{IsOfPlan}, Running.{RunFits, Plays}, Schedule.{role_of}}
-use Rattle.replay_turns.proofs.{BoardOver.{have-ended}, Following.{follows-through}}
-use Rattle.zr_io.specs.Moved.{ShelfCounts}
+use Rattle.replay_turns.specs.{Following.{Follows, FollowsRounds, IsNewRun, RunsBy, rounds_of}, Rounds.{IsOfPlan}, Running.{BeginsWith, Moment, Plays, PlaysBy, RunFits, RunsSince, moment_at}, Schedule.{role_of}}
+use Rattle.replay_turns.proofs.{BoardOver.{have-ended}, Following.{follows-through}, StepsLeft.{still-of}, Turns.{plays-through}}
 
 pub on-err : {A E : Type 0} (r : Result A E) (P : Type 0) → P → OnErr r P
 on-err (Ok x) P holds = tt
@@ -18,170 +19,100 @@ on-err (Err e) P holds = holds
 back : {T : Type 0} (n : ℕ) (xs all : List T) → length xs ≡ n → take n (xs ++ drop (length xs) all) ≡ xs
 back n xs all same = ap (λ k. take k (xs ++ drop (length xs) all)) (sym same) ∙ take-append_seam xs (drop (length xs) all)
 
--- ---- what a run that is over leaves
+-- ---- from where it began
 
-module _ {S T : Type 0} (left : S → Option (List ℕ)) (faults : S → ℕ) (kept : T → ℕ → Option (List ℕ)) (losses : T → ShelfCounts)
-    (source now : S) (items rounds shelves_now : List T) (plan : Plan) (over_board : Board) (over_run : Run)
-    (fits : RunFits over_board over_run (length rounds)) (ends : shelves_now ≡ rounds)
-    (runs : Running left faults kept losses source now items rounds plan over_board.nic over_board.apps over_run) (over : AreOver over_run) where
-  pub ended-ran : HasRun left faults kept losses source now items rounds plan over_board.nic over_board.apps over_run.feed
-      (ends_of over_run.workers.items)
-  ended-ran = has-run left faults kept losses source now items rounds plan over_board.nic over_board.apps over_run fits.roles over runs
+module _ {S T : Type 0} {m : Streams S T} (source : S) (items lent : List T) (n : ℕ) (plan : Plan) (opened : Board) (begun : Run)
+    (size : n ≡ length items) (enough : length plan.ports.items ≤ n) (is : lent ≡ items) (begins : BeginsWith m plan opened begun) where
+  -- the run is one of its plan
+  pub one-of : IsOfPlan (moment_at m source lent opened begun)
+  one-of = record { first = ends_at m source lent; plan = plan; runs = begins (ends_at m source lent) (omega (arith, size, enough, ap length is)) }
 
-  pub ended-told : (outcome : Outcome) → TellsOf over_run plan.ports.items outcome
-      → Ran left faults kept losses source now items shelves_now plan (told_of outcome) over_board.nic over_board.apps
-  ended-told outcome tells =
-      subst (λ shelves. Ran left faults kept losses source now items shelves plan (told_of outcome) over_board.nic over_board.apps) (sym ends)
-      (end-well left faults kept losses source now items rounds plan over_board.nic over_board.apps over_run.feed
-      (ends_of over_run.workers.items) outcome (have-ended over_board over_run (length rounds) fits over) ended-ran tells)
+  module _ (now : Moment m) (plays : Plays (moment_at m source lent opened begun) now) where
+    abbrev ends : List AppEnd
+    ends = ends_of now.run.workers.items
 
-  pub ended-lacks : LacksMemory left faults kept losses source now items shelves_now plan
-  ended-lacks =
-      let told = end-told left faults kept losses source now items rounds plan over_board.nic over_board.apps over_run.feed
-      (ends_of over_run.workers.items) (have-ended over_board over_run (length rounds) fits over) ended-ran in
-      inr (
-        told.0,
-        over_board.nic,
-        over_board.apps,
-        subst (λ shelves. Ran left faults kept losses source now items shelves plan told.0 over_board.nic over_board.apps) (sym ends) told.2,
-      )
+    pub since : RunsSince (ends_at m source items) plan now
+    since = (subst (λ shelves. Plays (moment_at m source shelves opened begun) now) is plays).runs (ends_at m source items) plan
+        (begins (ends_at m source items) (omega (arith, size, enough)))
 
--- ---- rounds alone
+    -- what a run that is over leaves: its shelves are put back in place of all
+    module _ (over : AreOver now.run) (all : List T) where
+      back-is : take n (now.ends.shelves ++ drop (length now.ends.shelves) all) ≡ now.ends.shelves
+      back-is = back n now.ends.shelves all (plays.many ∙ ap length is ∙ sym size)
 
--- the run is one of its plan
-pub rounds-plan : {S T : Type 0} (left : S → Option (List ℕ)) (faults : S → ℕ) (kept : T → ℕ → Option (List ℕ)) (losses : T → ShelfCounts)
-    (source : S) (items was : List T) (n : ℕ) (plan : Plan) (opened : Board) (begun : Run) → n ≡ length items → length plan.ports.items ≤ n
-    → was ≡ items
-    → ((first : S) (shelves : List T) → length plan.ports.items ≤ length shelves
-    → Running left faults kept losses first first shelves shelves plan opened.nic opened.apps begun)
-    → IsOfPlan left faults kept losses source was opened begun
-rounds-plan left faults kept losses source items was n plan opened begun size enough is begins = record {
-  first = source;
-  firsts = was;
-  plan = plan;
-  runs = begins source was (omega (arith, size, enough, ap length is));
-}
+      ended : HaveEnded now.board.nic now.board.apps
+      ended = have-ended now.board now.run (length now.ends.shelves) plays.fits over
 
-module _ {S T : Type 0} (left : S → Option (List ℕ)) (faults : S → ℕ) (kept : T → ℕ → Option (List ℕ)) (losses : T → ShelfCounts)
-    (source now : S) (items was rounds : List T) (n : ℕ) (plan : Plan) (opened over_board : Board) (begun over_run : Run)
-    (size : n ≡ length items) (enough : length plan.ports.items ≤ n) (is : was ≡ items)
-    (begins : (first : S) (shelves : List T) → length plan.ports.items ≤ length shelves
-    → Running left faults kept losses first first shelves shelves plan opened.nic opened.apps begun)
-    (plays : Plays left faults kept losses source now was rounds opened over_board begun over_run) where
-  rounds-end : take n (rounds ++ drop (length rounds) items) ≡ rounds
-  rounds-end = back n rounds items (plays.many ∙ ap length is ∙ sym size)
+      ran : HasRun (ends_at m source items) now.ends plan now.board.nic now.board.apps now.run.feed ends
+      ran = has-run (ends_at m source items) now.ends plan now.board.nic now.board.apps now.run plays.fits.roles over since
 
-  pub rounds-runs : Running left faults kept losses source now items rounds plan over_board.nic over_board.apps over_run
-  rounds-runs =
-      (subst (λ ws. Plays left faults kept losses source now ws rounds opened over_board begun over_run) is plays).runs source items plan
-      (begins source items (omega (arith, size, enough)))
+      pub whole-told : (outcome : Outcome) → TellsOf now.run plan.ports.items outcome → Ran (ends_at m source items)
+          (ends_at m now.ends.source (take n (now.ends.shelves ++ drop (length now.ends.shelves) all))) plan (told_of outcome)
+          now.board.nic now.board.apps
+      whole-told outcome tells = subst
+          (λ shelves. Ran (ends_at m source items) (ends_at m now.ends.source shelves) plan (told_of outcome) now.board.nic now.board.apps) (sym back-is)
+          (end-well m (ends_at m source items) now.ends plan now.board.nic now.board.apps now.run.feed ends outcome ended ran tells)
 
-  pub rounds-told : AreOver over_run → (outcome : Outcome) → TellsOf over_run plan.ports.items outcome
-      → Ran left faults kept losses source now items (take n (rounds ++ drop (length rounds) items)) plan (told_of outcome)
-      over_board.nic over_board.apps
-  rounds-told over = ended-told left faults kept losses source now items rounds (take n (rounds ++ drop (length rounds) items)) plan over_board over_run
-      plays.fits rounds-end rounds-runs over
+      -- it tells of no more searches than records are read at most
+      pub whole-few : (outcome : Outcome) → TellsOf now.run plan.ports.items outcome → searches_in outcome.pool ≤ most_records
+      whole-few outcome tells =
+          end-few (ends_at m source items) now.ends plan now.board.nic now.board.apps now.run.feed ends outcome ended ran tells
 
-  pub rounds-lacks : AreOver over_run → LacksMemory left faults kept losses source now items (take n (rounds ++ drop (length rounds) items)) plan
-  rounds-lacks over = ended-lacks left faults kept losses source now items rounds (take n (rounds ++ drop (length rounds) items)) plan over_board over_run
-      plays.fits rounds-end rounds-runs over
+      pub whole-lacks : LacksMemory (ends_at m source items)
+          (ends_at m now.ends.source (take n (now.ends.shelves ++ drop (length now.ends.shelves) all))) plan
+      whole-lacks =
+          let told = end-told m (ends_at m source items) now.ends plan now.board.nic now.board.apps now.run.feed ends ended ran in
+          subst (λ shelves. LacksMemory (ends_at m source items) (ends_at m now.ends.source shelves) plan) (sym back-is)
+          (inr (told.0, now.board.nic, now.board.apps, told.2))
 
 -- ---- the turns of a text, and then rounds
 
-module _ {S T : Type 0} (left : S → Option (List ℕ)) (faults : S → ℕ) (kept : T → ℕ → Option (List ℕ)) (losses : T → ShelfCounts)
-    (source mid : S) (items was text was_text : List T) (n : ℕ) (opened played : Board) (begun went : Run) (size : n ≡ length items) (is : was ≡ items)
-    (is_text : was_text ≡ take n (text ++ drop (length text) items))
-    (first : Plays left faults kept losses source mid was text opened played begun went) where
-  same-text : was_text ≡ text
-  same-text = is_text ∙ back n text items (first.many ∙ ap length is ∙ sym size)
+module _ {S T : Type 0} {m : Streams S T} (source : S) (items lent : List T) (n : ℕ) (opened : Board) (begun : Run) (mid : Moment m) (again : List T)
+    (size : n ≡ length items) (is : lent ≡ items) (is_again : again ≡ take n (mid.ends.shelves ++ drop (length mid.ends.shelves) items))
+    (plays : Plays (moment_at m source lent opened begun) mid) where
+  abbrev resumed : Moment m
+  resumed = moment_at m mid.ends.source again mid.board mid.run
 
-  -- the board fits after the text
-  pub text-fits : RunFits played went (length was_text)
-  text-fits = subst (λ ws. RunFits played went (length ws)) (sym same-text) first.fits
+  same : resumed ≡ mid
+  same = ap (λ shelves. moment_at m mid.ends.source shelves mid.board mid.run)
+      (is_again ∙ back n mid.ends.shelves items (plays.many ∙ ap length is ∙ sym size))
 
-  -- and the run is still one of its plan
-  pub text-plan : (plan : Plan) → length plan.ports.items ≤ n
-      → ((first : S) (shelves : List T) → length plan.ports.items ≤ length shelves
-      → Running left faults kept losses first first shelves shelves plan opened.nic opened.apps begun)
-      → IsOfPlan left faults kept losses mid was_text played went
-  text-plan plan enough begins = record {
-    first = source;
-    firsts = was;
-    plan = plan;
-    runs = subst (λ ws. Running left faults kept losses source mid was ws plan played.nic played.apps went) (sym same-text)
-        (first.runs source was plan (begins source was (omega (arith, size, enough, ap length is))));
-  }
+  -- the board fits after the text, and the run is still one of its plan
+  pub text-fits : RunFits mid.board mid.run (length again)
+  text-fits = subst (λ (at : Moment m). RunFits at.board at.run (length at.ends.shelves)) (sym same) plays.fits
 
-module _ {S T : Type 0} (left : S → Option (List ℕ)) (faults : S → ℕ) (kept : T → ℕ → Option (List ℕ)) (losses : T → ShelfCounts) (source mid now : S)
-    (items was text was_text rounds : List T) (n : ℕ) (plan : Plan) (opened played over_board : Board) (begun went over_run : Run)
-    (size : n ≡ length items) (enough : length plan.ports.items ≤ n) (is : was ≡ items)
-    (is_text : was_text ≡ take n (text ++ drop (length text) items))
-    (begins : (first : S) (shelves : List T) → length plan.ports.items ≤ length shelves
-    → Running left faults kept losses first first shelves shelves plan opened.nic opened.apps begun)
-    (first : Plays left faults kept losses source mid was text opened played begun went)
-    (second : Plays left faults kept losses mid now was_text rounds played over_board went over_run) where
-  text-size : length text ≡ n
-  text-size = first.many ∙ ap length is ∙ sym size
+  pub text-plan : IsOfPlan (moment_at m source lent opened begun) → IsOfPlan resumed
+  text-plan of = subst (λ (at : Moment m). IsOfPlan at) (sym same) (still-of _ mid of plays)
 
-  text-is : was_text ≡ text
-  text-is = is_text ∙ back n text items text-size
+  pub text-plays : (now : Moment m) → Plays resumed now → Plays (moment_at m source lent opened begun) now
+  text-plays now second = plays-through _ mid now plays (subst (λ (at : Moment m). Plays at now) same second)
 
-  -- the shelves at the end
-  ends-with : take n (rounds ++ drop (length rounds) (take n (text ++ drop (length text) items))) ≡ rounds
-  ends-with = back n rounds (take n (text ++ drop (length text) items)) (second.many ∙ ap length text-is ∙ text-size)
-
-  pub whole-runs : Running left faults kept losses source now items rounds plan over_board.nic over_board.apps over_run
-  whole-runs =
-      let one = subst (λ ws. Plays left faults kept losses source mid ws text opened played begun went) is first in
-      let two = subst (λ ws. Plays left faults kept losses mid now ws rounds played over_board went over_run) text-is second in
-      two.runs source items plan (one.runs source items plan (begins source items (omega (arith, size, enough))))
-
-  module _ (over : AreOver over_run) where
-    pub run-told : (outcome : Outcome) → TellsOf over_run plan.ports.items outcome
-        → Ran left faults kept losses source now items (take n (rounds ++ drop (length rounds) (take n (text ++ drop (length text) items)))) plan
-        (told_of outcome) over_board.nic over_board.apps
-    run-told = ended-told left faults kept losses source now items rounds _ plan over_board over_run second.fits ends-with whole-runs over
-
-    -- it tells of no more searches than records are read at most
-    pub run-few : (outcome : Outcome) → TellsOf over_run plan.ports.items outcome → searches_in outcome.pool ≤ most_records
-    run-few outcome tells = end-few left faults kept losses source now items rounds plan over_board.nic over_board.apps over_run.feed
-        (ends_of over_run.workers.items) outcome (have-ended over_board over_run (length rounds) second.fits over)
-        (ended-ran left faults kept losses source now items rounds _ plan over_board over_run second.fits ends-with whole-runs over) tells
-
-    pub run-lacks : LacksMemory left faults kept losses source now items
-        (take n (rounds ++ drop (length rounds) (take n (text ++ drop (length text) items)))) plan
-    run-lacks = ended-lacks left faults kept losses source now items rounds _ plan over_board over_run second.fits ends-with whole-runs over
-
-    -- its turns were those of the text, and then whole rounds
-    pub run-by : (turns : List ℕ) → IsNewRun plan opened begun
-        → Follows left faults kept losses (map role_of turns) (moment source was opened begun) (moment mid text played went)
-        → ((count : ℕ) × Follows left faults kept losses (rounds_of (length went.workers.items) count) (moment mid was_text played went)
-        (moment now rounds over_board over_run))
-        → (outcome : Outcome) → TellsOf over_run plan.ports.items outcome
-        → RunsBy left faults kept losses source now items (take n (rounds ++ drop (length rounds) (take n (text ++ drop (length text) items)))) plan
-        turns (told_of outcome) over_board
-    run-by turns new of_text of_rounds outcome tells =
-        let count = of_rounds.0 in
-        let apps = length plan.ports.items in
-        let roles = map role_of turns ++ rounds_of apps count in
-        let of_ports = subst
-        (λ k. Follows left faults kept losses (rounds_of k count) (moment mid was_text played went) (moment now rounds over_board over_run))
-        (first.workers ∙ new.workers.many) of_rounds.1 in
-        let behind = subst
-        (λ ws. Follows left faults kept losses (rounds_of apps count) (moment mid ws played went) (moment now rounds over_board over_run)) text-is of_ports in
-        let all = follows-through left faults kept losses (map role_of turns) (rounds_of apps count) (moment source was opened begun)
-        (moment mid text played went) (moment now rounds over_board over_run) of_text behind in
-        record {
-          opened = opened;
-          begun = begun;
-          new = new;
-          last = over_run;
-          rounds = count;
-          follows = subst
-              (λ ws. Follows left faults kept losses roles (moment source items opened begun) (moment now ws over_board over_run)) (sym ends-with)
-              (subst (λ ws. Follows left faults kept losses roles (moment source ws opened begun) (moment now rounds over_board over_run)) is all);
-          over = over;
-          outcome = outcome;
-          tells = tells;
-          told_is = refl;
-        }
+  -- its turns were those of the text, and then whole rounds
+  pub text-by : (now : Moment m) (plan : Plan) (turns : List ℕ) → IsNewRun plan opened begun
+      → Follows (map role_of turns) (moment_at m source lent opened begun) mid
+      → PlaysBy (FollowsRounds (length mid.run.workers.items)) resumed now → AreOver now.run
+      → (outcome : Outcome) → TellsOf now.run plan.ports.items outcome → (all : List T)
+      → RunsBy (ends_at m source items) (ends_at m now.ends.source (take n (now.ends.shelves ++ drop (length now.ends.shelves) all))) plan turns
+      (told_of outcome) now.board
+  text-by now plan turns new of_text later over outcome tells all =
+      let apps = length plan.ports.items in
+      let rounds = later.by.0 in
+      let roles = map role_of turns ++ rounds_of apps rounds in
+      let behind = subst (λ (at : Moment m). Follows (rounds_of apps rounds) at now) same
+      (subst (λ k. Follows (rounds_of k rounds) resumed now) (plays.workers ∙ new.workers.many) later.by.1) in
+      let follows = subst (λ shelves. Follows roles (moment_at m source shelves opened begun) now) is
+      (follows-through (map role_of turns) (rounds_of apps rounds) _ mid now of_text behind) in
+      let size_now = (text-plays now later.plays).many ∙ ap length is ∙ sym size in
+      record {
+        opened = opened;
+        begun = begun;
+        new = new;
+        last = now.run;
+        rounds = rounds;
+        follows = subst (λ shelves. Follows roles (moment_at m source items opened begun) (moment_at m now.ends.source shelves now.board now.run))
+            (sym (back n now.ends.shelves all size_now)) follows;
+        over = over;
+        outcome = outcome;
+        tells = tells;
+        told_is = refl;
+      }

@@ -1,12 +1,11 @@
 -- A turn that did nothing, and what a run is that goes round.
-use Rattle.std.specs.Prelude.{◌≡◌, ℕ, List, [], Option}
+use Rattle.std.specs.Prelude.{◌≡◌, ℕ, ◌<◌, ◌≤◌, Bool, true, [], MatchBool}
 use Rattle.board_face.specs.{AppEvents.{app_gist}, NicEvents.{nic_gist}}
 use Rattle.page_pool.specs.Dealing.{CountsStrays}
 use Rattle.plain_board.specs.Board.{Board, side_of}
 use Rattle.card_feed.specs.declared.plan.Plan.{Plan}
-use Rattle.run_account.specs.{Running.{Running}, declared.run.Run.{Run}}
-use Rattle.replay_turns.specs.{Stuck.{IsStuck}, declared.role.Role.{Role}}
-use Rattle.zr_io.specs.Moved.{ShelfCounts}
+use Rattle.run_account.specs.{Views.{Ends, Streams}, declared.run.Run.{Run}}
+use Rattle.replay_turns.specs.{Running.{Moment, Plays, RunsSince}, Steps.{run_steps}, Stuck.{AreStuck, IsStuck}, declared.role.Role.{Role}}
 
 -- All is as it was, but for looks and what the applications know of their refill slots.
 pub record StandsStill (board board_now : Board) (was now : Run) : Type 0 where
@@ -22,10 +21,18 @@ pub record DidNothing (role : Role) (board board_now : Board) (was now : Run) : 
   pub same : StandsStill board board_now was now
   pub stuck : IsStuck role board_now now
 
+-- Turns of which this says whether something was done: they bring nothing back, and where something was done further.
+pub record PlaysOn {S T : Type 0} {m : Streams S T} (did : Bool) (was now : Moment m) : Type 0 where
+  pub plays : Plays was now
+  pub later : run_steps was.board was.run ≤ run_steps now.board now.run
+  pub rises : did ≡ true → run_steps was.board was.run < run_steps now.board now.run
+
+-- Something was done in a round, and the run has come further; or nobody can do anything.
+abbrev pub RisesOrStuck : {S T : Type 0} → {m : Streams S T} → Bool → Moment m → Moment m → Type 0
+RisesOrStuck did was now = MatchBool did (run_steps was.board was.run < run_steps now.board now.run) (AreStuck now.board now.run)
+
 -- The run is one of some plan, so it goes no further than that lets it.
-pub record IsOfPlan {S T : Type 0} (left : S → Option (List ℕ)) (faults : S → ℕ) (kept : T → ℕ → Option (List ℕ)) (losses : T → ShelfCounts)
-    (source : S) (shelves : List T) (board : Board) (run : Run) : Type 0 where
-  pub first : S
-  pub firsts : List T
+pub record IsOfPlan {S T : Type 0} {m : Streams S T} (now : Moment m) : Type 0 where
+  pub first : Ends m
   pub plan : Plan
-  pub runs : Running left faults kept losses first source firsts shelves plan board.nic board.apps run
+  pub runs : RunsSince first plan now

@@ -5,9 +5,8 @@ use Rattle.board_face.specs.declared.views.app.AppView.{AppView}
 use Rattle.plain_board.specs.Board.{Board, side_of}
 use Rattle.app_worker.specs.{State.{app_steps, one_if}, Turns.{Turns}, declared.turn.{Turn.{Turn, TheVariants.{Idle, Finished}}, Why.{Why}}}
 use Rattle.card_feed.specs.{Feed.{feed_steps}, declared.plan.Plan.{Plan}}
-use Rattle.run_account.specs.{Running.{Running}, declared.run.{Run.{Run}, Worker.{Worker}}}
-use Rattle.replay_turns.specs.Running.{RunFits}
-use Rattle.zr_io.specs.Moved.{ShelfCounts}
+use Rattle.run_account.specs.{Views.{Ends, Streams}, declared.run.{Run.{Run}, Worker.{Worker}}}
+use Rattle.replay_turns.specs.Running.{Moment, RunFits, RunsSince}
 
 -- ---- how far it has come
 
@@ -51,8 +50,7 @@ abbrev pub run_most : ℕ → ℕ → ℕ
 run_most apps stray = most_records + most_bytes + 2 + apps * entries_most stray + apps * worker_most stray
 
 -- A run of a plan goes no further.
-abbrev pub RunsStayWithin : {S T : Type 0} → (S → Option (List ℕ)) → (S → ℕ) → (T → ℕ → Option (List ℕ)) → (T → ShelfCounts) → Type 0
-RunsStayWithin {S} {T} left faults kept losses =
-    (source source_now : S) (shelves shelves_now : List T) (plan : Plan) (board : Board) (run : Run)
-    → RunFits board run (length shelves_now) → Running left faults kept losses source source_now shelves shelves_now plan board.nic board.apps run
-    → run_steps board run ≤ run_most (length plan.ports.items) plan.options.how.stray
+abbrev pub RunsStayWithin : {S T : Type 0} → Streams S T → Type 0
+RunsStayWithin m =
+    (first : Ends m) (now : Moment m) (plan : Plan) → RunFits now.board now.run (length now.ends.shelves) → RunsSince first plan now
+    → run_steps now.board now.run ≤ run_most (length plan.ports.items) plan.options.how.stray

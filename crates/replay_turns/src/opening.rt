@@ -1,10 +1,10 @@
 //! How a run begins.
 
-ghost use Rattle.std.specs.Prelude.{◌≡◌, ℕ, ◌≤◌, List, length, IfOk};
+ghost use Rattle.std.specs.Prelude.{◌≡◌, ℕ, ◌≤◌, length, IfOk};
 ghost use Rattle.run_records.specs.Setting.{most_events};
 ghost use Rattle.card_feed.specs.Plan.{IsPlan, TakesTurns};
-ghost use Rattle.run_account.specs.Running.{Running};
-ghost use Rattle.replay_turns.specs.{Events.{room_of}, Following.{IsNewRun}, Running.{RunFits}};
+ghost use Rattle.run_account.specs.Views.{streams};
+ghost use Rattle.replay_turns.specs.{Events.{room_of}, Following.{IsNewRun}, Running.{BeginsWith, RunFits}};
 
 use card_feed::{Feed, Plan, new_feeds_stand};
 use plain_board::PlainBoard;
@@ -34,10 +34,8 @@ pub fn open<S: Source, T: Shelf>(
         (λ it. (shelves : ℕ) → length plan.now.ports.items ≤ shelves → RunFits it.0 it.1 shelves) }
     ensures opened { IfOk result (λ it. IsNewRun plan.now it.0 it.1) }
     ensures many { IfOk result (λ it. length it.1.workers.items ≡ length plan.now.ports.items) }
-    ensures runs { IfOk result
-        (λ it. (source : S) (shelves : List T) → length plan.now.ports.items ≤ length shelves
-        → Running S.left S.faults T.kept T.counts source source shelves shelves plan.now it.0.nic
-        it.0.apps it.1) }
+    ensures runs { let m = streams S.left S.faults T.kept T.counts in
+        IfOk result (λ it. BeginsWith m plan.now it.0 it.1) }
 {
     let layout = plan.layout().unwrap();
     let apps = plan.ports.len() as u32;

@@ -1,8 +1,8 @@
 //! Many turns: those of a text, and then rounds.
 
-ghost use Rattle.std.specs.Prelude.{ℕ, ◌<◌, length, map, MatchBool};
-ghost use Rattle.replay_turns.specs.{Rounds.{IsOfPlan}, Following.{Follows, moment, round_of, rounds_of}, Running.{RunFits, Plays}, Schedule.{AreTurns, role_of}, Steps.{run_steps}, Stuck.{AreStuck}};
-ghost use Rattle.run_account.specs.Running.{AreOver};
+ghost use Rattle.std.specs.Prelude.{◌<◌, length, map, MatchBool};
+ghost use Rattle.replay_turns.specs.{Rounds.{IsOfPlan}, Following.{Follows, FollowsRounds, round_of}, Running.{RunFits, PlaysBy, moment_at}, Schedule.{AreTurns, role_of}, Steps.{run_steps}, Stuck.{AreStuck}};
+ghost use Rattle.run_account.specs.{Running.{AreOver}, Views.{streams}};
 
 use crate::Role;
 use crate::role::role_of;
@@ -21,11 +21,9 @@ pub fn play_text<S: Source, T: Shelf>(
 ) -> PlainBoard
     requires fits { RunFits board run.old (length shelves.old) }
     requires turns { AreTurns (length run.old.workers.items) turns.now }
-    ensures plays { Plays S.left S.faults T.kept T.counts source.old source.new shelves.old
-        shelves.new board result run.old run.new }
-    ensures follows { Follows S.left S.faults T.kept T.counts (map role_of turns.now)
-        (moment source.old shelves.old board run.old)
-        (moment source.new shelves.new result run.new) }
+    ensures { let m = streams S.left S.faults T.kept T.counts in
+        PlaysBy (Follows (map role_of turns.now)) (moment_at m source.old shelves.old board run.old)
+        (moment_at m source.new shelves.new result run.new) }
 {
     let apps = run.workers.len() as u32;
     for letter in turns.bytes() {
@@ -43,12 +41,10 @@ pub(crate) fn play_round<S: Source, T: Shelf>(
     shelves: &mut [T],
 ) -> (PlainBoard, bool)
     requires fits { RunFits board run.old (length shelves.old) }
-    ensures plays { Plays S.left S.faults T.kept T.counts source.old source.new shelves.old
-        shelves.new board result.0 run.old run.new }
-    ensures follows { Follows S.left S.faults T.kept T.counts
-        (round_of (length run.old.workers.items))
-        (moment source.old shelves.old board run.old)
-        (moment source.new shelves.new result.0 run.new) }
+    ensures plays { let m = streams S.left S.faults T.kept T.counts in
+        PlaysBy (Follows (round_of (length run.old.workers.items)))
+        (moment_at m source.old shelves.old board run.old)
+        (moment_at m source.new shelves.new result.0 run.new) }
     ensures answer { MatchBool result.1 (run_steps board run.old < run_steps result.0 run.new)
         (AreStuck result.0 run.new) }
 {
@@ -70,14 +66,13 @@ pub fn play_rounds<S: Source, T: Shelf>(
     shelves: &mut [T],
 ) -> PlainBoard
     requires fits { RunFits board run.old (length shelves.old) }
-    requires plan { IsOfPlan S.left S.faults T.kept T.counts source.old shelves.old board run.old }
+    requires plan { let m = streams S.left S.faults T.kept T.counts in
+        IsOfPlan (moment_at m source.old shelves.old board run.old) }
     ensures over { AreOver run.new }
-    ensures plays { Plays S.left S.faults T.kept T.counts source.old source.new shelves.old
-        shelves.new board result run.old run.new }
-    ensures follows { (rounds : ℕ)
-        × Follows S.left S.faults T.kept T.counts (rounds_of (length run.old.workers.items) rounds)
-        (moment source.old shelves.old board run.old)
-        (moment source.new shelves.new result run.new) }
+    ensures plays { let m = streams S.left S.faults T.kept T.counts in
+        PlaysBy (FollowsRounds (length run.old.workers.items))
+        (moment_at m source.old shelves.old board run.old)
+        (moment_at m source.new shelves.new result run.new) }
 {
     loop {
         let (next, did) = play_round(board, run, source, shelves);

@@ -1,9 +1,9 @@
 //! A whole run.
 
 ghost use Rattle.std.specs.Prelude.{◌≡◌, ◌≤◌, length, vec_len, IfOk, OnErr};
-ghost use Rattle.card_feed.specs.{Counts.{sweeping_in, sweeps_in}, Plan.{IsPlan, TakesTurns}};
-ghost use Rattle.run_account.specs.Ran.{Ran, LacksMemory, told_of};
-ghost use Rattle.replay_turns.specs.{Events.{LeavesBoard}, Following.{RunsBy}, Schedule.{AreTurns}};
+ghost use Rattle.card_feed.specs.Plan.{IsPlan, TakesTurns};
+ghost use Rattle.run_account.specs.{Ran.{LacksMemory, told_of}, Views.{ends_at, streams}};
+ghost use Rattle.replay_turns.specs.{Following.{RanAlone, RanByText}, Schedule.{AreTurns}};
 
 use crate::opening::open;
 use crate::playing::{play_rounds, play_text};
@@ -34,24 +34,14 @@ pub fn run_turns<S: Source, T: Shelf>(
     requires shelves { length plan.now.ports.items ≤ vec_len shelves.old }
     requires turns { AreTurns (length plan.now.ports.items) turns.now }
     ensures many { vec_len shelves.new ≡ vec_len shelves.old }
-    // The stream theorem, what the outcome says, and that all is over at the board and it accounts for the run.
-    ensures ran { IfOk result
-        (λ it. Ran S.left S.faults T.kept T.counts source.old source.new shelves.old.items
-        shelves.new.items plan.now
-        (told_of it.0) it.1.nic it.1.apps) }
-    // Its turns were those of the text, one a letter, and then whole rounds.
-    ensures follows { IfOk result
-        (λ it. RunsBy S.left S.faults T.kept T.counts source.old source.new shelves.old.items
-        shelves.new.items plan.now
-        turns.now (told_of it.0) it.1) }
-    // Each sweep of the free list was made by a search that is counted as one that swept it.
-    ensures swept { IfOk result (λ it. sweeping_in it.0.pool ≡ sweeps_in it.1.nic.view) }
-    // The board is sound, and its log tells of it, which has room for the most events where the plan asks for a log.
-    ensures leaves { IfOk result (λ it. LeavesBoard plan.now it.1) }
+    // The stream theorem, what the outcome says and the board; and its turns were those of the text, and then whole rounds.
+    ensures ran { let m = streams S.left S.faults T.kept T.counts in
+        IfOk result (λ it. RanByText (ends_at m source.old shelves.old.items)
+        (ends_at m source.new shelves.new.items) plan.now turns.now (told_of it.0) it.1) }
     // Want of memory comes before the first turn or behind the last.
-    ensures lacks { OnErr result
-        (LacksMemory S.left S.faults T.kept T.counts source.old source.new shelves.old.items
-        shelves.new.items plan.now) }
+    ensures lacks { let m = streams S.left S.faults T.kept T.counts in
+        OnErr result (LacksMemory (ends_at m source.old shelves.old.items)
+        (ends_at m source.new shelves.new.items) plan.now) }
 {
     let (mut board, mut run) = open::<S, T>(alloc, random, plan)?;
     board = play_text(board, &mut run, source, shelves, turns);
@@ -79,17 +69,14 @@ pub fn run_rounds<S: Source, T: Shelf, G: Gate>(
     requires turns_only { TakesTurns plan.now }
     requires shelves { length plan.now.ports.items ≤ vec_len shelves.old }
     ensures many { vec_len shelves.new ≡ vec_len shelves.old }
-    // The stream theorem, what the outcome says, and that all is over at the board and it accounts for the run.
-    ensures ran { IfOk result
-        (λ it. Ran S.left S.faults T.kept T.counts source.old source.new shelves.old.items
-        shelves.new.items plan.now
-        (told_of it.0) it.1.nic it.1.apps) }
-    // The board is sound, and its log tells of it, which has the room that the plan asks for.
-    ensures leaves { IfOk result (λ it. LeavesBoard plan.now it.1) }
+    // The stream theorem, what the outcome says and the board.
+    ensures ran { let m = streams S.left S.faults T.kept T.counts in
+        IfOk result (λ it. RanAlone (ends_at m source.old shelves.old.items)
+        (ends_at m source.new shelves.new.items) plan.now (told_of it.0) it.1) }
     // Want of memory comes before the first turn or behind the last.
-    ensures lacks { OnErr result
-        (LacksMemory S.left S.faults T.kept T.counts source.old source.new shelves.old.items
-        shelves.new.items plan.now) }
+    ensures lacks { let m = streams S.left S.faults T.kept T.counts in
+        OnErr result (LacksMemory (ends_at m source.old shelves.old.items)
+        (ends_at m source.new shelves.new.items) plan.now) }
 {
     let (mut board, mut run) = open::<S, T>(alloc, random, plan)?;
     board = play_waiting(gate, board, &mut run, source, shelves);

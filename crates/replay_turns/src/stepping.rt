@@ -1,7 +1,8 @@
 //! One turn of a role.
 
 ghost use Rattle.std.specs.Prelude.{◌<◌, length, MatchBool};
-ghost use Rattle.replay_turns.specs.{Following.{Moves, moment}, Rounds.{DidNothing}, Running.{RunFits, Plays}, Schedule.{IsRole}, Steps.{run_steps}, declared.role.Role.TheVariants.{App}};
+ghost use Rattle.run_account.specs.Views.{streams};
+ghost use Rattle.replay_turns.specs.{Following.{Moves}, Rounds.{DidNothing}, Running.{RunFits, PlaysBy, moment_at}, Schedule.{IsRole}, Steps.{run_steps}, declared.role.Role.TheVariants.{App}};
 
 use crate::Role;
 use crate::board_turns::{app_step, card_step};
@@ -19,14 +20,11 @@ fn app_turn<S: Source, T: Shelf>(
 ) -> (PlainBoard, bool)
     requires fits { RunFits board run.old (length shelves.old) }
     requires app { app < length run.old.workers.items }
-    ensures plays { (source : S)
-        → Plays S.left S.faults T.kept T.counts source source shelves.old shelves.new board result.0
-        run.old run.new }
+    ensures plays { (source : S) → let m = streams S.left S.faults T.kept T.counts in
+        PlaysBy (Moves (App app)) (moment_at m source shelves.old board run.old)
+        (moment_at m source shelves.new result.0 run.new) }
     ensures answer { MatchBool result.1 (run_steps board run.old < run_steps result.0 run.new)
         (DidNothing (App app) board result.0 run.old run.new) }
-    ensures moves { (source : S)
-        → Moves S.left S.faults T.kept T.counts (App app) (moment source shelves.old board run.old)
-        (moment source shelves.new result.0 run.new) }
 {
     if run.workers[app as usize].left {
         return (board, false);
@@ -49,13 +47,11 @@ pub fn step<S: Source, T: Shelf>(
 ) -> (PlainBoard, bool)
     requires fits { RunFits board run.old (length shelves.old) }
     requires role { IsRole (length run.old.workers.items) role }
-    ensures plays { Plays S.left S.faults T.kept T.counts source.old source.new shelves.old
-        shelves.new board result.0 run.old run.new }
+    ensures plays { let m = streams S.left S.faults T.kept T.counts in
+        PlaysBy (Moves role) (moment_at m source.old shelves.old board run.old)
+        (moment_at m source.new shelves.new result.0 run.new) }
     ensures answer { MatchBool result.1 (run_steps board run.old < run_steps result.0 run.new)
         (DidNothing role board result.0 run.old run.new) }
-    ensures moves { Moves S.left S.faults T.kept T.counts role
-        (moment source.old shelves.old board run.old)
-        (moment source.new shelves.new result.0 run.new) }
 {
     match role {
         Role::Card => {

@@ -1,10 +1,10 @@
 //! Rounds that no text orders. No record is read while an application has something to do: so each frame's buffers come back before the
 //! next is offered, and none lies about while a source has no more.
 
-ghost use Rattle.std.specs.Prelude.{◌≡◌, ◌<◌, ◌≤◌, List, MatchBool, length, true};
+ghost use Rattle.std.specs.Prelude.{◌≤◌, length};
 ghost use Rattle.card_feed.specs.Feed.{IsReady};
-ghost use Rattle.run_account.specs.Running.{AreOver};
-ghost use Rattle.replay_turns.specs.{Rounds.{IsOfPlan}, Running.{RunFits, Plays}, Steps.{run_steps}, Stuck.{AreStuck}};
+ghost use Rattle.run_account.specs.{Running.{AreOver}, Views.{Ends, streams}};
+ghost use Rattle.replay_turns.specs.{Rounds.{IsOfPlan, PlaysOn, RisesOrStuck}, Running.{RunFits, Plays, PlaysBy, moment, moment_at}, Steps.{run_steps}};
 
 use crate::Role;
 use crate::board_turns::card_keeps_up;
@@ -43,9 +43,9 @@ fn ask_apps<G: Gate>(gate: &G, taken: &mut Taken, run: &Run) {
 /// A turn of the card in which it reads nothing.
 fn keep_up<S: Source, T: Shelf>(board: PlainBoard, run: &mut Run) -> PlainBoard
     requires ready { IsReady run.old.feed board.nic.view }
-    ensures plays { (source : S) (shelves : List T) → RunFits board run.old (length shelves)
-        → Plays S.left S.faults T.kept T.counts source source shelves shelves board result run.old
-        run.new }
+    ensures plays { let m = streams S.left S.faults T.kept T.counts in (ends : Ends m)
+        → RunFits board run.old (length ends.shelves)
+        → Plays (moment ends board run.old) (moment ends result run.new) }
     ensures later { run_steps board run.old ≤ run_steps result run.new }
 {
     card_keeps_up(board, &mut run.feed)
@@ -59,10 +59,9 @@ fn app_round<S: Source, T: Shelf>(
     shelves: &mut [T],
 ) -> (PlainBoard, bool)
     requires fits { RunFits board run.old (length shelves.old) }
-    ensures plays { Plays S.left S.faults T.kept T.counts source.old source.new shelves.old
-        shelves.new board result.0 run.old run.new }
-    ensures later { run_steps board run.old ≤ run_steps result.0 run.new }
-    ensures rises { result.1 ≡ true → run_steps board run.old < run_steps result.0 run.new }
+    ensures { let m = streams S.left S.faults T.kept T.counts in
+        PlaysOn result.1 (moment_at m source.old shelves.old board run.old)
+        (moment_at m source.new shelves.new result.0 run.new) }
 {
     let apps = run.workers.len() as u32;
     let mut did = false;
@@ -84,10 +83,9 @@ fn settle<S: Source, T: Shelf, G: Gate>(
     shelves: &mut [T],
 ) -> (PlainBoard, bool)
     requires fits { RunFits board run.old (length shelves.old) }
-    ensures plays { Plays S.left S.faults T.kept T.counts source.old source.new shelves.old
-        shelves.new board result.0 run.old run.new }
-    ensures later { run_steps board run.old ≤ run_steps result.0 run.new }
-    ensures rises { result.1 ≡ true → run_steps board run.old < run_steps result.0 run.new }
+    ensures { let m = streams S.left S.faults T.kept T.counts in
+        PlaysOn result.1 (moment_at m source.old shelves.old board run.old)
+        (moment_at m source.new shelves.new result.0 run.new) }
 {
     if run.feed.at_hand() || run.feed.ended() {
         return (board, false);
@@ -109,10 +107,9 @@ fn waiting_round<S: Source, T: Shelf, G: Gate>(
     shelves: &mut [T],
 ) -> (PlainBoard, bool)
     requires fits { RunFits board run.old (length shelves.old) }
-    ensures plays { Plays S.left S.faults T.kept T.counts source.old source.new shelves.old
-        shelves.new board result.0 run.old run.new }
-    ensures answer { MatchBool result.1 (run_steps board run.old < run_steps result.0 run.new)
-        (AreStuck result.0 run.new) }
+    ensures { let m = streams S.left S.faults T.kept T.counts in
+        PlaysBy (RisesOrStuck result.1) (moment_at m source.old shelves.old board run.old)
+        (moment_at m source.new shelves.new result.0 run.new) }
 {
     let (board, did) = settle(gate, taken, board, run, source, shelves);
     if did {
@@ -132,10 +129,12 @@ pub fn play_waiting<S: Source, T: Shelf, G: Gate>(
     shelves: &mut [T],
 ) -> PlainBoard
     requires fits { RunFits board run.old (length shelves.old) }
-    requires plan { IsOfPlan S.left S.faults T.kept T.counts source.old shelves.old board run.old }
+    requires plan { let m = streams S.left S.faults T.kept T.counts in
+        IsOfPlan (moment_at m source.old shelves.old board run.old) }
     ensures over { AreOver run.new }
-    ensures plays { Plays S.left S.faults T.kept T.counts source.old source.new shelves.old
-        shelves.new board result run.old run.new }
+    ensures plays { let m = streams S.left S.faults T.kept T.counts in
+        Plays (moment_at m source.old shelves.old board run.old)
+        (moment_at m source.new shelves.new result run.new) }
 {
     let mut taken = Taken { card: 0, app: 0 };
     loop {

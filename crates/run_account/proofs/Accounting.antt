@@ -1,8 +1,8 @@
 -- The sides of the roles of a run that is over account for it.
-use Rattle.std.{proofs.Common.{◌≡◌, ℕ, ◌<◌, ◌==◌, List, length, map, Option, Some, sym, ap, subst, ◌∙◌, arith}, specs.{Prelude.{All}, List.{slice_get}}}
+use Rattle.std.{proofs.Common.{◌≡◌, ℕ, ◌<◌, ◌==◌, List, length, map, Some, sym, ap, subst, ◌∙◌, arith}, specs.{Prelude.{All}, List.{slice_get}}}
 use Rattle.std.proofs.lemmas.{List.Elements.{All-filter}, Option.{slice_get_within}}
 use Rattle.zr_kinds.specs.declared.outcome.AppLine.{AppLine}
-use Rattle.zr_io.specs.Moved.{Gained, ShelfCounts}
+use Rattle.zr_io.specs.Moved.{Gained}
 use Rattle.flow_table.specs.{Steered.{SteeredTcp}, Flows.{flows_of}}
 use Rattle.frames_read.specs.Ending.{steered_in}
 use Rattle.board_face.specs.{Blank.{blank_app}, Ended.{HaveEnded, IsServed}, Sides.{IsApp, side_in}, Holders.{sent_to}}
@@ -11,9 +11,9 @@ use Rattle.board_face.proofs.SideLemmas.{IsApp-at}
 use Rattle.page_pool.specs.Frames.{ShowFrames}
 use Rattle.app_worker.specs.Marks.{FramesStandTogether, marks_of}
 use Rattle.flow_queues.specs.{Ends.{AppEnd, HasLeft}, Returned.{HasReturned}}
-use Rattle.card_feed.specs.{Account.{offered_to, kept_in, AppAccounts, AccountsFor, IsFlowRead}, Feed.{FeedState}, Sent.{IsOfOwnFlow}, Plan.{how_of}}
+use Rattle.card_feed.specs.{Account.{offered_to, AppAccounts, AccountsFor, IsFlowRead}, Feed.{FeedState}, Sent.{IsOfOwnFlow}, Plan.{how_of}}
 use Rattle.card_feed.{specs.declared.plan.Plan.{Plan}, proofs.{Sharing.{closed_show}, SentNotes.{notes-whole, notes-own}, OwnFlows.{own-marks}, OfFlow.{there}}}
-use Rattle.run_account.{specs.{Ran.{line_of, lines_of}, Running.{HasRun, losses_in}}, proofs.{AppLines.{one-value, line-at, many-lines}, Gone.{side-at, many-sides}}}
+use Rattle.run_account.{specs.{Ran.{line_of, lines_of}, Running.{HasRun}, Views.{Ends, Streams, counts_at, kept_at}}, proofs.{AppLines.{one-value, line-at, many-lines}, Gone.{side-at, many-sides}}}
 use Rattle.run_account.proofs.OwnReads.{flow-read, no-flow-read}
 
 -- What was sent to an application, and what it took and read.
@@ -33,10 +33,9 @@ pub record IsLineAt (ports : List ℕ) (ends : List AppEnd) (a : ℕ) (line : Ap
   pub end_at : slice_get ends a ≡ Some end
   pub is : line ≡ line_of port end
 
-module _ {S T : Type 0} (left : S → Option (List ℕ)) (faults : S → ℕ) (kept : T → ℕ → Option (List ℕ)) (losses : T → ShelfCounts)
-    (source source_now : S) (shelves shelves_now : List T) (plan : Plan) (nic : NicSide) (apps : List AppSide) (feed : FeedState)
+module _ {S T : Type 0} {m : Streams S T} (was now : Ends m) (plan : Plan) (nic : NicSide) (apps : List AppSide) (feed : FeedState)
     (ends : List AppEnd) (ended : HaveEnded nic apps)
-    (runs : HasRun left faults kept losses source source_now shelves shelves_now plan nic apps feed ends) where
+    (runs : HasRun was now plan nic apps feed ends) where
   sides : length apps ≡ length plan.ports.items
   sides = many-sides plan nic apps ended.one_setting runs.setting
 
@@ -48,7 +47,8 @@ module _ {S T : Type 0} (left : S → Option (List ℕ)) (faults : S → ℕ) (k
   told a app here =
       let one : IsServed nic app = subst (IsServed nic) here.is (ended.served a app here.there) in
       let shown : ShowFrames plan.options.split (offered_to a feed.refused (steered_in plan.ports.items runs.frames)) (sent_to a nic) =
-      closed_show left faults source source_now plan.ports.items plan.options.split runs.frames feed nic runs.stands runs.ready runs.closed a in
+      closed_show m.source.left m.source.failed was.source now.source plan.ports.items plan.options.split runs.frames feed nic runs.stands runs.ready
+      runs.closed a in
       let taken : app.view.taken ≡ map as_taken (sent_to a nic) =
       subst (λ b. app.view.taken ≡ map as_taken (sent_to b nic)) here.number one.taken in
       let proper : All IsProper (sent_to a nic) = All-filter (λ s. s.app == a) IsProper nic.view.sent ended.proper in
@@ -63,10 +63,9 @@ module _ {S T : Type 0} (left : S → Option (List ℕ)) (faults : S → ℕ) (k
       }
 
   pub left-at : (a : ℕ) (app : AppSide) (end : AppEnd) → IsApp apps a app → slice_get ends a ≡ Some end
-      → HasLeft (how_of plan) (kept_in kept shelves a) (kept_in kept shelves_now a) (losses_in losses shelves a) (losses_in losses shelves_now a)
-      app.view end
-  left-at a app end here at = subst (λ (side : AppSide). HasLeft (how_of plan) (kept_in kept shelves a) (kept_in kept shelves_now a)
-      (losses_in losses shelves a) (losses_in losses shelves_now a) side.view end) (side-at apps a app here) (runs.app a end at)
+      → HasLeft (how_of plan) (kept_at was a) (kept_at now a) (counts_at was a) (counts_at now a) app.view end
+  left-at a app end here at = subst (λ (side : AppSide). HasLeft (how_of plan) (kept_at was a) (kept_at now a)
+      (counts_at was a) (counts_at now a) side.view end) (side-at apps a app here) (runs.app a end at)
 
   pub line-known : (a : ℕ) (line : AppLine) → slice_get (lines_of plan.ports.items ends) a ≡ Some line
       → IsLineAt plan.ports.items ends a line
@@ -107,14 +106,15 @@ module _ {S T : Type 0} (left : S → Option (List ℕ)) (faults : S → ℕ) (k
       })
 
   flow-accounts : (number a : ℕ) (app : AppSide) (line : AppLine) → IsApp apps a app → slice_get (lines_of plan.ports.items ends) a ≡ Some line
-      → Gained (kept_in kept shelves a number) (kept_in kept shelves_now a number) (IsFlowRead app line.stopped number)
+      → Gained (kept_at was a number) (kept_at now a number) (IsFlowRead app line.stopped number)
   flow-accounts number a app line here at =
       let known = line-known a line at in
-      subst (λ (l : AppLine). Gained (kept_in kept shelves a number) (kept_in kept shelves_now a number) (IsFlowRead app l.stopped number)) (sym known.is)
-      (flow-read (kept_in kept shelves a) (kept_in kept shelves_now a) (losses_in losses shelves a) (losses_in losses shelves_now a) (how_of plan) app
+      subst (λ (l : AppLine). Gained (kept_at was a number) (kept_at now a number) (IsFlowRead app l.stopped number)) (sym known.is)
+      (flow-read (kept_at was a) (kept_at now a) (counts_at was a) (counts_at now a) (how_of plan) app
       known.end (left-at a app known.end here known.end_at) (told a app here).whole number)
 
-  pub accounts : AccountsFor kept shelves shelves_now plan runs.frames feed.refused nic apps (lines_of plan.ports.items ends) feed.pool.stats.strays
+  pub accounts : AccountsFor m.shelf.kept was.shelves now.shelves plan runs.frames feed.refused nic apps (lines_of plan.ports.items ends)
+      feed.pool.stats.strays
   accounts = record {
     opened = runs.setting;
     ended = ended.card;
@@ -129,7 +129,7 @@ module _ {S T : Type 0} (left : S → Option (List ℕ)) (faults : S → ℕ) (k
         let own = there ends a (omega (arith, within, runs.many)) in
         let app : AppSide = side_in apps a in
         let has = told a app (side-is a within) in
-        no-flow-read (kept_in kept shelves a) (kept_in kept shelves_now a) (losses_in losses shelves a) (losses_in losses shelves_now a) (how_of plan)
+        no-flow-read (kept_at was a) (kept_at now a) (counts_at was a) (counts_at now a) (how_of plan)
         app own.0 (runs.app a own.0 own.1) has.whole number
         (ap (marks_of number) has.taken ∙ own-marks (flows_of (steered_in plan.ports.items runs.frames)) a (sent_to a nic) has.own number none);
     strays_are = runs.stands.knows.counted.strays;

@@ -5,13 +5,13 @@ use Rattle.std.{specs.Io.KnownBytes.{Keeps}, proofs.{KnownBytes.{Keeps-refl}, le
 use Rattle.std.proofs.lemmas.Option.{slice_get_within}
 use Rattle.zr_kinds.specs.{Limits.{most_records}, declared.outcome.{AppLine.{AppLine}, FlowLine.{FlowLine}, PoolStats.{PoolStats}}}
 use Rattle.zr_kinds.specs.declared.behaviour.Stopped.TheVariants as stop
-use Rattle.zr_io.specs.Moved.{Gained, ShelfCounts}
+use Rattle.zr_io.specs.Moved.{Gained}
 use Rattle.flow_table.specs.{Flows.{Flow, flows_of}, Stream.{stream_of}}
 use Rattle.frames_read.specs.{Ending.{steered_in}, Reading.{HasEnded}}
 use Rattle.board_face.specs.{Ended.{HaveEnded}, Sides.{IsApp, side_in}, declared.views.{nic.NicSide.{NicSide}, app.AppSide.{AppSide}}}
 use Rattle.page_pool.specs.Pool.{all_notes}
 use Rattle.flow_queues.specs.Ends.{AppEnd, IsCounted, IsTorn, bytes_in}
-use Rattle.card_feed.specs.{Account.{AccountsFor, IsStreamedTo, kept_in}, Coming.{ComesTo, is_over}, Feed.{FeedState, end_of}}
+use Rattle.card_feed.specs.{Account.{AccountsFor, IsStreamedTo}, Coming.{ComesTo, is_over}, Feed.{FeedState, end_of}}
 use Rattle.card_feed.specs.{Offered.{AreRefused, AreSettled, offers_of}, Outcomes.{AreLinesOf, line_of as flow_line_of}, declared.intake.Stage.{Stage}, Plan.{how_of}}
 use Rattle.card_feed.{specs.{declared.plan.Plan.{Plan}, Counts.{AreCounted, begins_fresh, found_in, is_long, long_in, searches_in}}, proofs.Bridge.{give_streams}}
 use Rattle.card_feed.specs.{Counts.{sweeping_in, sweeps_in}, declared.outcome.Outcome.{Outcome}}
@@ -19,7 +19,7 @@ use Rattle.card_feed.{specs.Need.{AreNeeded, RefusesByNeed}, proofs.{Needing.{re
 use Rattle.card_feed.specs.declared.intake.Stage.TheVariants as stage
 use Rattle.run_account.specs.Laws.{RunsAreTold, RunsEndWell}
 use Rattle.run_account.specs.Ran.{There, IsLineOf, IsStreamed, HasFailed, IsAppLine, all_loans, line_of, lines_of, AreCounts, Ran, TellsOfEnds, Told, told_of}
-use Rattle.run_account.{specs.Running.{HasRun, losses_in}, proofs.AppLines.{one-value, is-there, line-at, many-lines, ports-of-lines}}
+use Rattle.run_account.{specs.{Running.{HasRun}, Views.{Ends, Streams, counts_at, failed_at, kept_at, left_at}}, proofs.AppLines.{one-value, is-there, line-at, many-lines, ports-of-lines}}
 use Rattle.run_account.proofs.{Accounting.{IsTold, told, line-known, side-is, accounts}, Counted.{gained-both}, Ports.{flows-have-apps}}
 use Rattle.run_account.{proofs.{SentFew.{frames-read, offers-few}, Strays.{strays-within}, Tellable.{OutcomeTells, all-told, all-tells}}, specs.Ways.{HasCome}}
 use Rattle.run_account.proofs.Written.{all-own, app-below, flow-line, written-is}
@@ -46,32 +46,29 @@ same-beyond n xs ys i same behind =
     ap (slice_get xs) (sym place) ∙ sym (slice-drop n xs (i - n)) ∙ ap (λ zs. slice_get zs (i - n)) same ∙ slice-drop n ys (i - n)
     ∙ ap (slice_get ys) place
 
-module _ {S T : Type 0} (left : S → Option (List ℕ)) (faults : S → ℕ) (kept : T → ℕ → Option (List ℕ)) (losses : T → ShelfCounts)
-    (source source_now : S) (shelves shelves_now : List T) (plan : Plan) (nic : NicSide) (apps : List AppSide) (feed : FeedState)
+module _ {S T : Type 0} {m : Streams S T} (was now : Ends m) (plan : Plan) (nic : NicSide) (apps : List AppSide) (feed : FeedState)
     (ends : List AppEnd) (told_is : Told) (ended : HaveEnded nic apps)
-    (runs : HasRun left faults kept losses source source_now shelves shelves_now plan nic apps feed ends)
+    (runs : HasRun was now plan nic apps feed ends)
     (tells : OutcomeTells feed ends plan.ports.items told_is) where
   here-is : (a : ℕ) → a < length plan.ports.items → IsApp apps a (side_in apps a)
-  here-is = side-is left faults kept losses source source_now shelves shelves_now plan nic apps feed ends ended runs
+  here-is = side-is was now plan nic apps feed ends ended runs
 
   told-at : (a : ℕ) → a < length plan.ports.items
       → IsTold plan.options.split (steered_in plan.ports.items runs.frames) feed.refused nic a (side_in apps a)
-  told-at a within = told left faults kept losses source source_now shelves shelves_now plan nic apps feed ends ended runs a (side_in apps a)
-      (here-is a within)
+  told-at a within = told was now plan nic apps feed ends ended runs a (side_in apps a) (here-is a within)
 
   end-there : (a : ℕ) → a < length plan.ports.items → (end : AppEnd) × (slice_get ends a ≡ Some end)
   end-there a within = there ends a (omega (arith, within, runs.many))
 
-  accounts-told : AccountsFor kept shelves shelves_now plan runs.frames told_is.refused nic apps told_is.apps
+  accounts-told : AccountsFor m.shelf.kept was.shelves now.shelves plan runs.frames told_is.refused nic apps told_is.apps
       told_is.pool.strays
   accounts-told =
-      subst (λ refused. AccountsFor kept shelves shelves_now plan runs.frames refused nic apps told_is.apps told_is.pool.strays)
+      subst (λ refused. AccountsFor m.shelf.kept was.shelves now.shelves plan runs.frames refused nic apps told_is.apps told_is.pool.strays)
       (sym tells.refused)
-      (subst (λ lines. AccountsFor kept shelves shelves_now plan runs.frames feed.refused nic apps lines told_is.pool.strays)
+      (subst (λ lines. AccountsFor m.shelf.kept was.shelves now.shelves plan runs.frames feed.refused nic apps lines told_is.pool.strays)
       (sym tells.apps_are)
-      (subst (λ (stats : PoolStats). AccountsFor kept shelves shelves_now plan runs.frames feed.refused nic apps
-      (lines_of plan.ports.items ends) stats.strays) (sym tells.pool)
-      (accounts left faults kept losses source source_now shelves shelves_now plan nic apps feed ends ended runs)))
+      (subst (λ (stats : PoolStats). AccountsFor m.shelf.kept was.shelves now.shelves plan runs.frames feed.refused nic apps
+      (lines_of plan.ports.items ends) stats.strays) (sym tells.pool) (accounts was now plan nic apps feed ends ended runs)))
 
   counts-are : AreCounts (flows_of (steered_in plan.ports.items runs.frames)) ends tells.counts
   counts-are = subst (λ flows. AreCounts flows ends tells.counts) runs.stands.knows.flows_are tells.are
@@ -112,7 +109,7 @@ module _ {S T : Type 0} (left : S → Option (List ℕ)) (faults : S → ℕ) (k
 
   strays-few : told_is.pool.strays ≤ (how_of plan).stray * all_loans told_is.apps
   strays-few =
-      let most = strays-within left faults kept losses source source_now shelves shelves_now plan nic apps feed ends ended runs in
+      let most = strays-within was now plan nic apps feed ends ended runs in
       subst (λ lines. told_is.pool.strays ≤ (how_of plan).stray * all_loans lines) (sym tells.apps_are) (omega (arith, counted.strays, most))
 
   -- there are too few searches for a count to stop
@@ -125,7 +122,8 @@ module _ {S T : Type 0} (left : S → Option (List ℕ)) (faults : S → ℕ) (k
         searched,
         few,
         offers-few plan.ports.items runs.frames,
-        frames-read left faults source source_now plan.ports.items plan.options.split runs.frames feed nic.view runs.stands runs.records,
+        frames-read m.source.left m.source.failed was.source now.source plan.ports.items plan.options.split runs.frames feed nic.view runs.stands
+            runs.records,
       )
 
   -- as many found too few as frames were refused
@@ -150,23 +148,23 @@ module _ {S T : Type 0} (left : S → Option (List ℕ)) (faults : S → ℕ) (k
 
   one-stream : (number port : ℕ) (flow : Flow) (end : AppEnd) → slice_get (flows_of (steered_in plan.ports.items runs.frames)) number ≡ Some flow
       → slice_get plan.ports.items flow.app ≡ Some port → slice_get ends flow.app ≡ Some end → flow.app < length plan.ports.items
-      → Gained (kept_in kept shelves flow.app number) (kept_in kept shelves_now flow.app number)
+      → Gained (kept_at was flow.app number) (kept_at now flow.app number)
       (λ bytes. IsStreamed end.stopped (stream_of (steered_in plan.ports.items runs.frames) told_is.refused number) bytes
       (bytes_in number end.flows))
   one-stream number port flow end at port_at end_at within =
       let stream : List ℕ = stream_of (steered_in plan.ports.items runs.frames) told_is.refused number in
       let count : ℕ = bytes_in number end.flows in
-      let streamed = give_streams kept shelves shelves_now plan runs.frames told_is.refused nic apps told_is.apps
+      let streamed = give_streams m.shelf.kept was.shelves now.shelves plan runs.frames told_is.refused nic apps told_is.apps
       told_is.pool.strays accounts-told number flow (side_in apps flow.app) (line_of port end) at (here-is flow.app within)
       (app-line-at flow.app port end port_at end_at) (told-at flow.app within).reads in
-      gained-both (kept_in kept shelves flow.app number) (kept_in kept shelves_now flow.app number)
+      gained-both (kept_at was flow.app number) (kept_at now flow.app number)
       (IsStreamedTo end.stopped stream) (IsCounted end.stopped count) (λ bytes. IsStreamed end.stopped stream bytes count)
       (λ bytes s c. record { rest = s.rest; front = s.front; whole = s.whole; counted = c.counted; at_least = c.at_least })
       streamed ((runs.app flow.app end end_at).counted number)
 
   streams : (number : ℕ) (flow : Flow) → slice_get (flows_of (steered_in plan.ports.items runs.frames)) number ≡ Some flow
       → There (slice_get told_is.flows number) (λ line. There (slice_get told_is.apps flow.app) (λ app.
-      IsLineOf flow line × Gained (kept_in kept shelves flow.app number) (kept_in kept shelves_now flow.app number)
+      IsLineOf flow line × Gained (kept_at was flow.app number) (kept_at now flow.app number)
       (λ bytes. IsStreamed app.stopped (stream_of (steered_in plan.ports.items runs.frames) told_is.refused number) bytes line.bytes)))
   streams number flow at =
       let have = flows-have-apps plan.ports.items runs.frames in
@@ -179,18 +177,19 @@ module _ {S T : Type 0} (left : S → Option (List ℕ)) (faults : S → ℕ) (k
       (record { port = refl; base = refl; fin = refl; end = refl }, one-stream number port flow end at port_at end_at below))
 
   others : (a number : ℕ) → option_map (λ (flow : Flow). flow.app) (slice_get (flows_of (steered_in plan.ports.items runs.frames)) number) ≢ Some a
-      → Keeps (kept_in kept shelves a number) (kept_in kept shelves_now a number)
+      → Keeps (kept_at was a number) (kept_at now a number)
   others a number other = ⊎_elim
       (λ (below : a < length plan.ports.items). accounts-told.others a number (omega (arith, below, accounts-told.many_apps))
       (λ flow at same. other (ap (option_map (λ (f : Flow). f.app)) at ∙ ap Some same)))
       (λ (past : length plan.ports.items ≤ a).
-      let same : kept_in kept shelves_now a number ≡ kept_in kept shelves a number =
-      ap (option_and_then (λ (shelf : T). kept shelf number)) (same-beyond (length plan.ports.items) shelves_now shelves a runs.beyond past) in
-      subst (λ now. Keeps (kept_in kept shelves a number) now) (sym same) (Keeps-refl (kept_in kept shelves a number)))
+      let same : kept_at now a number ≡ kept_at was a number =
+      ap (option_and_then (λ (shelf : T). m.shelf.kept shelf number))
+      (same-beyond (length plan.ports.items) now.shelves was.shelves a runs.beyond past) in
+      subst (Keeps (kept_at was a number)) (sym same) (Keeps-refl (kept_at was a number)))
       (cases_lt a (length plan.ports.items))
 
   one-app : (a port : ℕ) (end : AppEnd) → slice_get plan.ports.items a ≡ Some port → slice_get ends a ≡ Some end → a < length plan.ports.items
-      → IsAppLine (how_of plan) port (losses_in losses shelves a) (losses_in losses shelves_now a) told_is.flows (line_of port end)
+      → IsAppLine (how_of plan) port (counts_at was a) (counts_at now a) told_is.flows (line_of port end)
   one-app a port end port_at end_at within =
       let went = runs.app a end end_at in
       let has = told-at a within in
@@ -210,7 +209,7 @@ module _ {S T : Type 0} (left : S → Option (List ℕ)) (faults : S → ℕ) (k
       }
 
   app-lines : (a port : ℕ) → slice_get plan.ports.items a ≡ Some port
-      → There (slice_get told_is.apps a) (IsAppLine (how_of plan) port (losses_in losses shelves a) (losses_in losses shelves_now a) told_is.flows)
+      → There (slice_get told_is.apps a) (IsAppLine (how_of plan) port (counts_at was a) (counts_at now a) told_is.flows)
   app-lines a port port_at =
       let within = slice_get_within plan.ports.items a port port_at in
       let (end, end_at) = end-there a within in
@@ -218,9 +217,9 @@ module _ {S T : Type 0} (left : S → Option (List ℕ)) (faults : S → ℕ) (k
 
   -- where its shelf failed
   failed-at : (a : ℕ) (app : AppLine) → slice_get told_is.apps a ≡ Some app → app.stopped ≡ stop.Write
-      → HasFailed kept shelves shelves_now (flows_of (steered_in plan.ports.items runs.frames)) told_is.flows a (side_in apps a).view
+      → HasFailed was now (flows_of (steered_in plan.ports.items runs.frames)) told_is.flows a (side_in apps a).view
   failed-at a line at is_write =
-      let known = line-known left faults kept losses source source_now shelves shelves_now plan nic apps feed ends ended runs a line
+      let known = line-known was now plan nic apps feed ends ended runs a line
       (ap (λ lines. slice_get lines a) (sym tells.apps_are) ∙ at) in
       let end : AppEnd = known.end in
       let within = slice_get_within plan.ports.items a known.port known.port_at in
@@ -232,25 +231,25 @@ module _ {S T : Type 0} (left : S → Option (List ℕ)) (faults : S → ℕ) (k
             let is : flow_line_of flow (bytes_in number end.flows) ≡ flow_line = one-value (sym (flow-line plan.ports.items _ ends
             tells.counts told_is.flows (flows-have-apps plan.ports.items runs.frames) counts-are lines-are number flow end flow_at same)
             ∙ flow_line_at) in
-            subst (λ (l : FlowLine). Gained (kept_in kept shelves a number) (kept_in kept shelves_now a number)
+            subst (λ (l : FlowLine). Gained (kept_at was a number) (kept_at now a number)
             (IsTorn (side_in apps a).view fails.torn number l.bytes)) is (fails.each number);
       }
 
   -- and by what turns it came to its line
   came-to : (a port : ℕ) (line : AppLine) → slice_get plan.ports.items a ≡ Some port → slice_get told_is.apps a ≡ Some line
       → (end : AppEnd) × (line ≡ line_of port end)
-      × HasCome plan (kept_in kept shelves a) (kept_in kept shelves_now a) (losses_in losses shelves a) (losses_in losses shelves_now a)
-      (side_in apps a).view end
+      × HasCome plan (kept_at was a) (kept_at now a) (counts_at was a) (counts_at now a) (side_in apps a).view end
   came-to a port line port_at at =
       let within = slice_get_within plan.ports.items a port port_at in
       let (end, end_at) = end-there a within in
       (end, one-value (sym at ∙ app-line-at a port end port_at end_at), runs.came a end end_at)
 
-  ran : Ran left faults kept losses source source_now shelves shelves_now plan told_is nic apps
+  ran : Ran was now plan told_is nic apps
   ran = record {
     before = runs.frames;
-    ended = subst (HasEnded _ (left source) (left source_now) (faults source) (faults source_now) plan.ports.items runs.frames) (sym tells.end)
-        (comes-over _ left faults source source_now plan.ports.items feed.stage runs.frames (runs.ready.fits.over runs.closed) runs.stands.comes);
+    ended = subst (HasEnded _ (left_at was) (left_at now) (failed_at was) (failed_at now) plan.ports.items runs.frames) (sym tells.end)
+        (comes-over _ m.source.left m.source.failed was.source now.source plan.ports.items feed.stage runs.frames
+        (runs.ready.fits.over runs.closed) runs.stands.comes);
     tally = tells.tally ∙ runs.stands.knows.tally_is;
     refused = refused-are;
     need = by-need;
@@ -294,26 +293,21 @@ outcome-tells feed ends ports outcome tells = record {
 }
 
 -- Once all are gone, the outcome that is told is that of the run.
-pub end-well : {S T : Type 0} (left : S → Option (List ℕ)) (faults : S → ℕ) (kept : T → ℕ → Option (List ℕ)) (losses : T → ShelfCounts)
-    → RunsEndWell left faults kept losses
-end-well left faults kept losses source source_now shelves shelves_now plan nic apps feed ends outcome ended runs tells =
-    ran left faults kept losses source source_now shelves shelves_now plan nic apps feed ends (told_of outcome) ended runs
-    (outcome-tells feed ends plan.ports.items outcome tells)
+pub end-well : {S T : Type 0} (m : Streams S T) → RunsEndWell m
+end-well m was now plan nic apps feed ends outcome ended runs tells =
+    ran was now plan nic apps feed ends (told_of outcome) ended runs (outcome-tells feed ends plan.ports.items outcome tells)
 
 -- It tells of no more searches than records are read at most.
-pub end-few : {S T : Type 0} (left : S → Option (List ℕ)) (faults : S → ℕ) (kept : T → ℕ → Option (List ℕ)) (losses : T → ShelfCounts)
-    (source source_now : S) (shelves shelves_now : List T) (plan : Plan) (nic : NicSide) (apps : List AppSide) (feed : FeedState)
-    (ends : List AppEnd) (outcome : Outcome) → HaveEnded nic apps
-    → HasRun left faults kept losses source source_now shelves shelves_now plan nic apps feed ends
+pub end-few : {S T : Type 0} {m : Streams S T} (was now : Ends m) (plan : Plan) (nic : NicSide) (apps : List AppSide) (feed : FeedState)
+    (ends : List AppEnd) (outcome : Outcome) → HaveEnded nic apps → HasRun was now plan nic apps feed ends
     → TellsOfEnds feed ends plan.ports.items outcome → searches_in outcome.pool ≤ most_records
-end-few left faults kept losses source source_now shelves shelves_now plan nic apps feed ends outcome ended runs tells =
-    searches-few left faults kept losses source source_now shelves shelves_now plan nic apps feed ends (told_of outcome) ended runs
+end-few was now plan nic apps feed ends outcome ended runs tells =
+    searches-few was now plan nic apps feed ends (told_of outcome) ended runs
     (outcome-tells feed ends plan.ports.items outcome tells)
 
 -- And there is something to tell, whether there is memory for it or not.
-pub end-told : {S T : Type 0} (left : S → Option (List ℕ)) (faults : S → ℕ) (kept : T → ℕ → Option (List ℕ)) (losses : T → ShelfCounts)
-    → RunsAreTold left faults kept losses
-end-told left faults kept losses source source_now shelves shelves_now plan nic apps feed ends ended runs =
+pub end-told : {S T : Type 0} (m : Streams S T) → RunsAreTold m
+end-told m was now plan nic apps feed ends ended runs =
     let told_is = all-told feed ends plan.ports.items in
     let tells = all-tells feed ends plan.ports.items in
-    (told_is, tells.end, ran left faults kept losses source source_now shelves shelves_now plan nic apps feed ends told_is ended runs tells)
+    (told_is, tells.end, ran was now plan nic apps feed ends told_is ended runs tells)

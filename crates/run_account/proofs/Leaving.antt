@@ -7,8 +7,8 @@ use Rattle.board_face.specs.{Sides.{side_in}, declared.views.{nic.NicSide.{NicSi
 use Rattle.flow_queues.specs.{declared.queues.FlowQueue.{FlowQueue}, Ends.{AppEnd, HasLeft, IsCounted, IsTorn, bytes_in, flow_end_of, times}, Shelves.{FlowEnds}}
 use Rattle.flow_queues.specs.{Totals.{Quits, capped, lent_len, loan_entries, raw_entries}, Entries.{AreBlocks, WasLive}, Returned.{HasReturned}}
 use Rattle.app_worker.specs.{Core.{total, Each, many, own_notes, BeginAt}, StateOf.{end_of}, Kept.{flow_bytes}, State.{Bare, Common, Working}}
-use Rattle.card_feed.specs.{Account.{kept_in}, Plan.{TakesTurns, how_of}, declared.plan.Plan.{Plan}}
-use Rattle.run_account.specs.{Running.{AreOver, HasRun, RolesFit, Running, WorkerFits, WorkerRuns, ends_of, losses_in}, declared.run.{Run.{Run}, Worker.{Worker}}}
+use Rattle.card_feed.specs.{Plan.{TakesTurns, how_of}, declared.plan.Plan.{Plan}}
+use Rattle.run_account.specs.{Running.{AreOver, HasRun, RolesFit, Running, WorkerFits, WorkerRuns, ends_of}, Views.{Ends, Streams, counts_at, kept_at}, declared.run.{Run.{Run}, Worker.{Worker}}}
 use Rattle.run_account.{specs.Ways.{by_turns}, proofs.{Counted.{flow-counted}, Gone.{worker-left}, Torn.{flow-torn}}}
 
 -- ---- flows, as their numbers with their bytes
@@ -104,11 +104,10 @@ worker-of : (found : Option Worker) (end : AppEnd) → option_map (λ (u : Worke
 worker-of None end is = absurd (cc)
 worker-of (Some w) end is = (w, refl, let same : end_of w.state ≡ end = cc in same)
 
-pub has-run : {S T : Type 0} (left : S → Option (List ℕ)) (faults : S → ℕ) (kept : T → ℕ → Option (List ℕ)) (losses : T → ShelfCounts)
-    (source source_now : S) (shelves shelves_now : List T) (plan : Plan) (nic : NicSide) (apps : List AppSide) (run : Run)
-    → RolesFit nic apps run → AreOver run → Running left faults kept losses source source_now shelves shelves_now plan nic apps run
-    → HasRun left faults kept losses source source_now shelves shelves_now plan nic apps run.feed (ends_of run.workers.items)
-has-run left faults kept losses source source_now shelves shelves_now plan nic apps run fits over runs = record {
+pub has-run : {S T : Type 0} {m : Streams S T} (was now : Ends m) (plan : Plan) (nic : NicSide) (apps : List AppSide) (run : Run)
+    → RolesFit nic apps run → AreOver run → Running was now plan nic apps run
+    → HasRun was now plan nic apps run.feed (ends_of run.workers.items)
+has-run was now plan nic apps run fits over runs = record {
   plan_is = runs.plan_is;
   frames = runs.frames;
   stands = runs.feed;
@@ -120,7 +119,7 @@ has-run left faults kept losses source source_now shelves shelves_now plan nic a
   app = λ a end at.
       let (w, w_at, is) = worker-of (slice_get run.workers.items a) end
       (sym (slice_get-map (λ (u : Worker). end_of u.state) run.workers.items a) ∙ at) in
-      subst (λ how. HasLeft how (kept_in kept shelves a) (kept_in kept shelves_now a) (losses_in losses shelves a) (losses_in losses shelves_now a)
+      subst (λ how. HasLeft how (kept_at was a) (kept_at now a) (counts_at was a) (counts_at now a)
       (side_in apps a).view end) (behaves-so plan runs.by_turns)
       (subst (HasLeft plan.options.how _ _ _ _ (side_in apps a).view) is
       (has-left _ _ _ _ plan.options.how (side_in apps a).view w (fits.worker a w w_at) (runs.worker a w w_at).runs (worker-left nic apps run fits over a w w_at)));

@@ -2,7 +2,7 @@
 use Rattle.std.proofs.Common.{◌≡◌, ◌≢◌, ℕ, zero, suc, ◌<◌, List, [], ◌∷◌, ◌++◌, length, set, Option, Some, refl, ap, arith}
 use Rattle.std.specs.{Prelude.{option_and_then, option_map}, List.{slice_get}}
 use Rattle.card_feed.specs.Account.{kept_in}
-use Rattle.run_account.specs.Running.{losses_in, losses_or}
+use Rattle.run_account.specs.Views.{losses_in, losses_or}
 use Rattle.zr_io.specs.Moved.{ShelfCounts}
 
 pub get-set_same : {A : Type 0} (xs : List A) (i : ℕ) (x : A) → i < length xs → slice_get (set xs i x) i ≡ Some x

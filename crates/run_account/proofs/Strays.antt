@@ -1,6 +1,6 @@
 -- No more strays were counted than may follow the loans that were given back.
 use Rattle.std.proofs.Common.{◌≡◌, ℕ, suc, ◌+◌, ◌*◌, ◌<◌, ◌≤◌, ◌==◌, Bool, true, false, if◌then◌else◌, List, [], ◌∷◌}
-use Rattle.std.{proofs.Common.{Option, Some, length, refl, sym, ap, subst, ◌∙◌, arith}, specs.{Prelude.{All, filter}, List.{slice_get, zip}}}
+use Rattle.std.{proofs.Common.{Some, length, refl, sym, ap, subst, ◌∙◌, arith}, specs.{Prelude.{All, filter}, List.{slice_get, zip}}}
 use Rattle.std.proofs.{Math.Nat.{mul-add, mul-le-mul_left}, lemmas.{Bool.{false≢true}, List.{length-map, Elements.{All-head, All-tail, All-filter}}}}
 use Rattle.std.proofs.lemmas.{List.Sums.{sum_by-cons, length-filter}, Option.{slice_get_within}}
 use Rattle.zr_kinds.specs.declared.{outcome.AppLine.{AppLine}, ring.Rqe.{Rqe}}
@@ -11,9 +11,8 @@ use Rattle.page_pool.specs.Dealing.{is_stray, strays_in}
 use Rattle.app_worker.specs.Core.{total}
 use Rattle.flow_queues.specs.{Ends.{AppEnd}, Totals.{raw_entries, loan_entries, taken_len}}
 use Rattle.card_feed.specs.{Feed.{FeedState}, Plan.{how_of}, declared.plan.Plan.{Plan}}
-use Rattle.run_account.{specs.{Ran.{all_loans, lines_of}, Running.{HasRun}}, proofs.{Accounting.{line-known, side-is}, AppLines.{many-lines}, FlowSums.{over}}}
+use Rattle.run_account.{specs.{Ran.{all_loans, lines_of}, Running.{HasRun}, Views.{Ends, Streams}}, proofs.{Accounting.{line-known, side-is}, AppLines.{many-lines}, FlowSums.{over}}}
 use Rattle.run_account.proofs.{NoteSums.{note_len}, SentFew.{most_sent, notes-few, own-few, taken-sum}, Shares.{shares}}
-use Rattle.zr_io.specs.Moved.{ShelfCounts}
 
 abbrev one_raw : WrittenEntry → ℕ
 one_raw w = if w.of_loan then 0 else 1
@@ -79,12 +78,11 @@ strays-raw (w ∷ ws) (d ∷ ds) few none = omega (
 
 -- ---- of a run
 
-module _ {S T : Type 0} (left : S → Option (List ℕ)) (faults : S → ℕ) (kept : T → ℕ → Option (List ℕ)) (losses : T → ShelfCounts)
-    (source source_now : S) (shelves shelves_now : List T) (plan : Plan) (nic : NicSide) (apps : List AppSide) (feed : FeedState)
+module _ {S T : Type 0} {m : Streams S T} (was now : Ends m) (plan : Plan) (nic : NicSide) (apps : List AppSide) (feed : FeedState)
     (ends : List AppEnd) (ended : HaveEnded nic apps)
-    (runs : HasRun left faults kept losses source source_now shelves shelves_now plan nic apps feed ends) where
+    (runs : HasRun was now plan nic apps feed ends) where
   here-is : (a : ℕ) (end : AppEnd) → slice_get ends a ≡ Some end → IsApp apps a (side_in apps a)
-  here-is a end at = side-is left faults kept losses source source_now shelves shelves_now plan nic apps feed ends ended runs a
+  here-is a end at = side-is was now plan nic apps feed ends ended runs a
       (omega (arith, slice_get_within ends a end at, runs.many))
 
   served-at : (a : ℕ) (end : AppEnd) → slice_get ends a ≡ Some end → IsServed nic (side_in apps a)
@@ -94,7 +92,8 @@ module _ {S T : Type 0} (left : S → Option (List ℕ)) (faults : S → ℕ) (k
   took-few : (a : ℕ) (end : AppEnd) → slice_get ends a ≡ Some end → total taken_len (side_in apps a).view.taken ≤ most_sent
   took-few a end at =
       let v = (side_in apps a).view in
-      let few = notes-few left faults source source_now plan.ports.items plan.options.split runs.frames feed nic.view runs.stands runs.records ended.proper in
+      let few = notes-few m.source.left m.source.failed was.source now.source plan.ports.items plan.options.split runs.frames feed nic.view runs.stands
+      runs.records ended.proper in
       let taken : total taken_len v.taken ≡ total note_len (sent_to v.app nic) =
       ap (total taken_len) (served-at a end at).taken ∙ taken-sum (sent_to v.app nic) in
       let own = own-few v.app nic.view.sent in
@@ -145,7 +144,7 @@ module _ {S T : Type 0} (left : S → Option (List ℕ)) (faults : S → ℕ) (k
       let most : over (λ a. tally (λ (d : Dealt). d.app == a) strays) 0 (length lines) ≤ (how_of plan).stray * all_loans lines =
       within-loans (λ a. tally (λ (d : Dealt). d.app == a) strays) (how_of plan).stray lines 0
       (λ i line at.
-      let known = line-known left faults kept losses source source_now shelves shelves_now plan nic apps feed ends ended runs i line at in
+      let known = line-known was now plan nic apps feed ends ended runs i line at in
       let place : i ≡ 0 + i = omega arith in
       subst (λ n. tally (λ (d : Dealt). d.app == n) strays ≤ (how_of plan).stray * line.loans) place
       (subst (λ (l : AppLine). tally (λ (d : Dealt). d.app == i) strays ≤ (how_of plan).stray * l.loans) (sym known.is)

@@ -10,10 +10,10 @@ use Rattle.flow_table.specs.{Flows.{Flow, flows_of}, Stream.{stream_of}}
 use Rattle.frames_read.specs.{Ending.{steered_in}, Reading.{HasEnded}, Tally.{tally_of}}
 use Rattle.board_face.specs.{Ended.{HaveEnded}, Sides.{side_in}, declared.views.{nic.{NicSide.{NicSide}, NicView.{NicView}}, app.{AppSide.{AppSide}, AppView.{AppView}}}}
 use Rattle.flow_queues.specs.{Ends.{AppEnd, IsTorn, bytes_in}, Totals.{Quits}}
-use Rattle.card_feed.specs.{Account.{AccountsFor, kept_in}, Feed.{FeedState, end_of}, Counts.{begins_fresh, found_in, long_in, searches_in, sweeping_in, sweeps_in}}
+use Rattle.card_feed.specs.{Account.{AccountsFor}, Feed.{FeedState, end_of}, Counts.{begins_fresh, found_in, long_in, searches_in, sweeping_in, sweeps_in}}
 use Rattle.card_feed.specs.{Offered.{AreRefused, WantsRoom, offers_of}, Outcomes.{IsOutcomeOf, flow_end}, declared.{outcome.Outcome.{Outcome}, plan.Plan.{Plan}}}
 use Rattle.card_feed.specs.{Need.{RefusesByNeed}, Plan.{how_of}}
-use Rattle.run_account.specs.{CardTurns.{CardTurns}, Running.{ends_of, losses_in}, Ways.{HasCome}, declared.run.Run.{Run}}
+use Rattle.run_account.specs.{CardTurns.{CardTurns}, Running.{ends_of}, Views.{Ends, SourceSeen, Streams, counts_at, ends_at, failed_at, kept_at, left_at}, Ways.{HasCome}, declared.run.Run.{Run}}
 
 -- what holds of something that is there
 abbrev pub There : {A : Type 0} → Option A → (A → Type 0) → Type 0
@@ -39,11 +39,11 @@ pub record IsStreamed (stopped : Stopped) (stream bytes : List ℕ) (count : ℕ
   pub at_least : count ≤ length bytes
 
 -- The shelf of an application failed at one of its flows, and at no other.
-pub record HasFailed {T : Type 0} (kept : T → ℕ → Option (List ℕ)) (shelves shelves_now : List T) (flows : List Flow) (lines : List FlowLine)
+pub record HasFailed {S T : Type 0} {m : Streams S T} (was now : Ends m) (flows : List Flow) (lines : List FlowLine)
     (a : ℕ) (v : AppView) : Type 0 where
   pub torn : ℕ
   pub each : (number : ℕ) (flow : Flow) (line : FlowLine) → slice_get flows number ≡ Some flow → flow.app ≡ a → slice_get lines number ≡ Some line
-      → Gained (kept_in kept shelves a number) (kept_in kept shelves_now a number) (IsTorn v torn number line.bytes)
+      → Gained (kept_at was a number) (kept_at now a number) (IsTorn v torn number line.bytes)
 
 -- the bytes of the flows to a port; the count stays at 2^64 - 1 once it is there
 abbrev pub written_to : ℕ → List FlowLine → ℕ
@@ -130,12 +130,12 @@ pub record CardHasTurned (ports : List ℕ) (split : ℕ) (frames : List (List �
   pub pool : told.pool ≡ feed.pool.stats
   pub end : told.end ≡ end_of feed.stage
 
-pub record Ran {S T : Type 0} (left : S → Option (List ℕ)) (faults : S → ℕ) (kept : T → ℕ → Option (List ℕ)) (losses : T → ShelfCounts)
-    (source source_now : S) (shelves shelves_now : List T) (plan : Plan) (told : Told) (nic : NicSide) (apps : List AppSide) : Type 0 where
+pub record Ran {S T : Type 0} {m : Streams S T} (was now : Ends m) (plan : Plan) (told : Told) (nic : NicSide) (apps : List AppSide)
+    : Type 0 where
   -- the frames before the reading ended, and what ended it
   pub before : List (List ℕ)
-  pub ended : HasEnded (WantsRoom plan.options.split plan.ports.items) (left source) (left source_now) (faults source) (faults source_now)
-      plan.ports.items before told.end
+  pub ended : HasEnded (WantsRoom plan.options.split plan.ports.items) (left_at was) (left_at now) (failed_at was) (failed_at now) plan.ports.items
+      before told.end
   pub tally : told.tally ≡ tally_of plan.ports.items before
   -- the frames that were refused: in order, each a steered one of which more than `split` bytes count
   pub refused : AreRefused plan.options.split (offers_of (steered_in plan.ports.items before)) told.refused
@@ -154,67 +154,66 @@ pub record Ran {S T : Type 0} (left : S → Option (List ℕ)) (faults : S → �
   -- but those that were refused, and all of it where the flow's application wasn't stopped.
   pub flow : (number : ℕ) (flow : Flow) → slice_get (flows_of (steered_in plan.ports.items before)) number ≡ Some flow →
       There (slice_get told.flows number) (λ line. There (slice_get told.apps flow.app) (λ app.
-      IsLineOf flow line × Gained (kept_in kept shelves flow.app number) (kept_in kept shelves_now flow.app number)
+      IsLineOf flow line × Gained (kept_at was flow.app number) (kept_at now flow.app number)
       (λ bytes. IsStreamed app.stopped (stream_of (steered_in plan.ports.items before) told.refused number) bytes line.bytes)))
   pub many_flows : length told.flows ≡ length (flows_of (steered_in plan.ports.items before))
   -- No other flow of any shelf gained anything.
   pub others : (app number : ℕ) → option_map (λ (flow : Flow). flow.app) (slice_get (flows_of (steered_in plan.ports.items before)) number) ≢ Some app
-      → Keeps (kept_in kept shelves app number) (kept_in kept shelves_now app number)
+      → Keeps (kept_at was app number) (kept_at now app number)
   pub app : (number port : ℕ) → slice_get plan.ports.items number ≡ Some port
-      → There (slice_get told.apps number) (IsAppLine (how_of plan) port (losses_in losses shelves number)
-      (losses_in losses shelves_now number) told.flows)
+      → There (slice_get told.apps number) (IsAppLine (how_of plan) port (counts_at was number) (counts_at now number) told.flows)
   pub many_apps : length told.apps ≡ length plan.ports.items
   -- Where an application was stopped by its shelf, all that the shelf gained for it is counted, but for up to 4,096 bytes of one
   -- flow, all of one loan, which no entry gave back.
   pub failed : (number : ℕ) (app : AppLine) → slice_get told.apps number ≡ Some app → app.stopped ≡ stop.Write
-      → HasFailed kept shelves shelves_now (flows_of (steered_in plan.ports.items before)) told.flows number (side_in apps number).view
+      → HasFailed was now (flows_of (steered_in plan.ports.items before)) told.flows number (side_in apps number).view
   -- The shelves of no application are as they were.
-  pub many_shelves : length shelves_now ≡ length shelves
-  pub beyond : drop (length plan.ports.items) shelves_now ≡ drop (length plan.ports.items) shelves
+  pub many_shelves : length now.shelves ≡ length was.shelves
+  pub beyond : drop (length plan.ports.items) now.shelves ≡ drop (length plan.ports.items) was.shelves
   -- The card came to what is told, and each application to its line, in the way that the plan says; and both to their views.
   pub turns : CardHasTurned plan.ports.items plan.options.split before told nic.view
   pub came : (number port : ℕ) (app : AppLine) → slice_get plan.ports.items number ≡ Some port → slice_get told.apps number ≡ Some app
       → (end : AppEnd) × (app ≡ line_of port end)
-      × HasCome plan (kept_in kept shelves number) (kept_in kept shelves_now number) (losses_in losses shelves number)
-      (losses_in losses shelves_now number) (side_in apps number).view end
+      × HasCome plan (kept_at was number) (kept_at now number) (counts_at was number) (counts_at now number) (side_in apps number).view end
   -- All is over at the board, and it accounts for the run.
   pub over : HaveEnded nic apps
-  pub accounts : AccountsFor kept shelves shelves_now plan before told.refused nic apps told.apps told.pool.strays
+  pub accounts : AccountsFor m.shelf.kept was.shelves now.shelves plan before told.refused nic apps told.apps told.pool.strays
 
 -- Each flow's shelf gained the whole stream that the copying receiver gives for it over these frames, the refused ones left out,
 -- unless its application wrote as many bytes as it was to.
-abbrev pub HaveWholeStreams : {T : Type 0} → (T → ℕ → Option (List ℕ)) → List T → List T → List ℕ → Option ℕ → List (List ℕ) → Told → Type 0
-HaveWholeStreams kept shelves shelves_now ports quit frames told =
+abbrev pub HaveWholeStreams : {S T : Type 0} → {m : Streams S T} → Ends m → Ends m → List ℕ → Option ℕ → List (List ℕ) → Told → Type 0
+HaveWholeStreams was now ports quit frames told =
     (number : ℕ) (flow : Flow) → slice_get (flows_of (steered_in ports frames)) number ≡ Some flow → There (slice_get told.apps flow.app) (λ app.
-    quit ≢ Some app.written → Gained (kept_in kept shelves flow.app number) (kept_in kept shelves_now flow.app number)
+    quit ≢ Some app.written → Gained (kept_at was flow.app number) (kept_at now flow.app number)
     (λ bytes. bytes ≡ stream_of (steered_in ports frames) told.refused number))
 
 -- Nothing was read, and no shelf touched.
-pub record IsUntouched {S T : Type 0} (source source_now : S) (shelves shelves_now : List T) : Type 0 where
-  pub source_is : source_now ≡ source
-  pub shelves_are : shelves_now ≡ shelves
+pub record IsUntouched {S T : Type 0} {m : Streams S T} (was now : Ends m) : Type 0 where
+  pub source_is : now.source ≡ was.source
+  pub shelves_are : now.shelves ≡ was.shelves
 
 -- Want of memory came before the first turn; or behind the last one, and then the run is as any other.
-abbrev pub LacksMemory : {S T : Type 0} → (S → Option (List ℕ)) → (S → ℕ) → (T → ℕ → Option (List ℕ)) → (T → ShelfCounts) → S → S
-    → List T → List T → Plan → Type 0
-LacksMemory left faults kept losses source source_now shelves shelves_now plan =
-    IsUntouched source source_now shelves shelves_now
-    ⊎ ((told : Told) × (nic : NicSide) × (apps : List AppSide)
-    × Ran left faults kept losses source source_now shelves shelves_now plan told nic apps)
+abbrev pub LacksMemory : {S T : Type 0} → {m : Streams S T} → Ends m → Ends m → Plan → Type 0
+LacksMemory was now plan =
+    IsUntouched was now ⊎ ((told : Told) × (nic : NicSide) × (apps : List AppSide) × Ran was now plan told nic apps)
 
 -- ---- a capture that is read beside the card
 
 -- The source as the ending of the reading left it, and as it is now. Only where the card ended the reading, by want of memory or by
 -- a flow too many, may a reading beside it have gone on.
-pub record HasReadOn {S : Type 0} (left : S → Option (List ℕ)) (faults : S → ℕ) (at now : S) (end : Option Fault) : Type 0 where
+pub record HasReadOn {S : Type 0} (m : SourceSeen S) (at now : S) (end : Option Fault) : Type 0 where
   pub same : end ≢ Some Memory → end ≢ Some TooManyFlows → at ≡ now
-  pub taken : Took (left at) (left now) (λ bytes. Unit {0})
-  pub later : faults at ≤ faults now
+  pub taken : Took (m.left at) (m.left now) (λ bytes. Unit {0})
+  pub later : m.failed at ≤ m.failed now
+
+-- What a run leaves whose capture is read beside the card. `at` is the source as the ending of the reading left it.
+pub record RanBeside {S T : Type 0} {m : Streams S T} (was now : Ends m) (plan : Plan) (told : Told) (nic : NicSide) (apps : List AppSide)
+    : Type 0 where
+  pub at : S
+  pub ahead : HasReadOn m.source at now.source told.end
+  pub ran : Ran was (ends_at m at now.shelves) plan told nic apps
 
 -- `LacksMemory` of a run whose capture is read beside the card.
-abbrev pub LacksMemoryBeside : {S T : Type 0} → (S → Option (List ℕ)) → (S → ℕ) → (T → ℕ → Option (List ℕ)) → (T → ShelfCounts) → S → S
-    → List T → List T → Plan → Type 0
-LacksMemoryBeside {S} {T} left faults kept losses source source_now shelves shelves_now plan =
-    IsUntouched source source_now shelves shelves_now
-    ⊎ ((at : S) × (told : Told) × (nic : NicSide) × (apps : List AppSide) × HasReadOn left faults at source_now told.end
-    × Ran left faults kept losses source at shelves shelves_now plan told nic apps)
+abbrev pub LacksMemoryBeside : {S T : Type 0} → {m : Streams S T} → Ends m → Ends m → Plan → Type 0
+LacksMemoryBeside was now plan =
+    IsUntouched was now ⊎ ((told : Told) × (nic : NicSide) × (apps : List AppSide) × RanBeside was now plan told nic apps)

@@ -1,22 +1,14 @@
 -- What the roles of a run keep, and how that stands to their sides and to what was read, sent and written since the first turn. It is
 -- over the sides of the roles alone, so it is the same for every board.
-use Rattle.std.specs.{Prelude.{◌≡◌, ◌≢◌, ℕ, ◌<◌, ◌≤◌, true, false, List, All, length, map, drop, Option, Some, None, option_map}, List.{slice_get}}
+use Rattle.std.specs.{Prelude.{◌≡◌, ◌≢◌, ℕ, ◌<◌, ◌≤◌, true, false, List, All, length, map, drop, Option, Some}, List.{slice_get}}
 use Rattle.zr_kinds.specs.{Limits.{most_records}, declared.behaviour.Behaviour.{Behaviour}}
 use Rattle.zr_kinds.specs.declared.behaviour.Stopped.TheVariants as stop
 use Rattle.zr_io.specs.Moved.{Rose, ShelfCounts, raised_by}
 use Rattle.board_face.specs.{AppCalls.{IsHere}, Sides.{side_in}, declared.views.{nic.NicSide.{NicSide}, app.{AppSide.{AppSide}, AppView.{AppView}}}}
 use Rattle.flow_queues.specs.{Ends.{AppEnd, HasLeft}, Shelves.{AreShelved, AreFronts}, Returned.{HasReturned}, Streams.{HasFronts, HasAll}}
 use Rattle.app_worker.specs.{StateOf.{end_of}, Kept.{new_state, IsFresh}, Marks.{FramesStandTogether}, State.{AppStands}}
-use Rattle.card_feed.specs.{Account.{kept_in}, Feed.{FeedState, IsReady, FeedStands}, Plan.{IsPlan, TakesTurns, layout_of, how_of}, declared.plan.Plan.{Plan}}
-use Rattle.run_account.specs.{CardTurns.{CardTurns}, Ways.{HasCome, TurnedSince}, declared.run.{Run.{Run}, Worker.{Worker}}}
-
--- what the shelf of an application has counted
-abbrev pub losses_or : Option ShelfCounts → ShelfCounts
-losses_or None = record { faults = 0; appended = 0 }
-losses_or (Some counts) = counts
-
-abbrev pub losses_in : {T : Type 0} → (T → ShelfCounts) → List T → ℕ → ShelfCounts
-losses_in losses shelves app = losses_or (option_map losses (slice_get shelves app))
+use Rattle.card_feed.specs.{Feed.{FeedState, IsReady, FeedStands}, Plan.{IsPlan, TakesTurns, layout_of, how_of}, declared.plan.Plan.{Plan}}
+use Rattle.run_account.specs.{CardTurns.{CardTurns}, Views.{Ends, Streams, counts_at, kept_at}, Ways.{HasCome, TurnedSince}, declared.run.{Run.{Run}, Worker.{Worker}}}
 
 -- ---- what is kept fits the sides
 
@@ -67,20 +59,19 @@ pub record WorkerGoes (plan : Plan) (first kept : ℕ → Option (List ℕ)) (lo
 
 -- The run so far of a plan whose applications take turns: these frames were read, and the card stands by them and came to that by turns,
 -- each application stands by what it took, and no other shelf was touched.
-pub record Running {S T : Type 0} (left : S → Option (List ℕ)) (faults : S → ℕ) (kept : T → ℕ → Option (List ℕ)) (losses : T → ShelfCounts)
-    (source source_now : S) (shelves shelves_now : List T) (plan : Plan) (nic : NicSide) (apps : List AppSide) (run : Run) : Type 0 where
+pub record Running {S T : Type 0} {m : Streams S T} (was now : Ends m) (plan : Plan) (nic : NicSide) (apps : List AppSide) (run : Run)
+    : Type 0 where
   pub plan_is : IsPlan plan
   pub by_turns : TakesTurns plan
   pub frames : List (List ℕ)
-  pub feed : FeedStands left faults source source_now plan.ports.items plan.options.split frames run.feed nic.view
+  pub feed : FeedStands m.source.left m.source.failed was.source now.source plan.ports.items plan.options.split frames run.feed nic.view
   pub turns : CardTurns plan.ports.items plan.options.split frames run.feed nic.view
   pub setting : nic.view.setting ≡ record { layout = layout_of plan; places = plan.options.ring }
   pub many : length run.workers.items ≡ length plan.ports.items
   pub worker : (a : ℕ) (w : Worker) → slice_get run.workers.items a ≡ Some w
-      → WorkerGoes plan (kept_in kept shelves a) (kept_in kept shelves_now a) (losses_in losses shelves a) (losses_in losses shelves_now a)
-      (side_in apps a).view w
-  pub many_shelves : length shelves_now ≡ length shelves
-  pub beyond : drop (length plan.ports.items) shelves_now ≡ drop (length plan.ports.items) shelves
+      → WorkerGoes plan (kept_at was a) (kept_at now a) (counts_at was a) (counts_at now a) (side_in apps a).view w
+  pub many_shelves : length now.shelves ≡ length was.shelves
+  pub beyond : drop (length plan.ports.items) now.shelves ≡ drop (length plan.ports.items) was.shelves
   -- No more records were read than are read at most, and each entry that was dealt with is of an application.
   pub records : run.feed.tally.records ≤ most_records
   pub dealt : All (λ d. d.app < length plan.ports.items) nic.view.dealt
@@ -96,25 +87,22 @@ pub record AreOver (run : Run) : Type 0 where
 
 -- The run of a plan that is over, as plain data: these frames were read and the card stands by them, came to that by turns and was closed,
 -- each application has left with this, to which it came in the way that the plan says, and no other shelf was touched.
-pub record HasRun {S T : Type 0} (left : S → Option (List ℕ)) (faults : S → ℕ) (kept : T → ℕ → Option (List ℕ)) (losses : T → ShelfCounts)
-    (source source_now : S) (shelves shelves_now : List T) (plan : Plan) (nic : NicSide) (apps : List AppSide) (feed : FeedState)
+pub record HasRun {S T : Type 0} {m : Streams S T} (was now : Ends m) (plan : Plan) (nic : NicSide) (apps : List AppSide) (feed : FeedState)
     (ends : List AppEnd) : Type 0 where
   pub plan_is : IsPlan plan
   pub frames : List (List ℕ)
-  pub stands : FeedStands left faults source source_now plan.ports.items plan.options.split frames feed nic.view
+  pub stands : FeedStands m.source.left m.source.failed was.source now.source plan.ports.items plan.options.split frames feed nic.view
   pub turns : CardTurns plan.ports.items plan.options.split frames feed nic.view
   pub ready : IsReady feed nic.view
   pub closed : feed.closed ≡ true
   pub setting : nic.view.setting ≡ record { layout = layout_of plan; places = plan.options.ring }
   pub many : length ends ≡ length plan.ports.items
   pub app : (a : ℕ) (end : AppEnd) → slice_get ends a ≡ Some end
-      → HasLeft (how_of plan) (kept_in kept shelves a) (kept_in kept shelves_now a) (losses_in losses shelves a) (losses_in losses shelves_now a)
-      (side_in apps a).view end
+      → HasLeft (how_of plan) (kept_at was a) (kept_at now a) (counts_at was a) (counts_at now a) (side_in apps a).view end
   pub came : (a : ℕ) (end : AppEnd) → slice_get ends a ≡ Some end
-      → HasCome plan (kept_in kept shelves a) (kept_in kept shelves_now a) (losses_in losses shelves a) (losses_in losses shelves_now a)
-      (side_in apps a).view end
+      → HasCome plan (kept_at was a) (kept_at now a) (counts_at was a) (counts_at now a) (side_in apps a).view end
   pub returned : (a : ℕ) (end : AppEnd) → slice_get ends a ≡ Some end → HasReturned (how_of plan) end.stopped end.written (side_in apps a).view
-  pub many_shelves : length shelves_now ≡ length shelves
-  pub beyond : drop (length plan.ports.items) shelves_now ≡ drop (length plan.ports.items) shelves
+  pub many_shelves : length now.shelves ≡ length was.shelves
+  pub beyond : drop (length plan.ports.items) now.shelves ≡ drop (length plan.ports.items) was.shelves
   pub records : feed.tally.records ≤ most_records
   pub dealt : All (λ d. d.app < length plan.ports.items) nic.view.dealt

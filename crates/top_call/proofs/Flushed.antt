@@ -5,9 +5,9 @@ use Rattle.std.proofs.lemmas.{Bool.{cases_eq, or_cases}, Grind.{drop_more_same},
 use Rattle.zr_kinds.specs.declared.outcome.AppLine.{AppLine}
 use Rattle.zr_io.specs.Moved.{Rose, ShelfCounts}
 use Rattle.card_feed.specs.Account.{kept_in}
-use Rattle.run_account.{specs.Running.{losses_in}, proofs.AppLines.{one-value}}
+use Rattle.run_account.{specs.Views.{losses_in, shelf_seen}, proofs.AppLines.{one-value}}
 use Rattle.run_account.proofs.Places.{get-set_same, get-set_other, get-within, kept-here, kept-there, losses-here, losses-there}
-use Rattle.top_call.{specs.{Worlds.{shelf_seen}, Flushing.{Flushes, HasFlushed, HasLost}}, proofs.Found.{get-same_rest}}
+use Rattle.top_call.{specs.Flushing.{Flushes, HasFlushed, HasLost}, proofs.Found.{get-same_rest}}
 
 or-false : (a b : Bool) → (a || b) ≡ false → (a ≡ false) × (b ≡ false)
 or-false true b is = absurd (cc)

@@ -5,7 +5,7 @@ use Rattle.std.{specs.{Prelude.{◌==◌, All, sum_by, if◌then◌else◌}, Lis
 use Rattle.std.{proofs.lemmas.List.{length-take-le, take_all, Sums.{count_by-le-length, sum_by-cons}}, specs.Io.KnownBytes.{Appends}}
 use Rattle.run_records.specs.{Setting.{most_events}, declared.{event.Event.{Event}, holding.Holding.{Holding}}, Holders.{all_after, no_holdings}}
 use Rattle.run_records.{specs.LegalRun.{HasSmallNumbers, IsLegalRun}, proofs.Weighing.{weight-length}}
-use Rattle.zr_io.specs.Moved.{Gained, ShelfCounts}
+use Rattle.zr_io.specs.Moved.{Gained}
 use Rattle.zr_kinds.specs.declared.{behaviour.Behaviour.{Behaviour}, outcome.AppLine.{AppLine}}
 use Rattle.area_layout.specs.Layout.{IsLayout, MakeLayout, shape_of_areas}
 use Rattle.run_records.specs.declared.event.Event.TheVariants as event
@@ -19,7 +19,7 @@ use Rattle.event_log.proofs.Runs.{ended-law, no-holders}
 use Rattle.plain_board.{specs.{Board.{Board, sides_of, stand_of}, Finish.{IsOver}, Recorded.{IsRecorded}, Sound.{IsPhased, IsSound}}, proofs.Ending.{boards-end_well}}
 use Rattle.replay_turns.specs.Events.{room_of}
 use Rattle.card_feed.specs.{Account.{AccountsFor, AppAccounts}, Counts.{capped}, Plan.{IsPlan}, declared.plan.Plan.{Plan}}
-use Rattle.run_account.{specs.Ran.{Ran, Told}, proofs.Places.{get-within}}
+use Rattle.run_account.{specs.{Ran.{Ran, Told}, Views.{Ends, Streams}}, proofs.Places.{get-within}}
 use Rattle.run_report.specs.{Report.{Reports}, declared.report.Unreported.{Unreported}}
 use Rattle.run_report.specs.declared.report.Unreported.TheVariants as unreported
 use Rattle.top_call.specs.{Records.{HasRecord, IsLineOf, IsReportOf, TellsRun, setting_of}, declared.card.Card.{Card}}
@@ -221,17 +221,17 @@ of-app : (P : AppSide → Type 0) (apps : List AppSide) (a : ℕ) (app : AppSide
 of-app P apps a app at all = subst P at.is (all a app at.there)
 
 -- the record of a board that is over, where it is asked for
-pub board-records : {S T : Type 0} (left : S → Option (List ℕ)) (faults : S → ℕ) (kept : T → ℕ → Option (List ℕ)) (losses : T → ShelfCounts)
-    (source source_now : S) (shelves shelves_now : List T) (plan : Plan) (outcome : Told) (board : Board)
-    → IsPlan plan → Ran left faults kept losses source source_now shelves shelves_now plan outcome board.nic board.apps
+pub board-records : {S T : Type 0} {m : Streams S T} (was now : Ends m) (plan : Plan) (outcome : Told) (board : Board)
+    → IsPlan plan → Ran was now plan outcome board.nic board.apps
     → IsSound (stand_of board) → IsRecorded (sides_of board) board.log → board.log.room ≡ room_of plan
     → HasRecord plan outcome (Card.Plain board)
-board-records left faults kept losses source source_now shelves shelves_now plan outcome board is_plan ran sound recorded room asked =
+board-records {m} was now plan outcome board is_plan ran sound recorded room asked =
     let roomy : board.log.room ≡ most_events = rw asked at room in
     let over : IsOver (stand_of board) = record { card = ran.over.card; apps = ran.over.left } in
     let none = (boards-end_well (stand_of board) sound over).counts in
     let layout : IsLayout board.nic.view.setting.layout = subst (λ (set : Shared). IsLayout set.layout) (sym sound.set.card) sound.sizes.layout in
-    tells-run kept shelves shelves_now plan outcome ran.before (sides_of board) board.log is_plan.layout ran.accounts recorded.logged roomy layout none.holders
+    tells-run m.shelf.kept was.shelves now.shelves plan outcome ran.before (sides_of board) board.log is_plan.layout ran.accounts recorded.logged
+    roomy layout none.holders
     (λ a app at.
     let gone = (of-app (IsPhased board.nic) board.apps a app at sound.phased.sides).left (of-app (λ app. app.view.left ≡ true) board.apps a app at ran.over.left) in
     (gone.loans, gone.spares))

@@ -6,15 +6,15 @@ use Rattle.std.proofs.{Math.Seq.{take-append_seam}, lemmas.Bool.{cases_Bool, cas
 use Rattle.zr_kinds.specs.declared.fault.Fault.{Fault, TheVariants.{Memory, Usage, NotPcap, Version, LinkType, Cut, LongRecord, Read, Write, TooManyFlows}}
 use Rattle.zr_kinds.specs.declared.{fault.Fault.TheVariants.{TooManyFrames, BadBlock, BadRun}, behaviour.Stopped.{Stopped}, outcome.AppLine.{AppLine}}
 use Rattle.zr_kinds.specs.declared.behaviour.Stopped.TheVariants as stop
-use Rattle.zr_io.{specs.Moved.{Rose, ShelfCounts, Took}, proofs.Moved.{Rose-earlier, Took-then, Took-weaker}}
+use Rattle.zr_io.{specs.Moved.{Rose, Took}, proofs.Moved.{Rose-earlier, Took-then, Took-weaker}}
 use Rattle.frames_read.{specs.{Ending.{Ending, ended_of, steered_in}, Reading.{ShowsEnding, BreaksOff, TakenEnds, IsEnding, IsReadToEnd}}, proofs.Endings.{some-weaker}}
 use Rattle.board_face.specs.declared.views.{nic.NicSide.{NicSide}, app.AppSide.{AppSide}}
-use Rattle.card_feed.{specs.{Need.{buffers_of, need_in}, Offered.{offers_of, WantsRoom}, declared.plan.Plan.{Plan}, Plan.{how_of}}, proofs.OfFlow.{there}}
-use Rattle.run_account.{specs.{Running.{losses_in, losses_or}, Ran.{HasReadOn, HaveWholeStreams, IsAppLine, Ran, Told}}, proofs.WholeStreams.{whole-streams}}
+use Rattle.card_feed.specs.{Need.{buffers_of, need_in}, Offered.{offers_of, WantsRoom}, declared.plan.Plan.{Plan}, Plan.{how_of, plain_behaviour}}
+use Rattle.card_feed.proofs.OfFlow.{there}
+use Rattle.run_account.{specs.{Ran.{HasReadOn, HaveWholeStreams, IsAppLine, Ran, Told}, Views.{Ends, Streams, counts_at, ends_at, failed_at, left_at, losses_in, losses_or}}, proofs.WholeStreams.{whole-streams}}
 use Rattle.run_account.proofs.{AppLines.{found-there, one-value}, Places.{get-within}}
-use Rattle.zr_kinds.specs.Options.{BehavesPlainly, plain_behaviour}
-use Rattle.command_words.specs.Words.{ReplayShown}
-use Rattle.top_call.specs.Worlds.{Ends, Seen, World, left_in, shelf_seen, sink_in, sunk}
+use Rattle.command_words.specs.{Options.{AreInRange}, Words.{ReplayShown}}
+use Rattle.top_call.specs.Worlds.{Seen, World, left_in, sink_in, sunk}
 use Rattle.top_call.{specs.{Planned.{IsPlanOf}, Records.{HasRecord, record_in}, declared.card.Card.{Card}}, proofs.{Behind.{ended_of-behind}, Found.{get-same_rest}}}
 use Rattle.top_call.{specs.Flushing.{Flushes, HasLost}, proofs.ToldLines.{record-told, rose-or-same, told-appended, told-flow, told-others, told-streams}}
 use Rattle.top_call.specs.Status.{is_memory, is_write, any_stopped, end_number, status_from, status_of}
@@ -219,12 +219,10 @@ module _ (wanting lost : Bool) (end : Option Fault) {answer refusals refusals_no
 
 -- ---- the parts of what a replay leaves
 
-module _ {S T : Type 0} {left : S → Option (List ℕ)} {failed : S → ℕ} {kept : T → ℕ → Option (List ℕ)} {losses : T → ShelfCounts}
-    {source at source_now : S} {shelves shelves_run shelves_now : List T} {plan : Plan} {outcome : Told} {lines : List AppLine} {flush_failed : Bool}
-    {nic : NicSide} {apps : List AppSide} {answer refusals refusals_now : ℕ}
-    (replayed : Ran left failed kept losses source at shelves shelves_run plan outcome nic apps)
-    (ahead : HasReadOn left failed at source_now outcome.end)
-    (flushes : Flushes (shelf_seen kept losses) (length plan.ports.items) shelves_run shelves_now outcome.apps lines flush_failed)
+module _ {S T : Type 0} {m : Streams S T} {first : Ends m} (last : Ends m) {at : S} {shelves_run : List T} {plan : Plan} {outcome : Told}
+    {lines : List AppLine} {flush_failed : Bool} {nic : NicSide} {apps : List AppSide} {answer refusals refusals_now : ℕ}
+    (replayed : Ran first (ends_at m at shelves_run) plan outcome nic apps) (ahead : HasReadOn m.source at last.source outcome.end)
+    (flushes : Flushes m.shelf (length plan.ports.items) shelves_run last.shelves outcome.apps lines flush_failed)
     (is : IsAnswer (status_of (record outcome { apps = lines }) flush_failed) answer refusals refusals_now) where
   abbrev pub wanting : Bool
   wanting = any_stopped is_memory lines
@@ -247,69 +245,69 @@ module _ {S T : Type 0} {left : S → Option (List ℕ)} {failed : S → ℕ} {k
       (shown-number outcome.end replayed.ended.kind (ended_of plan.ports.items all) replayed.before shows)) others) causes.cases
 
   -- what was taken until the ending, and what was taken until now
-  ends-at : IfSome (left source) (λ all. Took (left source) (left at) (λ taken. ended_of plan.ports.items taken ≡ ended_of plan.ports.items all))
+  ends-at : IfSome (left_at first) (λ all. Took (left_at first) (m.source.left at) (λ taken. ended_of plan.ports.items taken ≡ ended_of plan.ports.items all))
       ⊎ ((outcome.end ≡ Some Memory) ⊎ (outcome.end ≡ Some Read))
   ends-at = ⊎_elim
-      (λ same. inl (some-weaker (left source) _ _ replayed.ended.shown (λ all shows.
-      Took-weaker (left source) (left at)
+      (λ same. inl (some-weaker (left_at first) _ _ replayed.ended.shown (λ all shows.
+      Took-weaker (left_at first) (m.source.left at)
       (λ taken. TakenEnds (WantsRoom plan.options.split plan.ports.items) plan.ports.items taken replayed.before outcome.end)
       (λ taken. ended_of plan.ports.items taken ≡ ended_of plan.ports.items all)
       (λ taken ends. same plan.ports.items taken (ended_of plan.ports.items all) replayed.before ends shows) replayed.ended.taken)))
       (λ hidden. inr hidden)
       (same-ending (WantsRoom plan.options.split plan.ports.items) outcome.end replayed.ended.kind)
 
-  still-at : IsApart outcome.end → at ≡ source_now
+  still-at : IsApart outcome.end → at ≡ last.source
   still-at none = ahead.same none.memory none.flows
 
   -- what was read on behind a flow too many changes nothing of how the reading ended
   ends-now : outcome.end ≡ Some TooManyFlows
-      → IfSome (left source) (λ all. Took (left source) (left source_now) (λ taken. ended_of plan.ports.items taken ≡ ended_of plan.ports.items all))
+      → IfSome (left_at first) (λ all. Took (left_at first) (left_at last) (λ taken. ended_of plan.ports.items taken ≡ ended_of plan.ports.items all))
   ends-now flows =
       let wants = WantsRoom plan.options.split plan.ports.items in
       let ended : Ending = record { before = replayed.before; fault = Some TooManyFlows } in
-      some-weaker (left source) _ _ replayed.ended.shown (λ all shows.
+      some-weaker (left_at first) _ _ replayed.ended.shown (λ all shows.
       let all_ends : ended_of plan.ports.items all ≡ ended =
       subst (λ e. ShowsEnding (ended_of plan.ports.items all) replayed.before e) flows shows in
-      Took-then (left source) (left at) (left source_now)
+      Took-then (left_at first) (m.source.left at) (left_at last)
       (λ taken. TakenEnds wants plan.ports.items taken replayed.before outcome.end) (λ more. Unit {0})
       (λ taken. ended_of plan.ports.items taken ≡ ended_of plan.ports.items all)
       (λ taken more ends any. ended_of-behind plan.ports.items taken more ended refl
       (subst (λ e. TakenEnds wants plan.ports.items taken replayed.before e) flows ends) ∙ sym all_ends)
       replayed.ended.taken ahead.taken)
 
-  reached-of : IfSome (left source) (λ all. Took (left source) (left source_now) (λ taken. ended_of plan.ports.items taken ≡ ended_of plan.ports.items all))
-      ⊎ ((answer ≡ 1) ⊎ (((answer ≡ 8) ⊎ (answer ≡ 9)) × Rose (failed source) (failed source_now)))
+  reached-of : IfSome (left_at first) (λ all. Took (left_at first) (left_at last) (λ taken. ended_of plan.ports.items taken ≡ ended_of plan.ports.items all))
+      ⊎ ((answer ≡ 1) ⊎ (((answer ≡ 8) ⊎ (answer ≡ 9)) × Rose (failed_at first) (failed_at last)))
   reached-of = ⊎_elim
       (λ (none : IsApart outcome.end). ⊎_elim
-      (λ ends. inl (subst (λ s. IfSome (left source) (λ all. Took (left source) (left s) (λ taken.
+      (λ ends. inl (subst (λ s. IfSome (left_at first) (λ all. Took (left_at first) (m.source.left s) (λ taken.
       ended_of plan.ports.items taken ≡ ended_of plan.ports.items all))) (still-at none) ends))
       (λ hidden. inr (⊎_elim (λ memory. absurd (none.memory memory))
       (λ failed_read. ⊎_elim (λ one. inl one) (λ others. inr (
         ⊎_elim (λ (nine, why). inr nine) (λ number. inl (number ∙ ap end_number failed_read)) others,
-        subst (λ s. Rose (failed source) (failed s)) (still-at none) (replayed.ended.cause failed_read),
+        subst (λ s. Rose (failed_at first) (m.source.failed s)) (still-at none) (replayed.ended.cause failed_read),
       )) causes.cases) hidden)) ends-at)
       (λ others. ⊎_elim
       (λ memory. inr (inl (at-memory wanting lost outcome.end is replayed.ended.kind memory)))
       (λ flows. inl (ends-now flows)) others)
       (apart outcome.end replayed.ended.kind)
 
-  whole-of : answer ≡ 0 → IsReadToEnd (left source) (left source_now)
+  whole-of : answer ≡ 0 → IsReadToEnd (left_at first) (left_at last)
   unfolding IsNumbered
   whole-of zero = ⊎_elim (λ one. absurd (omega arith)) (λ others. ⊎_elim (λ (nine, why). absurd (omega arith))
       (λ number.
-      let at_end : outcome.end ≡ None = (numbered outcome.end replayed.ended.kind).2 (sym number ∙ zero) in
-      subst (λ s. IsReadToEnd (left source) (left s)) (ahead.same (λ e. cc) (λ e. cc)) (replayed.ended.at_end at_end)) others) causes.cases
+      let at_end : outcome.end ≡ None = (numbered outcome.end replayed.ended.kind).3 (sym number ∙ zero) in
+      subst (λ s. IsReadToEnd (left_at first) (m.source.left s)) (ahead.same (λ e. cc) (λ e. cc)) (replayed.ended.at_end at_end)) others) causes.cases
 
-  read-of : answer ≡ 8 → Rose (failed source) (failed source_now)
-      × Took (left source) (left source_now) (λ taken. IsBrokenOff (ended_of plan.ports.items taken).fault)
+  read-of : answer ≡ 8 → Rose (failed_at first) (failed_at last)
+      × Took (left_at first) (left_at last) (λ taken. IsBrokenOff (ended_of plan.ports.items taken).fault)
   unfolding IsNumbered
   read-of eight = ⊎_elim (λ one. absurd (omega arith)) (λ others. ⊎_elim (λ (nine, why). absurd (omega arith))
       (λ number.
-      let by_read : outcome.end ≡ Some Read = (numbered outcome.end replayed.ended.kind).1 (sym number ∙ eight) in
-      subst (λ s. Rose (failed source) (failed s) × Took (left source) (left s) (λ taken. IsBrokenOff (ended_of plan.ports.items taken).fault))
+      let by_read : outcome.end ≡ Some Read = (numbered outcome.end replayed.ended.kind).2 (sym number ∙ eight) in
+      subst (λ s. Rose (failed_at first) (m.source.failed s) × Took (left_at first) (m.source.left s) (λ taken. IsBrokenOff (ended_of plan.ports.items taken).fault))
       (ahead.same (λ e. cc) (λ e. cc)) (
         replayed.ended.cause by_read,
-        Took-weaker (left source) (left at)
+        Took-weaker (left_at first) (m.source.left at)
             (λ taken. TakenEnds (WantsRoom plan.options.split plan.ports.items) plan.ports.items taken replayed.before outcome.end)
             (λ taken. IsBrokenOff (ended_of plan.ports.items taken).fault)
             (λ taken ends. broken_off (ended_of plan.ports.items taken) replayed.before
@@ -319,7 +317,7 @@ module _ {S T : Type 0} {left : S → Option (List ℕ)} {failed : S → ℕ} {k
   -- the line of an application as the run left it
   IsRunLine : ℕ → AppLine → Type 0
   IsRunLine number line = (port : ℕ)
-      × IsAppLine (how_of plan) port (losses_in losses shelves number) (losses_in losses shelves_run number) outcome.flows line
+      × IsAppLine (how_of plan) port (counts_at first number) (losses_in m.shelf.counts shelves_run number) outcome.flows line
 
   run-line : (number : ℕ) → number < length plan.ports.items
       → (line : AppLine) × (slice_get outcome.apps number ≡ Some line) × IsRunLine number line
@@ -329,18 +327,18 @@ module _ {S T : Type 0} {left : S → Option (List ℕ)} {failed : S → ℕ} {k
       let (line, line_at, is_line) = found-there (slice_get outcome.apps number) _ (replayed.app number port port_is) in
       (line, line_at, (port, is_line))
 
-  later-run : (number : ℕ) → number < length plan.ports.items → (losses_in losses shelves number).faults ≤ (losses_in losses shelves_run number).faults
+  later-run : (number : ℕ) → number < length plan.ports.items → (counts_at first number).faults ≤ (losses_in m.shelf.counts shelves_run number).faults
   unfolding IsRunLine
   later-run number own = (run-line number own).2.1.later
 
   -- where a line that is told says `write`, a call of its shelf failed in the run, or its flush
   written-lost : (number : ℕ) (app : AppLine) → number < length plan.ports.items → slice_get lines number ≡ Some app → app.stopped ≡ stop.Write
-      → Rose (losses_in losses shelves number).faults (losses_in losses shelves_now number).faults
+      → Rose (counts_at first number).faults (counts_at last number).faults
   unfolding IsRunLine
   written-lost number app own at write =
-      let before = (losses_in losses shelves number).faults in
-      let run = (losses_in losses shelves_run number).faults in
-      let now = (losses_in losses shelves_now number).faults in
+      let before = (counts_at first number).faults in
+      let run = (losses_in m.shelf.counts shelves_run number).faults in
+      let now = (counts_at last number).faults in
       let (was, was_at, is_line) = run-line number own in
       let (fails, told, told_at, flushed) = flushes.line number was own was_at in
       let same : told ≡ app = one-value (sym told_at ∙ at) in
@@ -350,7 +348,7 @@ module _ {S T : Type 0} {left : S → Option (List ℕ)} {failed : S → ℕ} {k
       rose-later before run now rose (flushes.later number))
       (rose-or-same run now was told fails flushed)
 
-  shelf-failed : lost ≡ true → HasLost (shelf_seen kept losses) shelves shelves_now (length plan.ports.items)
+  shelf-failed : lost ≡ true → HasLost m.shelf first.shelves last.shelves (length plan.ports.items)
   shelf-failed some = ⊎_elim
       (λ (write : any_stopped is_write lines ≡ true).
       let stands : Stands lines = any-write lines write in
@@ -361,12 +359,12 @@ module _ {S T : Type 0} {left : S → Option (List ℕ)} {failed : S → ℕ} {k
       let (app, own, rose) = flushes.failed_at flush in (
         app,
         own,
-        Rose-earlier (losses_in losses shelves app).faults (losses_in losses shelves_run app).faults (losses_in losses shelves_now app).faults
+        Rose-earlier (counts_at first app).faults (losses_in m.shelf.counts shelves_run app).faults (counts_at last app).faults
             (later-run app own) rose,
       ))
       (or_cases (any_stopped is_write lines) flush_failed some)
 
-  lost-of : answer ≡ 9 → HasLost (shelf_seen kept losses) shelves shelves_now (length plan.ports.items) ⊎ Rose refusals refusals_now
+  lost-of : answer ≡ 9 → HasLost m.shelf first.shelves last.shelves (length plan.ports.items) ⊎ Rose refusals refusals_now
   unfolding IsNumbered
   lost-of nine = ⊎_elim (λ one. absurd (omega arith)) (λ others. ⊎_elim
       (λ (at_nine, why). ⊎_elim (λ shelf. inl (shelf-failed shelf)) (λ sink. inr sink) why)
@@ -374,12 +372,12 @@ module _ {S T : Type 0} {left : S → Option (List ℕ)} {failed : S → ℕ} {k
 
   -- ---- what an answer shows by none of its faults
 
-  settled-of : answer ≢ 1 → answer ≢ 9 → answer ≢ 10 → at ≡ source_now
+  settled-of : answer ≢ 1 → answer ≢ 9 → answer ≢ 10 → at ≡ last.source
   settled-of not_1 not_9 not_10 = ahead.same
       (λ memory. not_1 (at-memory wanting lost outcome.end is replayed.ended.kind memory))
       (λ flows. ⊎_elim not_1 (λ others. ⊎_elim (λ (nine, why). not_9 nine) (λ number. not_10 (number ∙ ap end_number flows)) others) causes.cases)
 
-  read_well : answer ≢ 1 → answer ≢ 8 → answer ≢ 9 → failed at ≡ failed source
+  read_well : answer ≢ 1 → answer ≢ 8 → answer ≢ 9 → m.source.failed at ≡ failed_at first
   read_well not_1 not_8 not_9 = replayed.ended.still (λ by_read. ⊎_elim (λ one. not_1 one) (λ others. ⊎_elim (λ (nine, why). not_9 nine)
       (λ number. not_8 (number ∙ ap end_number by_read)) others) causes.cases)
 
@@ -411,7 +409,7 @@ module _ {S T : Type 0} {left : S → Option (List ℕ)} {failed : S → ℕ} {k
   all-flushed : answer ≢ 1 → answer ≢ 9 → flush_failed ≡ false
   all-flushed not_1 not_9 = ⊎_elim (λ failed_one. absurd (⊎_elim not_1 not_9 (unflushed-of failed_one))) (λ none. none) (cases_Bool flush_failed)
 
-  kept_well : answer ≢ 1 → answer ≢ 9 → (app : ℕ) → (losses_in losses shelves_now app).faults ≡ (losses_in losses shelves app).faults
+  kept_well : answer ≢ 1 → answer ≢ 9 → (app : ℕ) → (counts_at last app).faults ≡ (counts_at first app).faults
   kept_well not_1 not_9 app =
       let none = all-flushed not_1 not_9 in
       flushes.still none app ∙ ⊎_elim
@@ -419,14 +417,14 @@ module _ {S T : Type 0} {left : S → Option (List ℕ)} {failed : S → ℕ} {k
       let (port, port_is) = there plan.ports.items app within in
       let (line, line_is, was) = found-there (slice_get outcome.apps app) _ (replayed.app app port port_is) in
       was.still (λ write. ⊎_elim not_1 not_9 (failing-of app line (ap (λ ls. slice_get ls app) (flushes.as_before none) ∙ line_is) write)))
-      (λ (past : length plan.ports.items ≤ app). ap (λ s. (losses_or (option_map losses s)).faults)
-      (get-same_rest (length plan.ports.items) shelves shelves_run app replayed.beyond past))
+      (λ (past : length plan.ports.items ≤ app). ap (λ s. (losses_or (option_map m.shelf.counts s)).faults)
+      (get-same_rest (length plan.ports.items) first.shelves shelves_run app replayed.beyond past))
       (cases_lt app (length plan.ports.items))
 
   -- ---- completeness
 
-  complete-of : (all : List ℕ) → left source ≡ Some all → (ended_of plan.ports.items all).fault ≡ None → ¬ Rose (failed source) (failed source_now)
-      → ¬ (HasLost (shelf_seen kept losses) shelves shelves_now (length plan.ports.items) ⊎ Rose refusals refusals_now)
+  complete-of : (all : List ℕ) → left_at first ≡ Some all → (ended_of plan.ports.items all).fault ≡ None → ¬ Rose (failed_at first) (failed_at last)
+      → ¬ (HasLost m.shelf first.shelves last.shelves (length plan.ports.items) ⊎ Rose refusals refusals_now)
       → (answer ≡ 0) ⊎ (answer ≡ 1)
   complete-of all told_all none reads writes =
       let shows : ShowsEnding (ended_of plan.ports.items all) replayed.before outcome.end = rw told_all at replayed.ended.shown in
@@ -435,7 +433,7 @@ module _ {S T : Type 0} {left : S → Option (List ℕ)} {failed : S → ℕ} {k
       (λ eight. absurd (reads (read-of eight).0))
       (λ nine. absurd (writes (lost-of nine))) more) others) said
 
-  all_read-of : answer ≡ 0 → (all : List ℕ) → left source ≡ Some all
+  all_read-of : answer ≡ 0 → (all : List ℕ) → left_at first ≡ Some all
       → ended_of plan.ports.items all ≡ record { before = replayed.before; fault = None }
   unfolding IsNumbered
   all_read-of zero all told_all = ⊎_elim (λ one. absurd (omega arith)) (λ others. ⊎_elim (λ (nine, why). absurd (omega arith))
@@ -453,20 +451,20 @@ module _ {S T : Type 0} {left : S → Option (List ℕ)} {failed : S → ℕ} {k
       by_cause stop.Write is = ⊎_elim (λ one. absurd (omega (arith, one, zero))) (λ nine. absurd (omega (arith, nine, zero))) (failing-of number app at is)
       by_cause stop.Memory is = let one = wanting-of number app at is in absurd (omega (arith, one, zero))
 
-  enough-of : answer ≡ 0 → (all : List ℕ) → left source ≡ Some all
+  enough-of : answer ≡ 0 → (all : List ℕ) → left_at first ≡ Some all
       → need_in plan (offers_of (steered_in plan.ports.items (ended_of plan.ports.items all).before)) ≤ buffers_of plan → outcome.refused ≡ []
   enough-of zero all told_all fits = replayed.need.enough
       (subst (λ (e : Ending). need_in plan (offers_of (steered_in plan.ports.items e.before)) ≤ buffers_of plan) (all_read-of zero all told_all) fits)
 
-  streams-of : answer ≡ 0 → (all : List ℕ) → left source ≡ Some all
-      → HaveWholeStreams kept shelves shelves_now plan.ports.items (how_of plan).quit (ended_of plan.ports.items all).before
+  streams-of : answer ≡ 0 → (all : List ℕ) → left_at first ≡ Some all
+      → HaveWholeStreams first last plan.ports.items (how_of plan).quit (ended_of plan.ports.items all).before
       (record outcome { apps = lines })
   streams-of zero all told_all =
       let same : lines ≡ outcome.apps = flushes.as_before (all-flushed (λ one. absurd (omega (arith, one, zero))) (λ nine. absurd (omega (arith, nine, zero)))) in
-      subst (λ (e : Ending). HaveWholeStreams kept shelves shelves_now plan.ports.items (how_of plan).quit e.before (record outcome { apps = lines }))
+      subst (λ (e : Ending). HaveWholeStreams first last plan.ports.items (how_of plan).quit e.before (record outcome { apps = lines }))
       (sym (all_read-of zero all told_all))
-      (told-streams replayed flushes (how_of plan).quit same
-      (whole-streams left failed kept losses source at shelves shelves_run plan outcome nic apps replayed
+      (told-streams last replayed flushes (how_of plan).quit same
+      (whole-streams first (ends_at m at shelves_run) plan outcome nic apps replayed
       (λ number app at. going-of zero number app (ap (λ ls. slice_get ls number) same ∙ at))))
 
 -- the plan is of what it is told itself
@@ -525,35 +523,35 @@ module _ {S T O : Type 0} {m : Seen S T O} (before : World m) (ends : Ends m.str
         flushes = rw (← same) flushes;
         told_is = refl;
         streams = record {
-          flow = rw (← same) (told-flow ran flushes);
-          others = rw (← same) (told-others ran flushes);
-          appended = told-appended ran flushes;
+          flow = rw (← same) (told-flow ends ran flushes);
+          others = rw (← same) (told-others ends ran flushes);
+          appended = told-appended ends ran flushes;
         };
         report = tells;
         recorded = record-told outcome flushes ran.many_apps plan card_now recorded;
-        kind = kind-of ran ahead flushes is;
+        kind = kind-of ends ran ahead flushes is;
         reading = record {
-          reached = rw (← same) (reached-of ran ahead flushes is);
-          ending = rw (← same) (some-weaker (left_in before) _ _ ran.ended.shown (λ all shows. ending-of ran ahead flushes is all shows));
-          whole = whole-of ran ahead flushes is;
-          read = rw (← same) (read-of ran ahead flushes is);
-          settled = settled-of ran ahead flushes is;
-          sound_reads = read_well ran ahead flushes is;
+          reached = rw (← same) (reached-of ends ran ahead flushes is);
+          ending = rw (← same) (some-weaker (left_in before) _ _ ran.ended.shown (λ all shows. ending-of ends ran ahead flushes is all shows));
+          whole = whole-of ends ran ahead flushes is;
+          read = rw (← same) (read-of ends ran ahead flushes is);
+          settled = settled-of ends ran ahead flushes is;
+          sound_reads = read_well ends ran ahead flushes is;
         };
         writing = record {
-          lost = rw (← same) (lost-of ran ahead flushes is);
-          wanting = wanting-of ran ahead flushes is;
-          failing = failing-of ran ahead flushes is;
-          unflushed = unflushed-of ran ahead flushes is;
-          sound_shelves = kept_well ran ahead flushes is;
+          lost = rw (← same) (lost-of ends ran ahead flushes is);
+          wanting = wanting-of ends ran ahead flushes is;
+          failing = failing-of ends ran ahead flushes is;
+          unflushed = unflushed-of ends ran ahead flushes is;
+          sound_shelves = kept_well ends ran ahead flushes is;
           sound_sink = told_well was now (status_of outcome_now finishes.lost) answer tells.reported tells.still tells.answered;
-          going = going-of ran ahead flushes is;
+          going = going-of ends ran ahead flushes is;
         };
-        complete = rw (← same) (complete-of ran ahead flushes is);
+        complete = rw (← same) (complete-of ends ran ahead flushes is);
         done = λ zero all told_all. record {
-          all_read = rw (← same) (all_read-of ran ahead flushes is zero all told_all);
-          enough = rw (← same) (enough-of ran ahead flushes is zero all told_all);
-          streams = rw (← same, ← how-said told plan plainly planned) (streams-of ran ahead flushes is zero all told_all);
+          all_read = rw (← same) (all_read-of ends ran ahead flushes is zero all told_all);
+          enough = rw (← same) (enough-of ends ran ahead flushes is zero all told_all);
+          streams = rw (← same, ← how-said told plan in_range planned) (streams-of ends ran ahead flushes is zero all told_all);
         };
       }
 

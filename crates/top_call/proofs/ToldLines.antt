@@ -9,9 +9,9 @@ use Rattle.flow_table.specs.{Flows.{Flow, flows_of}, Stream.{stream_of}}
 use Rattle.frames_read.specs.Ending.{steered_in}
 use Rattle.board_face.specs.declared.views.{nic.NicSide.{NicSide}, app.AppSide.{AppSide}}
 use Rattle.card_feed.{specs.{Account.{kept_in}, declared.plan.Plan.{Plan}}, proofs.OfFlow.{there}}
-use Rattle.run_account.specs.{Ran.{HaveWholeStreams, IsLineOf, IsStreamed, Ran, There, Told}, Running.{losses_in}}
+use Rattle.run_account.specs.{Ran.{HaveWholeStreams, IsLineOf, IsStreamed, Ran, There, Told}, Views.{Ends, Streams, counts_at, ends_at, kept_at, shelf_seen}}
 use Rattle.run_account.proofs.{AppLines.{found-there, is-there, one-value}, Places.{get-within}}
-use Rattle.top_call.specs.{Worlds.{shelf_seen}, Flushing.{Flushes, HasFlushed, stopped_or_lost}, declared.card.Card.{Card}}
+use Rattle.top_call.specs.{Flushing.{Flushes, HasFlushed, stopped_or_lost}, declared.card.Card.{Card}}
 use Rattle.top_call.specs.Records.{HasRecord, IsReportOf, IsLineOf as IsRecordedLine}
 
 -- ---- one line
@@ -103,13 +103,13 @@ Gained-kept (Some xs) None c P gained keeps = absurd gained
 Gained-kept (Some xs) (Some ys) None P gained keeps = absurd keeps
 Gained-kept (Some xs) (Some ys) (Some zs) P (bytes, is, holds) keeps = (bytes, keeps ∙ is, holds)
 
-module _ {S T : Type 0} {left : S → Option (List ℕ)} {failed : S → ℕ} {kept : T → ℕ → Option (List ℕ)} {losses : T → ShelfCounts}
-    {source at : S} {shelves shelves_run shelves_now : List T} {plan : Plan} {outcome : Told} {lines : List AppLine} {flush_failed : Bool}
-    {nic : NicSide} {apps : List AppSide} (replayed : Ran left failed kept losses source at shelves shelves_run plan outcome nic apps)
-    (flushes : Flushes (shelf_seen kept losses) (length plan.ports.items) shelves_run shelves_now outcome.apps lines flush_failed) where
+module _ {S T : Type 0} {m : Streams S T} {first : Ends m} (last : Ends m) {at : S} {shelves_run : List T} {plan : Plan} {outcome : Told}
+    {lines : List AppLine} {flush_failed : Bool} {nic : NicSide} {apps : List AppSide}
+    (replayed : Ran first (ends_at m at shelves_run) plan outcome nic apps)
+    (flushes : Flushes m.shelf (length plan.ports.items) shelves_run last.shelves outcome.apps lines flush_failed) where
   pub told-flow : (number : ℕ) (flow : Flow) → slice_get (flows_of (steered_in plan.ports.items replayed.before)) number ≡ Some flow →
       There (slice_get outcome.flows number) (λ line. There (slice_get lines flow.app) (λ app.
-      IsLineOf flow line × Gained (kept_in kept shelves flow.app number) (kept_in kept shelves_now flow.app number)
+      IsLineOf flow line × Gained (kept_at first flow.app number) (kept_at last flow.app number)
       (λ bytes. IsStreamed app.stopped (stream_of (steered_in plan.ports.items replayed.before) outcome.refused number) bytes line.bytes)))
   told-flow number flow at =
       let (line, line_at, its_app) = found-there (slice_get outcome.flows number) _ (replayed.flow number flow at) in
@@ -118,20 +118,20 @@ module _ {S T : Type 0} {left : S → Option (List ℕ)} {failed : S → ℕ} {k
       let (fails, told, told_at, flushed) = flushes.line flow.app app own app_at in
       is-there (slice_get outcome.flows number) line _ line_at (is-there (slice_get lines flow.app) told _ told_at (
         both.0,
-        Gained-kept (kept_in kept shelves flow.app number) (kept_in kept shelves_run flow.app number) (kept_in kept shelves_now flow.app number) _
-            (Gained-weaker (kept_in kept shelves flow.app number) (kept_in kept shelves_run flow.app number) _ _
+        Gained-kept (kept_at first flow.app number) (kept_in m.shelf.kept shelves_run flow.app number) (kept_at last flow.app number) _
+            (Gained-weaker (kept_at first flow.app number) (kept_in m.shelf.kept shelves_run flow.app number) _ _
             (λ bytes was. told-streamed _ _ app told fails flushed _ bytes line.bytes was) both.1)
             (flushes.keeps flow.app number),
       ))
 
   pub told-others : (app number : ℕ)
       → option_map (λ (flow : Flow). flow.app) (slice_get (flows_of (steered_in plan.ports.items replayed.before)) number) ≢ Some app
-      → Keeps (kept_in kept shelves app number) (kept_in kept shelves_now app number)
-  told-others app number other = Keeps-trans (kept_in kept shelves app number) (kept_in kept shelves_run app number) (kept_in kept shelves_now app number)
+      → Keeps (kept_at first app number) (kept_at last app number)
+  told-others app number other = Keeps-trans (kept_at first app number) (kept_in m.shelf.kept shelves_run app number) (kept_at last app number)
       (replayed.others app number other) (flushes.keeps app number)
 
   pub told-appended : (app : ℕ) (line : AppLine) → slice_get lines app ≡ Some line
-      → (losses_in losses shelves_now app).appended ≡ raised_by (losses_in losses shelves app).appended line.written
+      → (counts_at last app).appended ≡ raised_by (counts_at first app).appended line.written
   told-appended app line at =
       let own : app < length plan.ports.items = omega (arith, get-within lines app line at, flushes.many_lines, replayed.many_apps) in
       let (port, port_at) = there plan.ports.items app own in
@@ -139,14 +139,14 @@ module _ {S T : Type 0} {left : S → Option (List ℕ)} {failed : S → ℕ} {k
       let (fails, told, told_at, flushed) = flushes.line app was own was_at in
       let written : line.written ≡ was.written =
       ap (λ (l : AppLine). l.written) (one-value (sym at ∙ told_at)) ∙ told-written _ _ was told fails flushed in
-      flushes.appended app ∙ is_line.appended ∙ ap (raised_by (losses_in losses shelves app).appended) (sym written)
+      flushes.appended app ∙ is_line.appended ∙ ap (raised_by (counts_at first app).appended) (sym written)
 
   -- whole streams stay so where no line changed
   pub told-streams : (quit : Option ℕ) → lines ≡ outcome.apps
-      → HaveWholeStreams kept shelves shelves_run plan.ports.items quit replayed.before outcome
-      → HaveWholeStreams kept shelves shelves_now plan.ports.items quit replayed.before (record outcome { apps = lines })
+      → HaveWholeStreams first (ends_at m at shelves_run) plan.ports.items quit replayed.before outcome
+      → HaveWholeStreams first last plan.ports.items quit replayed.before (record outcome { apps = lines })
   told-streams quit same whole number flow at =
       let (app, app_at, streams) = found-there (slice_get outcome.apps flow.app) _ (whole number flow at) in
       is-there (slice_get lines flow.app) app _ (ap (λ ls. slice_get ls flow.app) same ∙ app_at) (λ other.
-      Gained-kept (kept_in kept shelves flow.app number) (kept_in kept shelves_run flow.app number) (kept_in kept shelves_now flow.app number) _
+      Gained-kept (kept_at first flow.app number) (kept_in m.shelf.kept shelves_run flow.app number) (kept_at last flow.app number) _
       (streams other) (flushes.keeps flow.app number))

@@ -3,7 +3,8 @@ use Rattle.std.specs.{Prelude.{◌≡◌, ◌≢◌, ℕ, List, [], ◌∷◌, �
 use Rattle.std.specs.Io.KnownBytes.{Appends, IsAtEnd}
 use Rattle.zr_io.specs.Moved.{Rose}
 use Rattle.run_check.specs.{Judged.{Judges}, declared.checking.Checked.{Checked, TheVariants.{Yes, No}}}
-use Rattle.top_call.specs.{Worlds.{SourceSeen, SinkSeen}, declared.card.Card.{Card}}
+use Rattle.run_account.specs.Views.{SourceSeen}
+use Rattle.top_call.specs.{Worlds.{SinkSeen}, declared.card.Card.{Card}}
 
 -- the line that says what was found
 abbrev pub check_line : Checked → List ℕ

@@ -4,8 +4,7 @@ use Rattle.zr_kinds.specs.declared.{behaviour.Stopped.{Stopped}, outcome.AppLine
 use Rattle.zr_kinds.specs.declared.behaviour.Stopped.TheVariants as stop
 use Rattle.zr_io.specs.Moved.{Rose}
 use Rattle.card_feed.specs.Account.{kept_in}
-use Rattle.run_account.specs.Running.{losses_in}
-use Rattle.top_call.specs.Worlds.{ShelfSeen}
+use Rattle.run_account.specs.Views.{ShelfSeen, losses_in}
 
 -- why an application stopped, where the flush of its shelf failed: by that, unless something stopped it before
 abbrev pub stopped_or_lost : Stopped → Stopped

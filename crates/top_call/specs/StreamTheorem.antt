@@ -11,11 +11,12 @@ use Rattle.zr_kinds.specs.declared.behaviour.Stopped.TheVariants as stop
 use Rattle.card_feed.specs.{declared.{plan.Plan.{Plan}, outcome.Outcome.{Outcome}}, Counts.{sweeping_in, sweeps_in}, Need.{buffers_of, need_in}, Offered.{offers_of}}
 use Rattle.card_feed.specs.Plan.{TakesTurns}
 use Rattle.run_account.specs.Ran.{HasReadOn, HaveWholeStreams, IsLineOf, IsStreamed, LacksMemory, LacksMemoryBeside, Ran, There, Told, told_of}
+use Rattle.run_account.specs.Views.{Ends, ShelfSeen, Streams, ends_at}
 use Rattle.replay_turns.specs.Following.{RunsBy}
 use Rattle.run_report.specs.{Report.{report_of, Reports, answer_of}, declared.report.Unreported.{Unreported}}
 use Rattle.top_call.specs.{Cards.{HasOver, HasSides, IsClosed, IsOfWay, IsUncounted}, Flushing.{Flushes, HasLost}, Planned.{IsPlanOf}, Records.{HasRecord, record_in}}
 use Rattle.top_call.specs.{Status.{end_number, status_of}, Making.{Makes}, Checking.{Checks}, declared.card.Card.{Card}}
-use Rattle.top_call.specs.Worlds.{Ends, IsUntouched, Seen, ShelfSeen, Streams, Sunk, World, counts_by, failed_in, kept_by, left_in, sink_in}
+use Rattle.top_call.specs.Worlds.{IsUntouched, Seen, Sunk, World, counts_by, failed_in, kept_by, left_in, sink_in}
 
 -- Want of memory, a failed read and a lost shelf show in no byte. Any other status is that of what ended the reading.
 abbrev pub IsStatusOf : ℕ → Option Fault → Type 0
@@ -57,8 +58,7 @@ pub record Finishes {T : Type 0} (m : ShelfSeen T) (shelves shelves_now : List T
 -- With a text of turns the run's turns are those of the text, one a letter, and then whole rounds. Without one it is over the board for one
 -- thread only where applications take turns of their own. By what turns the roles came to what is told, `ran` says of each.
 abbrev pub IsPlayed : {S T : Type 0} → {m : Streams S T} → Ends m → Ends m → Plan → Told → Option (List ℕ) → Card → Type 0
-IsPlayed {S} {T} {m} before after plan outcome (Some turns) (Card.Plain board) =
-    RunsBy m.source.left m.source.failed m.shelf.kept m.shelf.counts before.source after.source before.shelves after.shelves plan turns outcome board
+IsPlayed before after plan outcome (Some turns) (Card.Plain board) = RunsBy before after plan turns outcome board
 IsPlayed before after plan outcome (Some turns) card = ⊥
 IsPlayed before after plan outcome None (Card.Plain board) = TakesTurns plan
 IsPlayed before after plan outcome None (Card.Words board desk) = ⊤
@@ -70,11 +70,11 @@ pub record RanWith {S T : Type 0} {m : Streams S T} (before after : Ends m) (car
     (outcome : Told) : Type 0 where
   -- the source as the ending of the reading left it; by turns it stands there still
   pub at : S
-  pub ahead : HasReadOn m.source.left m.source.failed at after.source outcome.end
+  pub ahead : HasReadOn m.source at after.source outcome.end
   pub still : turns ≢ None → at ≡ after.source
   pub nic : NicSide
   pub apps : List AppSide
-  pub ran : Ran m.source.left m.source.failed m.shelf.kept m.shelf.counts before.source at before.shelves after.shelves plan outcome nic apps
+  pub ran : Ran before (ends_at m at after.shelves) plan outcome nic apps
   -- by turns each sweep of the free list was made by a search that is counted as one that swept it
   pub sweeps : turns ≢ None → sweeping_in outcome.pool ≡ sweeps_in nic.view
   pub sides : HasSides card_now nic apps
@@ -85,10 +85,8 @@ pub record RanWith {S T : Type 0} {m : Streams S T} (before after : Ends m) (car
 
 -- There was no memory for a run by these turns, or for one by threads.
 abbrev pub LacksMemoryBy : {S T : Type 0} → {m : Streams S T} → Ends m → Ends m → Option (List ℕ) → Plan → Type 0
-LacksMemoryBy {S} {T} {m} before after (Some turns) plan =
-    LacksMemory m.source.left m.source.failed m.shelf.kept m.shelf.counts before.source after.source before.shelves after.shelves plan
-LacksMemoryBy {S} {T} {m} before after None plan =
-    LacksMemoryBeside m.source.left m.source.failed m.shelf.kept m.shelf.counts before.source after.source before.shelves after.shelves plan
+LacksMemoryBy before after (Some turns) plan = LacksMemory before after plan
+LacksMemoryBy before after None plan = LacksMemoryBeside before after plan
 
 -- What a run by these turns leaves, or one without a text of turns: an outcome, or for want of memory none.
 pub record Plays {S T E : Type 0} {m : Streams S T} (before after : Ends m) (card card_now : Card) (turns : Option (List ℕ)) (plan : Plan)
@@ -163,8 +161,7 @@ pub record IsDone {S T O : Type 0} {m : Seen S T O} (before after : World m) (to
   -- Each flow's shelf gained the whole stream that a copying receiver gives for it over those frames, the refused ones left out, unless
   -- its application wrote as many bytes as it was to. So where none is refused it is a function of capture and ports alone, whatever
   -- the turns or the threads did.
-  pub streams : HaveWholeStreams m.streams.shelf.kept before.ends.shelves after.ends.shelves told.ports told.options.how.quit
-      (ended_of told.ports all).before outcome
+  pub streams : HaveWholeStreams before.ends after.ends told.ports told.options.how.quit (ended_of told.ports all).before outcome
 
 -- What a replay leaves, and what its answer says. `ran.at` is the source as the ending of the reading left it.
 pub record Replays {S T O : Type 0} {m : Seen S T O} (before after : World m) (told : ReplayShown) (answer : ℕ) : Type 0 where

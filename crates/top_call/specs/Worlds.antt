@@ -1,84 +1,52 @@
 -- What a command touches, at one moment: its source, its shelves, its sink and its card, and what is seen of these.
 use Rattle.std.specs.Prelude.{◌≡◌, ℕ, List, Option}
 use Rattle.zr_io.specs.Moved.{ShelfCounts}
-use Rattle.card_feed.specs.Account.{kept_in}
-use Rattle.run_account.specs.Running.{losses_in}
+use Rattle.run_account.specs.Views.{Ends, Streams, counts_at, ends_at, failed_at, kept_at, left_at}
 use Rattle.top_call.specs.declared.card.Card.{Card}
 
 -- ---- what is seen
-
--- of a source: the bytes that are still to come, and how often it has failed
-pub record SourceSeen (S : Type 0) : Type 0 where
-  pub left : S → Option (List ℕ)
-  pub failed : S → ℕ
-
--- of a shelf: what it keeps of each flow, and what its calls did
-pub record ShelfSeen (T : Type 0) : Type 0 where
-  pub kept : T → ℕ → Option (List ℕ)
-  pub counts : T → ShelfCounts
 
 -- of a sink: what went out, and how often it has failed
 pub record SinkSeen (O : Type 0) : Type 0 where
   pub sent : O → Option (List ℕ)
   pub failed : O → ℕ
 
-pub record Streams (S T : Type 0) : Type 0 where
-  pub source : SourceSeen S
-  pub shelf : ShelfSeen T
-
 pub record Seen (S T O : Type 0) : Type 0 where
   pub streams : Streams S T
   pub sink : SinkSeen O
 
-abbrev pub source_seen : {S : Type 0} → (S → Option (List ℕ)) → (S → ℕ) → SourceSeen S
-source_seen left failed = record { left = left; failed = failed }
-
-abbrev pub shelf_seen : {T : Type 0} → (T → ℕ → Option (List ℕ)) → (T → ShelfCounts) → ShelfSeen T
-shelf_seen kept counts = record { kept = kept; counts = counts }
-
 abbrev pub sink_seen : {O : Type 0} → (O → Option (List ℕ)) → (O → ℕ) → SinkSeen O
 sink_seen sent failed = record { sent = sent; failed = failed }
 
-abbrev pub streams : {S T : Type 0} → SourceSeen S → ShelfSeen T → Streams S T
-streams source shelf = record { source = source; shelf = shelf }
-
-abbrev pub seen : {S T O : Type 0} → SourceSeen S → ShelfSeen T → SinkSeen O → Seen S T O
-seen source shelf sink = record { streams = streams source shelf; sink = sink }
+abbrev pub seen : {S T O : Type 0} → Streams S T → SinkSeen O → Seen S T O
+seen streams sink = record { streams = streams; sink = sink }
 
 -- ---- what is touched
 
--- the source and the shelves
-pub record Ends {S T : Type 0} (m : Streams S T) : Type 0 where
-  pub source : S
-  pub shelves : List T
-
--- these, the sink and the card
+-- the source and the shelves, the sink and the card
 pub record World {S T O : Type 0} (m : Seen S T O) : Type 0 where
   pub ends : Ends m.streams
   pub out : O
   pub card : Card
-
-abbrev pub ends_at : {S T : Type 0} → (m : Streams S T) → S → List T → Ends m
-ends_at m source shelves = record { source = source; shelves = shelves }
 
 abbrev pub world_at : {S T O : Type 0} → (m : Seen S T O) → S → List T → O → Card → World m
 world_at m source shelves out card = record { ends = ends_at m.streams source shelves; out = out; card = card }
 
 -- the bytes that are still to come
 abbrev pub left_in : {S T O : Type 0} → {m : Seen S T O} → World m → Option (List ℕ)
-left_in {S} {T} {O} {m} world = m.streams.source.left world.ends.source
+left_in world = left_at world.ends
 
 -- how often the source has failed
 abbrev pub failed_in : {S T O : Type 0} → {m : Seen S T O} → World m → ℕ
-failed_in {S} {T} {O} {m} world = m.streams.source.failed world.ends.source
+failed_in world = failed_at world.ends
 
 -- what the shelf of an application keeps of a flow
 abbrev pub kept_by : {S T O : Type 0} → {m : Seen S T O} → World m → ℕ → ℕ → Option (List ℕ)
-kept_by {S} {T} {O} {m} world app flow = kept_in m.streams.shelf.kept world.ends.shelves app flow
+kept_by world app flow = kept_at world.ends app flow
 
 -- what the calls of its shelf did
 abbrev pub counts_by : {S T O : Type 0} → {m : Seen S T O} → World m → ℕ → ShelfCounts
-counts_by {S} {T} {O} {m} world app = losses_in m.streams.shelf.counts world.ends.shelves app
+counts_by world app = counts_at world.ends app
 
 -- What went out, and how often the sink has failed.
 pub record Sunk : Type 0 where

@@ -1,6 +1,7 @@
 //! The command `check`.
 ghost use Rattle.std.specs.Prelude.{◌≡◌, Some};
-ghost use Rattle.top_call.specs.{Cards.{IsClosed}, Checking.{Checks, check_line, check_status}, Worlds.{sink_seen, source_seen}};
+ghost use Rattle.top_call.specs.{Cards.{IsClosed}, Checking.{Checks, check_line, check_status}, Worlds.{sink_seen}};
+ghost use Rattle.run_account.specs.Views.{source_seen};
 
 use crate::card::Card;
 use run_check::{Checked, check};

@@ -1,7 +1,8 @@
 //! The flush of the shelves, once all roles have left.
 
 ghost use Rattle.std.specs.{Prelude.{◌≡◌, ℕ, ◌≤◌, length}, Io.KnownBytes.{Keeps}};
-ghost use Rattle.top_call.specs.{Flushing.{Flushes, HasFlushed}, Worlds.{shelf_seen}};
+ghost use Rattle.run_account.specs.Views.{shelf_seen};
+ghost use Rattle.top_call.specs.Flushing.{Flushes, HasFlushed};
 
 use zr_io::{Failed, Shelf};
 use zr_kinds::{AppLine, Stopped};

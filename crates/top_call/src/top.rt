@@ -6,10 +6,10 @@ ghost use Rattle.zr_io.specs.Moved.{AddsPiece, HasCause, Rose};
 ghost use Rattle.cap_make.specs.GeneratedCapture.{generated_capture};
 ghost use Rattle.command_words.specs.Words.{reading_of, replay};
 ghost use Rattle.card_feed.specs.Plan.{IsPlan, TakesTurns};
-ghost use Rattle.run_account.specs.Ran.{told_of};
+ghost use Rattle.run_account.specs.{Ran.{told_of}, Views.{ends_at, shelf_seen, streams}};
 ghost use Rattle.run_report.specs.Report.{Reports, report_of};
 ghost use Rattle.replay_turns.specs.Schedule.{AreTurns};
-ghost use Rattle.top_call.specs.{Records.{record_in}, StreamTheorem.{Answers, AnswersAlone, Finishes, IsThreaded, Plays, RepliesTo, Tells, asked_by}, Worlds.{IsUntouched, ends_at, seen, shelf_seen, sink_seen, source_seen, streams, sunk, world_at}};
+ghost use Rattle.top_call.specs.{Planned.{IsPlanOf}, Records.{record_in}, StreamTheorem.{Answers, AnswersAlone, Finishes, IsThreaded, Plays, RepliesTo, Tells, asked_by}, Worlds.{IsUntouched, seen, sink_seen, sunk, world_at}};
 
 use crate::card::Card;
 use crate::checking::check_record;
@@ -126,7 +126,7 @@ fn play_turns<S: Source, T: Shelf>(
     requires shelves { length plan.now.ports.items ≤ vec_len shelves.old }
     requires turns { AreTurns (length plan.now.ports.items) turns.now }
     ensures many { vec_len shelves.new ≡ vec_len shelves.old }
-    ensures plays { let m = streams (source_seen S.left S.faults) (shelf_seen T.kept T.counts) in
+    ensures plays { let m = streams S.left S.faults T.kept T.counts in
         Plays (ends_at m source.old shelves.old.items) (ends_at m source.new shelves.new.items)
         card.old card.new (Some turns.now) plan.now result }
 {
@@ -149,7 +149,7 @@ fn play_beside<S: Source + Send, T: Shelf + Send, G: Gate + Sync, R: Threads + W
     requires plan { IsPlan plan.now }
     requires shelves { length plan.now.ports.items ≤ vec_len shelves.old }
     ensures many { vec_len shelves.new ≡ vec_len shelves.old }
-    ensures plays { let m = streams (source_seen S.left S.faults) (shelf_seen T.kept T.counts) in
+    ensures plays { let m = streams S.left S.faults T.kept T.counts in
         Plays (ends_at m source.old shelves.old.items) (ends_at m source.new shelves.new.items)
         card.old card.new None plan.now result }
 {
@@ -173,7 +173,7 @@ fn play_rounds<S: Source, T: Shelf, G: Gate>(
     requires turns_only { TakesTurns plan.now }
     requires shelves { length plan.now.ports.items ≤ vec_len shelves.old }
     ensures many { vec_len shelves.new ≡ vec_len shelves.old }
-    ensures plays { let m = streams (source_seen S.left S.faults) (shelf_seen T.kept T.counts) in
+    ensures plays { let m = streams S.left S.faults T.kept T.counts in
         Plays (ends_at m source.old shelves.old.items) (ends_at m source.new shelves.new.items)
         card.old card.new None plan.now result }
 {
@@ -204,7 +204,7 @@ fn play_freely<S: Source + Send, T: Shelf + Send, G: Gate + Sync, R: Threads + W
     requires plan { IsPlan plan.now }
     requires shelves { length plan.now.ports.items ≤ vec_len shelves.old }
     ensures many { vec_len shelves.new ≡ vec_len shelves.old }
-    ensures plays { let m = streams (source_seen S.left S.faults) (shelf_seen T.kept T.counts) in
+    ensures plays { let m = streams S.left S.faults T.kept T.counts in
         Plays (ends_at m source.old shelves.old.items) (ends_at m source.new shelves.new.items)
         card.old card.new None plan.now result }
 {
@@ -232,7 +232,7 @@ fn replay_alone<S: Source, T: Shelf, O: Sink>(
     requires turns { AreTurns (length plan.ports.items) turns.now }
     requires shelves { vec_len shelves.old ≡ 8 }
     requires blank { card.old ≡ Card.Blank }
-    ensures replays { let m = seen (source_seen S.left S.faults) (shelf_seen T.kept T.counts)
+    ensures replays { let m = seen (streams S.left S.faults T.kept T.counts)
         (sink_seen O.sent O.faults) in
         RepliesTo (world_at m source.old shelves.old.items out.old card.old)
         (world_at m source.new shelves.new.items out.new card.new)
@@ -260,7 +260,7 @@ fn replay<S: Source + Send, T: Shelf + Send, O: Sink, G: Gate + Sync, R: Threads
     requires plain { BehavesPlainly plan.options }
     requires shelves { vec_len shelves.old ≡ 8 }
     requires blank { card.old ≡ Card.Blank }
-    ensures replays { let m = seen (source_seen S.left S.faults) (shelf_seen T.kept T.counts)
+    ensures replays { let m = seen (streams S.left S.faults T.kept T.counts)
         (sink_seen O.sent O.faults) in
         RepliesTo (world_at m source.old shelves.old.items out.old card.old)
         (world_at m source.new shelves.new.items out.new card.new)
@@ -308,7 +308,7 @@ fn run_alone<S: Source, T: Shelf, O: Sink>(
 ) -> Result<u8, Threaded>
     requires shelves { vec_len shelves.old ≡ 8 }
     requires blank { card.old ≡ Card.Blank }
-    ensures answers { let m = seen (source_seen S.left S.faults) (shelf_seen T.kept T.counts)
+    ensures answers { let m = seen (streams S.left S.faults T.kept T.counts)
         (sink_seen O.sent O.faults) in
         let before = world_at m source.old shelves.old.items out.old card.old in
         let after = world_at m source.new shelves.new.items out.new card.new in
@@ -368,7 +368,7 @@ pub fn zcrx_alone<S: Source, T: Shelf, O: Sink>(
 ) -> Option<u8>
     requires shelves { vec_len shelves.old ≡ 8 }
     requires blank { card.old ≡ Card.Blank }
-    ensures { let m = seen (source_seen S.left S.faults) (shelf_seen T.kept T.counts)
+    ensures { let m = seen (streams S.left S.faults T.kept T.counts)
         (sink_seen O.sent O.faults) in
         AnswersAlone (world_at m source.old shelves.old.items out.old card.old)
         (world_at m source.new shelves.new.items out.new card.new)
@@ -397,7 +397,7 @@ pub fn zcrx<S: Source + Send, T: Shelf + Send, O: Sink, G: Gate + Sync, R: Threa
     requires shelves { vec_len shelves.old ≡ 8 }
     requires blank { card.old ≡ Card.Blank }
     // `card.new` may be finished; the rest of what the answer says stands in `Answers`.
-    ensures { let m = seen (source_seen S.left S.faults) (shelf_seen T.kept T.counts)
+    ensures { let m = seen (streams S.left S.faults T.kept T.counts)
         (sink_seen O.sent O.faults) in
         Answers (world_at m source.old shelves.old.items out.old card.old)
         (world_at m source.new shelves.new.items out.new card.new)

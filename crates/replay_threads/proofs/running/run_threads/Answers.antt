@@ -1,6 +1,7 @@
 -- A whole run: the shelves that were set aside stand behind the others again.
 use Rattle.std.{proofs.{Common.{rules, ◌≡◌, Option, Some, ◌++◌, [], length, map, ap, ◌∙◌, subst, sym, arith}, lemmas.List.{length-map}}, specs.Prelude.{IfSome, reverse}}
-use Rattle.run_account.specs.Ran.{TellsOfEnds}
+use Rattle.run_account.specs.{Ran.{TellsOfEnds}, Views.{ends_at, streams}}
+use Rattle.word_board.specs.{Board.{TheBoard, TheDesk}, Desk.{AllAreBack}}
 use Rattle.app_lanes.{specs.Seated.{left_end}, proofs.Reversed.{put-back, set-aside}}
 use Rattle.replay_threads.proofs.Told.{on-err, run-lacks, run-told}
 use Rattle.replay_threads.proofs.running.run_threads.Goals as goal
@@ -82,13 +83,23 @@ returns-clause-ran g c =
     (c.move_last.ensures.moved ∙ ap (λ l. l ++ reverse c.args.shelves.now.items) c.in_ok-lanes.ensures.aside.0) in
     let none : length c.move_last-2.new.from.items ≡ 0 = sym c.move_last-2.new.from.ok.0 ∙ c.move_last-2.ensures.kept in
     let last = put-back c.move_last-2.new.to.items c.play_seated-feed.new.shelves.items aside c.move_last-2.new.from.items c.move_last-2.ensures.moved none in
-    run-told g.S.Source.left g.S.Source.faults g.T.Shelf.kept g.T.Shelf.counts c.args.source.now c.play_seated-feed.new.source c.args.shelves.now.items
-    c.move_last.new.from.items c.play_seated-feed.new.shelves.items c.move_last-2.new.to.items (reverse aside) c.args.plan.now c.play_seated-feed.new.desk
-    c.play_seated-feed.result.0 (map left_end c.play_seated-feed.result.1.items) first last c.play_seated-feed.ensures.played c.runs_end_well.ensures
-    c.in_ok-outcome.outcome
-    (subst (λ ports. TellsOfEnds c.play_seated-feed.result.0 (map left_end c.play_seated-feed.result.1.items) ports c.in_ok-outcome.outcome) c.deref-2.ensures.value
-    (subst (λ lefts. TellsOfEnds c.play_seated-feed.result.0 (map left_end lefts) c.deref-2.result.now c.in_ok-outcome.outcome) c.deref.ensures.value
-    c.in_ok-outcome.ensures))
+    let m = streams g.S.Source.left g.S.Source.faults g.T.Shelf.kept g.T.Shelf.counts in
+    let at_desk : c.play_seated-feed.new.desk.board ≡ c.in_ok-board.board =
+    c.play_seated-feed.ensures.board ∙ ap (λ (d : TheDesk). d.board) c.in_ok-board.ensures.desk in
+    record {
+      beside = run-told (ends_at m c.args.source.now c.args.shelves.now.items)
+          (ends_at m c.play_seated-feed.new.source c.move_last-2.new.to.items) c.move_last.new.from.items c.play_seated-feed.new.shelves.items
+          (reverse aside) c.args.plan.now c.play_seated-feed.new.desk c.play_seated-feed.result.0 (map left_end c.play_seated-feed.result.1.items)
+          first last c.play_seated-feed.ensures.played c.runs_end_well.ensures c.in_ok-outcome.outcome
+          (subst (λ ports. TellsOfEnds c.play_seated-feed.result.0 (map left_end c.play_seated-feed.result.1.items) ports c.in_ok-outcome.outcome)
+          c.deref-2.ensures.value
+          (subst (λ lefts. TellsOfEnds c.play_seated-feed.result.0 (map left_end lefts) c.deref-2.result.now c.in_ok-outcome.outcome)
+          c.deref.ensures.value c.in_ok-outcome.ensures));
+      setting = subst (λ layout. c.in_ok-board.board.setting ≡ record { layout = layout; places = c.args.plan.now.options.ring })
+          (laid-out _ _ _ c.unwrap-layout.ensures c.layout.ensures.value) c.in_ok-board.ensures.setting;
+      desk_is = at_desk;
+      back = subst (λ (b : TheBoard). AllAreBack b.setting c.play_seated-feed.new.desk.view) at_desk c.play_seated-feed.ensures.played.back;
+    }
 
 pub returns-in_err-outcome-clause-lacks : goal.returns-in_err-outcome-clause-lacks
 returns-in_err-outcome-clause-lacks g c =
@@ -97,18 +108,14 @@ returns-in_err-outcome-clause-lacks g c =
     (c.move_last.ensures.moved ∙ ap (λ l. l ++ reverse c.args.shelves.now.items) c.in_ok-lanes.ensures.aside.0) in
     let none : length c.move_last-2.new.from.items ≡ 0 = sym c.move_last-2.new.from.ok.0 ∙ c.move_last-2.ensures.kept in
     let last = put-back c.move_last-2.new.to.items c.play_seated-feed.new.shelves.items aside c.move_last-2.new.from.items c.move_last-2.ensures.moved none in
-    on-err _ _ (run-lacks g.S.Source.left g.S.Source.faults g.T.Shelf.kept g.T.Shelf.counts c.args.source.now c.play_seated-feed.new.source
-    c.args.shelves.now.items c.move_last.new.from.items c.play_seated-feed.new.shelves.items c.move_last-2.new.to.items (reverse aside) c.args.plan.now
-    c.play_seated-feed.new.desk c.play_seated-feed.result.0 (map left_end c.play_seated-feed.result.1.items) first last c.play_seated-feed.ensures.played
-    c.runs_are_told.ensures)
+    let m = streams g.S.Source.left g.S.Source.faults g.T.Shelf.kept g.T.Shelf.counts in
+    on-err _ _ (run-lacks (ends_at m c.args.source.now c.args.shelves.now.items)
+    (ends_at m c.play_seated-feed.new.source c.move_last-2.new.to.items) c.move_last.new.from.items c.play_seated-feed.new.shelves.items
+    (reverse aside) c.args.plan.now c.play_seated-feed.new.desk c.play_seated-feed.result.0 (map left_end c.play_seated-feed.result.1.items) first last
+    c.play_seated-feed.ensures.played c.runs_are_told.ensures)
 
 pub tell-requires-clause-many : goal.tell-requires-clause-many
 tell-requires-clause-many g c =
     ap length c.deref.ensures.value
     ∙ (sym (length-map c.play_seated-feed.result.1.items left_end)
     ∙ ((c.play_seated-feed.ensures.played.runs []).many ∙ sym (ap length c.deref-2.ensures.value)))
-
-pub returns-clause-setting : goal.returns-clause-setting
-returns-clause-setting g c =
-    subst (λ layout. c.in_ok-board.board.setting ≡ record { layout = layout; places = c.args.plan.now.options.ring })
-    (laid-out _ _ _ c.unwrap-layout.ensures c.layout.ensures.value) c.in_ok-board.ensures.setting

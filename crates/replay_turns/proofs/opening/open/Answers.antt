@@ -45,7 +45,7 @@ returns-clause-fits g c shelves enough =
     }
 
 pub returns-clause-runs : goal.returns-clause-runs
-returns-clause-runs g c source shelves enough =
+returns-clause-runs g c first enough =
     let layout_is : c.unwrap-layout.result ≡ layout_of c.args.plan.now =
     subst (λ (r : Option Shape). IfSome r (λ l. l ≡ layout_of c.args.plan.now)) c.unwrap-layout.ensures c.layout.ensures.value in
     let reserves : c.unwrap-layout.result.reserves ≡ length c.args.plan.now.ports.items = ap (λ (s : Shape). s.reserves) layout_is in
@@ -54,7 +54,7 @@ returns-clause-runs g c source shelves enough =
       plan_is = c.requires.plan;
       by_turns = c.requires.turns_only;
       frames = [];
-      feed = rw c.in_ok-feed.ensures.value (c.new_feeds_stand.ensures source c.args.plan.now.ports.items c.args.plan.now.options.split
+      feed = rw c.in_ok-feed.ensures.value (c.new_feeds_stand.ensures first.source c.args.plan.now.ports.items c.args.plan.now.options.split
           c.in_ok-board.board.nic.view (ap (λ (b : Board). b.nic.view.sent) c.in_ok-board.ensures.board)
           (ap (λ (b : Board). b.nic.view.dealt) c.in_ok-board.ensures.board)
           (ap (λ (b : Board). b.nic.view.used) c.in_ok-board.ensures.board));

@@ -5,17 +5,16 @@ use Rattle.run_account.specs.declared.run.Run.{Run}
 use Rattle.replay_turns.proofs.waiting.keep_up.Goals as goal
 
 pub returns-clause-plays : goal.returns-clause-plays
-returns-clause-plays g c source shelves fits =
+returns-clause-plays g c ends fits =
     let step = c.card_keeps_up.ensures in
     let run_now : Run = record { feed = c.card_keeps_up.new.feed; workers = c.args.run.now.workers } in
     record {
-      fits = card-fits c.args.board c.card_keeps_up.result c.args.run.now run_now refl step.apps step.sound step.ready (length shelves) fits step.recorded;
+      fits = card-fits c.args.board c.card_keeps_up.result c.args.run.now run_now refl step.apps step.sound step.ready (length ends.shelves) fits step.recorded;
       workers = refl;
       many = refl;
       room = step.room;
-      runs = λ first firsts plan runs.
-          card-waits c.args.board c.card_keeps_up.result c.args.run.now run_now refl step.apps step.sound step.ready step.steps
-          g.S.Source.left g.S.Source.faults g.T.Shelf.kept g.T.Shelf.counts first source firsts shelves plan fits runs;
+      runs = λ first plan runs.
+          card-waits c.args.board c.card_keeps_up.result c.args.run.now run_now refl step.apps step.sound step.ready step.steps first ends plan fits runs;
     }
 
 pub returns-clause-later : goal.returns-clause-later

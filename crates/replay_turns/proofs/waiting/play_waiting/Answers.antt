@@ -4,21 +4,17 @@ use Rattle.replay_turns.{specs.{Steps.{run_steps}, Stuck.{AreStuck}}, proofs.{Al
 use Rattle.replay_turns.proofs.waiting.play_waiting.Goals as goal
 
 pub loop-taken-init : goal.loop-taken-init
-loop-taken-init g c = plays-none g.S.Source.left g.S.Source.faults g.T.Shelf.kept g.T.Shelf.counts _ _ _ _ c.requires.fits
+loop-taken-init g c = plays-none _ c.requires.fits
 
 pub loop-taken-preserved : goal.loop-taken-preserved
-loop-taken-preserved g c =
-    plays-through g.S.Source.left g.S.Source.faults g.T.Shelf.kept g.T.Shelf.counts
-    _ _ _ _ _ _ _ _ _ _ _ _ c.loop-taken.invariant c.waiting_round-next.ensures.plays
+loop-taken-preserved g c = plays-through _ _ _ c.loop-taken.invariant c.waiting_round-next.ensures.plays
 
 pub loop-taken-smaller : goal.loop-taken-smaller
 loop-taken-smaller g c =
     let round = c.waiting_round-next.ensures in
-    left-falls g.S.Source.left g.S.Source.faults g.T.Shelf.kept g.T.Shelf.counts _ _ _ _ _ _ _ _
-    (still-of g.S.Source.left g.S.Source.faults g.T.Shelf.kept g.T.Shelf.counts _ _ _ _ _ _ _ _ c.requires.plan c.loop-taken.invariant)
-    round.plays
+    left-falls _ _ (still-of _ _ c.requires.plan c.loop-taken.invariant) round.plays
     (subst (λ did. MatchBool did (run_steps c.loop-taken.board c.loop-taken.run < run_steps c.waiting_round-next.result.0 c.waiting_round-next.new.run)
-    (AreStuck c.waiting_round-next.result.0 c.waiting_round-next.new.run)) c.if-not-did.false round.answer)
+    (AreStuck c.waiting_round-next.result.0 c.waiting_round-next.new.run)) c.if-not-did.false round.by)
 
 pub returns : goal.returns
 returns g c =
@@ -26,7 +22,6 @@ returns g c =
     record {
       over = stuck-over c.waiting_round-next.result.0 c.waiting_round-next.new.run (length c.waiting_round-next.new.shelves) round.plays.fits
           (subst (λ did. MatchBool did (run_steps c.loop-taken.board c.loop-taken.run < run_steps c.waiting_round-next.result.0 c.waiting_round-next.new.run)
-          (AreStuck c.waiting_round-next.result.0 c.waiting_round-next.new.run)) c.if-not-did.true round.answer);
-      plays = plays-through g.S.Source.left g.S.Source.faults g.T.Shelf.kept g.T.Shelf.counts
-          _ _ _ _ _ _ _ _ _ _ _ _ c.loop-taken.invariant round.plays;
+          (AreStuck c.waiting_round-next.result.0 c.waiting_round-next.new.run)) c.if-not-did.true round.by);
+      plays = plays-through _ _ _ c.loop-taken.invariant round.plays;
     }

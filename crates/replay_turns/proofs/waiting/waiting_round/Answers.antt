@@ -13,6 +13,6 @@ returns g c =
     let settled = c.settle-board.ensures in
     let round = c.play_round.ensures in
     record {
-      plays = plays-through g.S.Source.left g.S.Source.faults g.T.Shelf.kept g.T.Shelf.counts _ _ _ _ _ _ _ _ _ _ _ _ settled.plays round.plays;
-      answer = behind _ _ _ _ c.play_round.result.1 settled.later round.answer;
+      plays = plays-through _ _ _ settled.plays round.plays.plays;
+      by = behind _ _ _ _ c.play_round.result.1 settled.later round.answer;
     }

@@ -1,5 +1,6 @@
 -- So many shelves were flushed.
-use Rattle.top_call.specs.{Flushing.{Flushes}, Worlds.{shelf_seen}}
+use Rattle.run_account.specs.Views.{shelf_seen}
+use Rattle.top_call.specs.Flushing.{Flushes}
 use Rattle.top_call.proofs.flushing.flush_shelves.Given as goal
 
 abbrev pub invariant-loop-app : goal.invariant-loop-app

@@ -1,12 +1,13 @@
 -- The board of the run is in the card, and its log tells of it.
 use Rattle.std.proofs.Common.{rules, refl}
+use Rattle.run_account.specs.Views.{ends_at, streams}
 use Rattle.plain_board.{specs.{Board.{stand_of}, Finish.{IsOver}}, proofs.Ending.{boards-end_well}}
 use Rattle.top_call.proofs.{Alone.{lacks-alone}, Recording.{board-records}}
 use Rattle.top_call.proofs.top.play_rounds.Goals as goal
 
 pub returns-clause-plays : goal.returns-clause-plays
 returns-clause-plays g c =
-    let ran = c.in_ok-outcome.ensures in
+    let ran = c.in_ok-outcome.ensures.ran in
     let over : IsOver (stand_of c.in_ok-outcome.plain) = record { card = ran.ran.over.card; apps = ran.ran.over.left } in
     record {
       ran = record {
@@ -23,7 +24,7 @@ returns-clause-plays g c =
         way = (ran.leaves.sound, ran.leaves.recorded);
         played = c.requires.turns_only;
       };
-      recorded = board-records g.S.Source.left g.S.Source.faults g.T.Shelf.kept g.T.Shelf.counts _ _ _ _ c.args.plan.now _ _ c.requires.plan
+      recorded = board-records _ _ c.args.plan.now _ _ c.requires.plan
           ran.ran ran.leaves.sound ran.leaves.recorded ran.leaves.room;
       lacks = tt;
     }
@@ -32,6 +33,6 @@ pub returns-in_err-outcome-clause-plays : goal.returns-in_err-outcome-clause-pla
 returns-in_err-outcome-clause-plays g c = record {
   ran = search rules;
   recorded = search rules;
-  lacks = lacks-alone g.S.Source.left g.S.Source.faults g.T.Shelf.kept g.T.Shelf.counts c.args.source.now c.run_rounds.new.source c.args.shelves.now.items
-      c.run_rounds.new.shelves.items c.args.plan.now _ c.args.card.now (search rules);
+  lacks = lacks-alone (ends_at (streams g.S.Source.left g.S.Source.faults g.T.Shelf.kept g.T.Shelf.counts) c.args.source.now c.args.shelves.now.items)
+      (ends_at _ c.run_rounds.new.source c.run_rounds.new.shelves.items) c.args.plan.now _ c.args.card.now (search rules);
 }

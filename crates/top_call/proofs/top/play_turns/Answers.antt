@@ -6,7 +6,8 @@ use Rattle.top_call.proofs.top.play_turns.Goals as goal
 
 pub returns-clause-plays : goal.returns-clause-plays
 returns-clause-plays g c =
-    let ran = c.in_ok-outcome.ensures in
+    let by_text = c.in_ok-outcome.ensures.ran in
+    let ran = by_text.alone in
     let over : IsOver (stand_of c.in_ok-outcome.board) = record { card = ran.ran.over.card; apps = ran.ran.over.left } in
     record {
       ran = record {
@@ -16,14 +17,14 @@ returns-clause-plays g c =
         nic = _;
         apps = _;
         ran = ran.ran;
-        sweeps = λ _. ran.swept;
+        sweeps = λ _. by_text.swept;
         sides = (refl, refl);
         over = over;
         uncounted = (boards-end_well _ ran.leaves.sound over).counts;
         way = (ran.leaves.sound, ran.leaves.recorded);
-        played = ran.follows;
+        played = by_text.follows;
       };
-      recorded = board-records g.S.Source.left g.S.Source.faults g.T.Shelf.kept g.T.Shelf.counts _ _ _ _ c.args.plan.now _ _ c.requires.plan
+      recorded = board-records _ _ c.args.plan.now _ _ c.requires.plan
           ran.ran ran.leaves.sound ran.leaves.recorded ran.leaves.room;
       lacks = tt;
     }
