@@ -9,7 +9,7 @@ pub returns-clause-makes : goal.returns-clause-makes
 returns-clause-makes g c =
     let was = at_work c.args.st.now (side_of c.args.board c.args.app).view c.args.shelf.now in
     view_stands (λ v. TurnMakes g.T.Shelf.kept g.T.Shelf.counts was (at_work c.app_turn-turn.new.st v c.app_turn-turn.new.shelf) c.app_turn-turn.result)
-    c.args.board c.app_turn-turn.new.face.board c.back-board.result c.args.app c.app_turn-turn.new.face.app
+    c.args.board c.app_turn-turn.new.face.board c.back.result c.args.app c.app_turn-turn.new.face.app
     (rw c.app-face.ensures at c.app_turn-turn.ensures.beside) c.back.ensures.board (rw c.app-face.ensures at c.app_turn-turn.ensures.makes)
 
 pub returns-clause-told : goal.returns-clause-told
