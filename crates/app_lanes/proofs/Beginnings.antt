@@ -2,14 +2,14 @@
 use Rattle.std.proofs.Common.{◌≡◌, ℕ, List, Option, ap, subst}
 use Rattle.board_face.specs.{Opened.{new_app}, declared.views.{app.AppSide.{AppSide}, parts.Setting.{Setting}}}
 use Rattle.card_feed.specs.{Plan.{TakesTurns}, declared.plan.Plan.{Plan}}
-use Rattle.run_account.{specs.{Behind.{begins}, Running.{IsNew, WorkerRuns}}, proofs.{Leaving.{behaves-so}, NewWorkers.{new-fits, new-runs}}}
-use Rattle.app_lanes.specs.{declared.seated.Turning.{Turning}, Seated.{Begins}}
+use Rattle.run_account.{specs.{Behind.{begins}, Running.{IsNewWorker, WorkerRuns}}, proofs.{Leaving.{behaves-so}, NewWorkers.{new-fits, new-runs}}}
+use Rattle.app_lanes.specs.{declared.seated.Turning.{Turning}, Seated.{BeginsLane}}
 use Rattle.app_lanes.specs.declared.seated.Seated.TheVariants as seated
 use Rattle.zr_io.specs.Moved.{ShelfCounts}
 
 module _ {T : Type 0} (kept : T → ℕ → Option (List ℕ)) (losses : T → ShelfCounts) where
   pub turning-begins : (plan : Plan) (setting : Setting) (a : ℕ) (own : Turning T) → own.seat.side ≡ new_app setting a
-      → TakesTurns plan × IsNew plan a own.worker → Begins kept losses plan (seated.Turning own)
+      → TakesTurns plan × IsNewWorker plan a own.worker → BeginsLane kept losses plan (seated.Turning own)
   turning-begins plan setting a own is start =
       let view = ap (λ (s : AppSide). s.view) is in
       record {

@@ -8,7 +8,7 @@ use Rattle.zc_poll.specs.declared.to_shelf.Poured.{Poured}
 use Rattle.card_feed.specs.declared.plan.Plan.{Plan}
 use Rattle.run_account.{proofs.Leaving.{has-left, has-returned}, specs.Ways.{ForwardedSince, HasCome, PolledSince, by_forwards, by_polls, by_turns}}
 use Rattle.app_lanes.specs.declared.seated.Seated.{Seated, TheVariants.{Turning, Pouring, Forwarding}}
-use Rattle.app_lanes.specs.Seated.{Comes, Fits, ForwardsSince, PoursSince, Runs, RunsOn, StandsOn, end_of, is_gone, poll_moment, poured_end, seat_of, shelf_of, stage_now}
+use Rattle.app_lanes.specs.Seated.{Comes, Fits, ForwardsSince, PoursSince, Runs, RunsOn, StandsOn, end_of_seated, is_gone, poll_moment, poured_end, seat_of, shelf_of, stage_now}
 
 poured-gone : (Since : (ℕ → Option (List ℕ)) → ShelfCounts → Type 0) (v : AppView) (found : Option Poured) → StandsOn Since v found → is_some found ≡ true
     → v.left ≡ true
@@ -40,8 +40,8 @@ module _ {T : Type 0} (kept : T → ℕ → Option (List ℕ)) (losses : T → S
 
   pub leaves : (first : ℕ → Option (List ℕ)) (count : ShelfCounts) (how : Behaviour) (s : Seated T) → Fits kept losses s → Runs kept losses first count how s
       → is_gone s ≡ true
-      → HasLeft how first (kept (shelf_of s)) count (losses (shelf_of s)) (seat_of s).side.view (end_of s)
-      × HasReturned how (end_of s).stopped (end_of s).written (seat_of s).side.view
+      → HasLeft how first (kept (shelf_of s)) count (losses (shelf_of s)) (seat_of s).side.view (end_of_seated s)
+      × HasReturned how (end_of_seated s).stopped (end_of_seated s).written (seat_of s).side.view
   leaves first count how (Turning own) fits runs left = (
     has-left first (kept own.shelf) count (losses own.shelf) how own.seat.side.view own.worker fits.side runs left,
     has-returned first (kept own.shelf) count (losses own.shelf) how own.seat.side.view own.worker fits.side runs left,
@@ -57,7 +57,7 @@ module _ {T : Type 0} (kept : T → ℕ → Option (List ℕ)) (losses : T → S
 
   -- and in which way it came to that
   pub has-come : (plan : Plan) (first : ℕ → Option (List ℕ)) (count : ShelfCounts) (s : Seated T) → Comes kept losses plan first count s → is_gone s ≡ true
-      → HasCome plan first (kept (shelf_of s)) count (losses (shelf_of s)) (seat_of s).side.view (end_of s)
+      → HasCome plan first (kept (shelf_of s)) count (losses (shelf_of s)) (seat_of s).side.view (end_of_seated s)
   has-come plan first count (Turning own) comes left = by_turns own.worker.state refl comes
   has-come plan first count (Pouring own) comes left =
       let (poured, some) = is-there own.poured left in

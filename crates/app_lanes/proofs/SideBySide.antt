@@ -6,8 +6,8 @@ use Rattle.board_face.specs.{Opened.{new_app}, Sides.{AreNumbered, side_in}, dec
 use Rattle.flow_queues.specs.Ends.{AppEnd}
 use Rattle.card_feed.specs.declared.plan.Plan.{Plan}
 use Rattle.word_board.specs.Board.{TheBoard}
-use Rattle.app_lanes.specs.{declared.lane.Lane.{Lane}, Lanes.{LanesGo, LanesFit, AreAtOpening}, Seated.{Begins, SeatedGoes, end_of, is_gone, seat_of, shelf_of}}
-use Rattle.app_lanes.proofs.Leavings.{gone-left}
+use Rattle.app_lanes.specs.{declared.lane.Lane.{Lane}, Lanes.{LanesGo, LanesFit, AreAtOpening}, Seated.{BeginsLane, SeatedGoes, end_of_seated, is_gone, seat_of}}
+use Rattle.app_lanes.{specs.Seated.{shelf_of}, proofs.Leavings.{gone-left}}
 use Rattle.zr_io.specs.Moved.{ShelfCounts}
 
 -- ---- lists
@@ -48,7 +48,7 @@ module _ {T : Type 0} (kept : T → ℕ → Option (List ℕ)) (losses : T → S
   }
 
   -- what has taken no turn fits its side
-  pub begun-fit : (plan : Plan) (lanes : List (Lane T)) → All (λ (lane : Lane T). Begins kept losses plan lane.seated) lanes → LanesFit kept losses lanes
+  pub begun-fit : (plan : Plan) (lanes : List (Lane T)) → All (λ (lane : Lane T). BeginsLane kept losses plan lane.seated) lanes → LanesFit kept losses lanes
   begun-fit plan lanes begun i d within = (begun i d within).fits
 
   -- an application that is done has left its board
@@ -62,7 +62,7 @@ module _ {T : Type 0} (kept : T → ℕ → Option (List ℕ)) (losses : T → S
     -- an application's lane: nothing was done at the one, and the other came of it and has left
     pub record LaneWent (board : TheBoard) (number : ℕ) (was now : Lane T) : Type 0 where
       pub opened : seat_of was.seated ≡ record { board = board; side = new_app board.setting number }
-      pub begins : Begins kept losses plan was.seated
+      pub begins : BeginsLane kept losses plan was.seated
       pub goes : SeatedGoes kept losses was.seated now.seated
       pub gone : is_gone now.seated ≡ true
 
@@ -73,7 +73,7 @@ module _ {T : Type 0} (kept : T → ℕ → Option (List ℕ)) (losses : T → S
     HaveGone board number (u ∷ us) (v ∷ vs) = LaneWent board number u v × HaveGone board (suc number) us vs
 
     pub have-gone : (board : TheBoard) (number : ℕ) (us vs : List (Lane T)) → AreAtOpening board number us
-        → All (λ (lane : Lane T). Begins kept losses plan lane.seated) us → LanesGo kept losses us vs
+        → All (λ (lane : Lane T). BeginsLane kept losses plan lane.seated) us → LanesGo kept losses us vs
         → All (λ (lane : Lane T). is_gone lane.seated ≡ true) vs → HaveGone board number us vs
     have-gone board number [] [] opened begun go gone = tt
     have-gone board number [] (v ∷ vs) opened begun go gone = let many = go.many in absurd (omega (arith, many))
@@ -90,13 +90,13 @@ module _ {T : Type 0} (kept : T → ℕ → Option (List ℕ)) (losses : T → S
       pub was : Lane T
       pub now : Lane T
       pub went : LaneWent board number was now
-      pub end_is : end ≡ end_of now.seated
+      pub end_is : end ≡ end_of_seated now.seated
       pub shelf : slice_get (map (λ (lane : Lane T). shelf_of lane.seated) us) a ≡ Some (shelf_of was.seated)
       pub shelf_now : slice_get (map (λ (lane : Lane T). shelf_of lane.seated) vs) a ≡ Some (shelf_of now.seated)
       pub side : side_in (map (λ (lane : Lane T). (seat_of lane.seated).side) vs) a ≡ (seat_of now.seated).side
 
     pub is-at : (board : TheBoard) (number : ℕ) (us vs : List (Lane T)) → HaveGone board number us vs → (a n : ℕ) (end : AppEnd) → n ≡ number + a
-        → slice_get (map (λ (lane : Lane T). end_of lane.seated) vs) a ≡ Some end → IsLaneAt board n a us vs end
+        → slice_get (map (λ (lane : Lane T). end_of_seated lane.seated) vs) a ≡ Some end → IsLaneAt board n a us vs end
     is-at board number [] [] gone a n end is at = absurd (cc)
     is-at board number [] (v ∷ vs) gone a n end is at = absurd gone
     is-at board number (u ∷ us) [] gone a n end is at = absurd (cc)
@@ -104,7 +104,7 @@ module _ {T : Type 0} (kept : T → ℕ → Option (List ℕ)) (losses : T → S
       was = u;
       now = v;
       went = subst (λ k. LaneWent board k u v) (let e : number ≡ n = omega (arith, is) in e) gone.0;
-      end_is = (let e : end ≡ end_of v.seated = cc in e);
+      end_is = (let e : end ≡ end_of_seated v.seated = cc in e);
       shelf = refl;
       shelf_now = refl;
       side = refl;

@@ -9,7 +9,7 @@ use Rattle.app_worker.specs.{State.{State}, StateOf.{end_of as worker_end}}
 use Rattle.zc_forward.specs.{Carriage.{Carriage, pace_of}, Forwarding.{ForwardStands}, Turns.{ForwardView, Stage, stage_of}}
 use Rattle.zc_poll.specs.{Pouring.{PourStands}, PourTurns.{PourView, pour_end, pour_stage}, declared.to_shelf.Poured.{Poured}}
 use Rattle.card_feed.specs.{Plan.{TakesTurns, how_of}, declared.plan.Plan.{Plan}}
-use Rattle.run_account.specs.Running.{IsNew, WorkerFits, WorkerRuns}
+use Rattle.run_account.specs.Running.{IsNewWorker, WorkerFits, WorkerRuns}
 use Rattle.run_account.specs.Ways.{DidOwn, DidPoll, ForwardMoment, ForwardTurns, ForwardedSince, OwnMoment, OwnTurn, PollMoment, PollTurns, PolledSince, TurnedSince}
 use Rattle.word_board.specs.Board.{TheApp}
 use Rattle.app_lanes.specs.declared.seated.{Forwarding.{Forwarding}, Left.{Left, TheVariants.{Turned, Poured as poured_out}}, Pouring.{Pouring}}
@@ -46,10 +46,10 @@ poured_end None = no_end
 poured_end (Some poured) = pour_end poured
 
 -- what it has left with, once it has left
-abbrev pub end_of : {T : Type 0} → Seated T → AppEnd
-end_of (sits.Turning own) = worker_end own.worker.state
-end_of (sits.Pouring own) = poured_end own.poured
-end_of (sits.Forwarding own) = poured_end own.poured
+abbrev pub end_of_seated : {T : Type 0} → Seated T → AppEnd
+end_of_seated (sits.Turning own) = worker_end own.worker.state
+end_of_seated (sits.Pouring own) = poured_end own.poured
+end_of_seated (sits.Forwarding own) = poured_end own.poured
 
 abbrev pub left_end : Left → AppEnd
 left_end (Turned worker) = worker_end worker.state
@@ -142,7 +142,7 @@ pub record SeatedGoes {T : Type 0} (kept : T → ℕ → Option (List ℕ)) (los
 
 -- what the application with this number begins with, by its plan
 abbrev pub IsStart : Plan → ℕ → Start → Type 0
-IsStart plan a (start.Turning worker) = TakesTurns plan × IsNew plan a worker
+IsStart plan a (start.Turning worker) = TakesTurns plan × IsNewWorker plan a worker
 IsStart plan a start.Pouring = (how_of plan ≡ plain_behaviour) × (plan.options.polled ≡ true)
 IsStart plan a (start.Forwarding delay) = (how_of plan ≡ plain_behaviour) × (delay ≤ 63) × (plan.options.forward ≡ Some delay)
 
@@ -152,7 +152,7 @@ pub record AreStarts (plan : Plan) (starts : List Start) : Type 0 where
   pub each : (a : ℕ) (s : Start) → slice_get starts a ≡ Some s → IsStart plan a s
 
 -- It has taken no turn: its part of the run begins with what its shelf has.
-pub record Begins {T : Type 0} (kept : T → ℕ → Option (List ℕ)) (losses : T → ShelfCounts) (plan : Plan) (seated : Seated T) : Type 0 where
+pub record BeginsLane {T : Type 0} (kept : T → ℕ → Option (List ℕ)) (losses : T → ShelfCounts) (plan : Plan) (seated : Seated T) : Type 0 where
   pub fits : Fits kept losses seated
   pub runs : Runs kept losses (kept (shelf_of seated)) (losses (shelf_of seated)) (how_of plan) seated
   pub comes : Comes kept losses plan (kept (shelf_of seated)) (losses (shelf_of seated)) seated

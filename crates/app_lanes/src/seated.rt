@@ -5,7 +5,7 @@ ghost use Rattle.card_feed.specs.declared.plan.Plan.{Plan};
 ghost use Rattle.zc_poll.specs.declared.to_shelf.PollTurn.TheVariants.{Idle};
 ghost use Rattle.run_account.specs.Ways.{DidOwn, DidPoll};
 ghost use Rattle.app_lanes.specs.declared.seated.Came.TheVariants.{Did};
-ghost use Rattle.app_lanes.specs.Seated.{Begins, Fits, SeatedGoes, IsStart, TakesTurn, end_of, is_gone, left_end, seat_of, shelf_of};
+ghost use Rattle.app_lanes.specs.Seated.{BeginsLane, Fits, SeatedGoes, IsStart, TakesTurn, end_of_seated, is_gone, left_end, seat_of, shelf_of};
 
 use app_worker::{Turn, Why, app_turn};
 use run_account::{Leaves, Worker};
@@ -186,7 +186,7 @@ impl<'b, T: Shelf> Seated<'b, T> {
         ensures seat { seat_of result ≡ seat.entry }
         ensures shelf { shelf_of result ≡ shelf }
         ensures begins { (plan : Plan) → IsStart plan app start
-            → Begins T.kept T.counts plan result }
+            → BeginsLane T.kept T.counts plan result }
     {
         match start {
             Start::Turning(worker) => Seated::Turning(Turning {
@@ -228,7 +228,7 @@ impl<'b, T: Shelf> Seated<'b, T> {
         requires gone { is_gone self ≡ true }
         ensures seat { result.0 ≡ seat_of self.entry }
         ensures shelf { result.1 ≡ shelf_of self.entry }
-        ensures end { left_end result.2 ≡ end_of self.entry }
+        ensures end { left_end result.2 ≡ end_of_seated self.entry }
     {
         match self {
             Seated::Turning(own) => {

@@ -2,7 +2,7 @@
 ghost use Rattle.std.specs.Prelude.{◌≡◌, ◌≤◌, [], map, reverse, All, vec_len, vec_capacity};
 ghost use Rattle.board_face.specs.NicCalls.{apps_of};
 ghost use Rattle.card_feed.specs.declared.plan.Plan.{Plan};
-ghost use Rattle.app_lanes.specs.{Lanes.{AreAtOpening, AreDone, AwaitsApps, GaveSeats, HasTheSeats, TookApps}, Seated.{AreStarts, Begins, end_of, left_end, seat_of, shelf_of}};
+ghost use Rattle.app_lanes.specs.{Lanes.{AreAtOpening, AreDone, AwaitsApps, GaveSeats, HasTheSeats, TookApps}, Seated.{AreStarts, BeginsLane, end_of_seated, left_end, seat_of, shelf_of}};
 
 use crate::lane::Lane;
 use crate::seated::{Left, Seated, Start};
@@ -29,7 +29,7 @@ pub fn open_lanes<'b, T: Shelf>(
         × (vec_capacity shelves.new ≡ vec_capacity shelves.old) }
     ensures lanes { AreAtOpening board.now 0 (reverse lanes.new.items) }
     ensures begin { (plan : Plan) → AreStarts plan starts.old.items
-        → All (λ lane. Begins T.kept T.counts plan lane.seated) lanes.new.items }
+        → All (λ lane. BeginsLane T.kept T.counts plan lane.seated) lanes.new.items }
     ensures kept { map (λ lane. shelf_of lane.seated) (reverse lanes.new.items)
         ≡ shelves.old.items }
 {
@@ -64,7 +64,7 @@ pub fn close_lanes<T: Shelf>(
     ensures took { TookApps desk.old desk.new
         (map (λ lane. (seat_of lane.seated).side) (reverse lanes.entry.items)) }
     ensures ends { map left_end lefts.new.items
-        ≡ map (λ lane. end_of lane.seated) (reverse lanes.entry.items) }
+        ≡ map (λ lane. end_of_seated lane.seated) (reverse lanes.entry.items) }
     ensures shelves { shelves.new.items
         ≡ map (λ lane. shelf_of lane.seated) (reverse lanes.entry.items) }
     ensures room { vec_capacity shelves.new ≡ vec_capacity shelves.old }

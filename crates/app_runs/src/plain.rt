@@ -1,7 +1,8 @@
 //! The marks of a flow by the book: slowly, and with no thought of memory.
 ghost use Rattle.std.specs.{Prelude.{◌≡◌, ◌<◌, ◌≤◌, ◌^◌, ◌+◌, nat_eq, IfOk, OnOk}, Map.{lookup}};
-ghost use Rattle.zr_kinds.specs.CopyingReceiver.{lead, next_missing, filled, front_of, nothing_placed};
-ghost use Rattle.flow_queues.specs.Marks.{Mark, marks_from, numbered, of_flow, with_note, frames_of, base_of, marks_of, received_frame, received_frames};
+ghost use Rattle.zr_kinds.specs.CopyingReceiver.{lead, next_missing, filled_by_values, front_of, nothing_placed};
+ghost use Rattle.flow_queues.specs.Marks.{Mark, marks_from, numbered_notes, notes_of_flow, frames_with_note, frames_of_notes, base_of, marks_of, received_frame};
+ghost use Rattle.flow_queues.specs.Marks.{received_frames};
 ghost use Rattle.app_runs.specs.Plain.{placed_in};
 
 use board_face::TakenNote;
@@ -69,7 +70,7 @@ fn with_note(
     frames: &mut Vec<PlainFrame>,
 ) -> Result<(), AllocError>
     ensures { OnOk result
-        (frames.new.items ≡ with_note (record { number = number; note = note.now })
+        (frames.new.items ≡ frames_with_note (record { number = number; note = note.now })
         frames.old.items) }
 {
     let mut marks = marks_of_note(alloc, number, note.place.len)?;
@@ -95,9 +96,10 @@ fn frames_of(
     flow: u32,
     taken: &[TakenNote],
 ) -> Result<(u32, Vec<PlainFrame>), AllocError>
-    ensures base { IfOk result (λ r. r.0 ≡ base_of (of_flow flow (numbered 0 taken.now))) }
+    ensures base { IfOk result (λ r. r.0 ≡ base_of
+        (notes_of_flow flow (numbered_notes 0 taken.now))) }
     ensures frames { IfOk result
-        (λ r. r.1.items ≡ frames_of (of_flow flow (numbered 0 taken.now))) }
+        (λ r. r.1.items ≡ frames_of_notes (notes_of_flow flow (numbered_notes 0 taken.now))) }
 {
     let mut base = 0u32;
     let mut frames = Vec::new(alloc);
@@ -173,7 +175,7 @@ impl PlainPlaced {
     fn fill(&mut self, from: u64, marks: &[PlainMark]) -> Result<(), AllocError>
         requires { from ≤ 2 ^ 62 + 2 ^ 31 }
         ensures { OnOk result (placed_in self.new.marks.items self.new.top
-            ≡ filled (placed_in self.old.marks.items self.old.top) from marks.now) }
+            ≡ filled_by_values (placed_in self.old.marks.items self.old.top) from marks.now) }
     {
         for (i, mark) in marks.iter().enumerate() {
             self.marks.push((from + i as u64, *mark))?;

@@ -6,7 +6,7 @@ use Rattle.board_face.specs.{AppCalls.{AppOnlySaw, ToldEnd}, AppEvents.{told_end
 use Rattle.board_face.specs.declared.views.app.AppLook.TheVariants.{NotQuiet, CardEnded, NoNote as no_note}
 use Rattle.app_worker.specs.declared.turn.{Turn.{Turn, TheVariants.{Did, Idle, Finished, Failed}}, Why.TheVariants.{NoNote, NotQuiet as not_quiet}}
 use Rattle.app_worker.specs.State.{State, Common, Bare, app_steps, one_if, queues_of}
-use Rattle.app_worker.{specs.Turns.{Answers, Because, Passed, Turns, LooksForOne, turn_after}, proofs.Moving.{rose-before, rose-after}}
+use Rattle.app_worker.{specs.Turns.{AnswersTurn, Because, Passed, Turns, LooksForOne, turn_after}, proofs.Moving.{rose-before, rose-after}}
 use Rattle.app_worker.proofs.Seeing.{goes-none, goes-saw, goes-still, common-saw}
 use Rattle.app_worker.proofs.Noting.{bounded-past, common-noted, steps-noted, moves-noted, ends-kept, shelves-kept, fronts-kept}
 use Rattle.app_worker.proofs.{TurnLemmas.{turns-bare, as-before, idle-for, after-busy, after-none}, Through.{goes-then}}
@@ -148,7 +148,7 @@ module _ (st : State) (u w : AppView) (kept : ℕ → Option (List ℕ)) (f : �
       (λ _ not_yet. absurd (cc))
 
   -- one was in use
-  answers-saw : (t : Turn) → Answers st st u w f f t → Answers st st u (app_saw w NotQuiet) f f t
+  answers-saw : (t : Turn) → AnswersTurn st st u w f f t → AnswersTurn st st u (app_saw w NotQuiet) f f t
   answers-saw Did answer = omega (arith, answer)
   answers-saw (Idle why) answer = (
     record { state = answer.0.state; view = ap (λ (v : AppView). app_saw v NotQuiet) answer.0.view },
@@ -177,8 +177,8 @@ module _ (st : State) (u w : AppView) (kept : ℕ → Option (List ℕ)) (f : �
       looks-later (inr (inr over)) = inr (inr over)
 
   -- each was free
-  answers-scrubbed : (quiet : Bool) → st.scrubbed ≡ false → (t : Turn) → Answers st st u w f f t
-      → Answers st (scrubbed_state st) u (scrubbed_view w quiet w.left) f f (turn_after true t)
+  answers-scrubbed : (quiet : Bool) → st.scrubbed ≡ false → (t : Turn) → AnswersTurn st st u w f f t
+      → AnswersTurn st (scrubbed_state st) u (scrubbed_view w quiet w.left) f f (turn_after true t)
   answers-scrubbed quiet not_yet Did answer = omega (arith, passed.goes.moves.steps, ap one_if not_yet)
   answers-scrubbed quiet not_yet (Idle why) answer = omega (arith, passed.goes.moves.steps, ap one_if not_yet)
   answers-scrubbed quiet not_yet Finished answer = answer

@@ -9,7 +9,7 @@ use Rattle.flow_queues.specs.declared.queues.{Lending.{Lending}, FlowQueue.{Flow
 use Rattle.flow_queues.specs.Core.{total, many, over_due, over_read, short_bytes, lent_piece, own_notes, BeginAt, received_notes}
 use Rattle.flow_queues.{specs.Core.{AreReadAt, most_at_once, is_copy, IsIn, unsplit_len}, proofs.Indexing.{by-place}}
 use Rattle.flow_queues.specs.Shelves.{FlowEnds, kept_loans, IsShelved, AreShelved, AreOfOneLoan, ReadsFront, IsFrontShelved, AreFronts}
-use Rattle.flow_queues.specs.{Totals.{capped, taken_len, lent_len, loan_entries}, Flows.{IsIndex, place_in, FlowFacts, facts_of}, Pieces.{AllReleased}}
+use Rattle.flow_queues.specs.{Totals.{capped, taken_len, lent_len, loan_entries}, Flows.{IsIndex, place_in_index, FlowFacts, facts_of}, Pieces.{AllReleased}}
 use Rattle.flow_queues.proofs.{GivenBack.{gives-gone, gives-count, front-gone}, Tokens.{total-append, in-right, in-total, is_that_loan, that-loan, is-lent-there}}
 use Rattle.flow_queues.proofs.{Looks.{looks-same}, Releasing.{total-none, each-facts, total-facts}}
 use Rattle.app_worker.{specs.State.{State, Common, due_one, app_steps, one_if, read_of}, proofs.{Accounts.{sound-gone}, Origins.{origins-more, gone-origins}}}
@@ -43,7 +43,7 @@ number-facts (x ∷ xs) (y ∷ ys) same (suc k) d = let tail : map facts_of ys �
 
 index-facts : (index : List (ℕ × ℕ)) (flows now : List FlowQueue) → map facts_of now ≡ map facts_of flows → IsIndex index flows
     → IsIndex index now
-index-facts index flows now facts is number = by-place (place_in index number) (many number flows ≡ 0) (many number now ≡ 0)
+index-facts index flows now facts is number = by-place (place_in_index index number) (many number flows ≡ 0) (many number now ≡ 0)
     (λ k. (k < length flows) × ((d : FlowQueue) → (get_or flows k d).number ≡ number))
     (λ k. (k < length now) × ((d : FlowQueue) → (get_or now k d).number ≡ number))
     (λ none. total-facts (λ x. if x.number == number then 1 else 0) flows now facts ∙ none)

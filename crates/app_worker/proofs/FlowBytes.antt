@@ -4,7 +4,7 @@ use Rattle.std.{proofs.lemmas.Bool.{cases_eq}, specs.{Io.KnownBytes.{Keeps}, Pre
 use Rattle.zr_io.{specs.Moved.{Gained}, proofs.Moved.{Gained-weaker}}
 use Rattle.zr_kinds.specs.CopyingReceiver.{values_from}
 use Rattle.flow_queues.{specs.{Shelves.{IsShelved, AreShelved, FlowEnds}, declared.queues.FlowQueue.{FlowQueue}}, proofs.Placing.{values-length}}
-use Rattle.flow_queues.{specs.{Core.{many, Each, AreReadAt, placed_of}, Totals.{bytes_of}}, proofs.{Standing.{number-is, number-not}, ReadLemmas.{are-many}, Done.{gained-nothing}}}
+use Rattle.flow_queues.{specs.{Core.{many, Each, AreReadAt, placed_of}, Totals.{queue_bytes_of}}, proofs.{Standing.{number-is, number-not}, ReadLemmas.{are-many}, Done.{gained-nothing}}}
 use Rattle.app_worker.{specs.{Streams.{HasCounted}, State.{State, AppStands, Bare, Working}, Kept.{flow_bytes}}, proofs.{NoteTaken.{all-end}, StreamLemmas.{by-mode}}}
 use Rattle.board_face.{proofs.ListLemmas.{not-eqb}, specs.declared.views.app.AppView.{AppView}}
 
@@ -33,19 +33,19 @@ bytes-none number (f ∷ fs) none =
     rw no (bytes-none number fs (omega (arith, none)))
 
 -- where a flow is there once at most, these are all
-sum-none : (number : ℕ) (flows : List FlowQueue) → many number flows ≡ 0 → bytes_of number flows ≡ 0
+sum-none : (number : ℕ) (flows : List FlowQueue) → many number flows ≡ 0 → queue_bytes_of number flows ≡ 0
 sum-none number [] none = refl
 sum-none number (f ∷ fs) none =
     let other : f.number ≢ number = number-not number f (omega (arith, none)) in
     let no : (f.number == number) ≡ false = not-eqb f.number number other in
     rw no (omega (arith, sum-none number fs (omega (arith, none))))
 
-pub bytes-sum : (number : ℕ) (flows : List FlowQueue) → many number flows ≤ 1 → flow_bytes number flows ≡ bytes_of number flows
+pub bytes-sum : (number : ℕ) (flows : List FlowQueue) → many number flows ≤ 1 → flow_bytes number flows ≡ queue_bytes_of number flows
 bytes-sum number [] one = refl
 bytes-sum number (f ∷ fs) one = ⊎_elim
     (λ (here : f.number ≡ number).
     let yes : (f.number == number) ≡ true = eq-eqb f.number number here in
-    let none : bytes_of number fs ≡ 0 = sum-none number fs (omega (arith, one, number-is number f here)) in
+    let none : queue_bytes_of number fs ≡ 0 = sum-none number fs (omega (arith, one, number-is number f here)) in
     rw yes (omega (arith, none)))
     (λ (other : f.number ≢ number).
     let no : (f.number == number) ≡ false = not-eqb f.number number other in

@@ -2,12 +2,12 @@
 use Rattle.std.proofs.{Common.{◌≡◌, ◌≢◌, ℕ, ◌<◌, ◌≤◌, true, false, ◌⊎◌, inl, inr, ⊎_elim, refl, sym, ap, ◌∙◌, arith}, lemmas.Bool.{cases_Bool, cases_lt}}
 use Rattle.std.specs.Prelude.{◌==◌}
 use Rattle.board_face.{proofs.ListLemmas.{not-eqb}, specs.{AppCalls.{AppOnlySaw}, declared.views.app.{LentPiece.{LentPiece}, AppLook.{AppLook}, AppView.{AppView}}}}
-use Rattle.app_worker.specs.{State.{State}, Moves.{reads_of, reserve_loans}, Flushing.{Flushes, loans_so_far}}
+use Rattle.app_worker.specs.{State.{State}, Moves.{reads_of, reserve_loans}, Flushing.{FlushesUnread, loans_so_far}}
 use Rattle.flow_queues.specs.Entries.{lies_in}
 
 -- no loan came, and none was read
 pub flushes-same : (was now : State) (old new : AppView) → reads_of now new ≡ reads_of was old → loans_so_far new ≡ loans_so_far old
-    → reserve_loans new ≡ reserve_loans old → now.flush ≡ was.flush → Flushes was now old new
+    → reserve_loans new ≡ reserve_loans old → now.flush ≡ was.flush → FlushesUnread was now old new
 flushes-same was now old new reads lent reserve flush = record {
   reads = omega (arith, reads);
   lent = omega (arith, lent);
@@ -19,10 +19,10 @@ flushes-same was now old new reads lent reserve flush = record {
     all off (inl on) = absurd (let e : true ≡ false = sym on ∙ sym flush ∙ off in cc)
     all off (inr more) = absurd (omega (arith, more, reserve))
 
-pub flushes-none : (st : State) (v : AppView) → Flushes st st v v
+pub flushes-none : (st : State) (v : AppView) → FlushesUnread st st v v
 flushes-none st v = flushes-same st st v v refl refl refl refl
 
-pub flushes-then : {a b c : State} {u v w : AppView} → Flushes a b u v → Flushes b c v w → Flushes a c u w
+pub flushes-then : {a b c : State} {u v w : AppView} → FlushesUnread a b u v → FlushesUnread b c v w → FlushesUnread a c u w
 flushes-then {a} {b} {c} {u} {v} {w} first second = record {
   reads = omega (arith, first.reads, second.reads);
   lent = omega (arith, first.lent, second.lent);
@@ -43,7 +43,7 @@ flushes-then {a} {b} {c} {u} {v} {w} first second = record {
         (cases_Bool b.flush)
 
 -- a look changes none of it
-pub flushes-saw : (st : State) (v w : AppView) (look : AppLook) → AppOnlySaw look v w → Flushes st st v w
+pub flushes-saw : (st : State) (v w : AppView) (look : AppLook) → AppOnlySaw look v w → FlushesUnread st st v w
 flushes-saw st v w look saw = flushes-same st st v w (ap (reads_of st) saw.event) (ap loans_so_far saw.event) (ap reserve_loans saw.event) refl
 
 -- a loan in another buffer isn't counted

@@ -8,7 +8,8 @@ use Rattle.flow_queues.specs.{declared.queues.Lending.{Lending}, Core.{total, Ea
 use Rattle.flow_queues.proofs.{Tokens.{total-append}, Standing.{each-join}, Looks.{looks-same}}
 use Rattle.zr_kinds.specs.declared.behaviour.Stopped.TheVariants as stop
 use Rattle.zr_kinds.specs.declared.{behaviour.Stopped.{Stopped}, place.Place.{Place}, ring.Completion.{Completion}}
-use Rattle.app_worker.specs.{State.{State, TellsOf, due_one}, Moves.{Moves, Reaps, KeepsLeaked, KeptSince, reads_of, reserve_loans, over_lent, over_gone, over_leaked}}
+use Rattle.app_worker.specs.{State.{State, TellsOfLoan, due_one}, Moves.{Moves, Reaps, KeepsLeaked, KeptSince, reads_of, reserve_loans, over_lent, over_gone}}
+use Rattle.app_worker.specs.Moves.{over_leaked}
 
 pub total-one : {A : Type 0} (xs : List A) → total (λ _. 1) xs ≡ length xs
 total-one [] = refl
@@ -122,8 +123,8 @@ reaps-then a b c u v w setting first second = record {
       ∙ append_assoc first.read (b.unread ++ b.posted.entries) second.more ∙ ap (λ es. first.read ++ es) second.in_order
       ∙ sym (append_assoc first.read second.read (c.unread ++ c.posted.entries));
   lent = λ f. omega (arith, first.lent f, second.lent f, total-append (λ (p : Completion × Lending). f p.1.loan) first.more second.more);
-  tells = each-join (TellsOf u.setting.layout) first.more second.more first.tells
-      (subst (λ (s : Setting). Each (TellsOf s.layout) second.more) setting second.tells);
+  tells = each-join (TellsOfLoan u.setting.layout) first.more second.more first.tells
+      (subst (λ (s : Setting). Each (TellsOfLoan s.layout) second.more) setting second.tells);
   gone = λ f. omega (arith, first.gone f, second.gone f, total-append (λ (p : Completion × Lending). f p.1.loan) first.read second.read);
 }
 

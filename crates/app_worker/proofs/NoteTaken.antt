@@ -4,7 +4,7 @@ use Rattle.zr_kinds.specs.declared.ring.Completion.{Completion}
 use Rattle.board_face.specs.declared.views.app.{TakenNote.{TakenNote}, AppView.{AppView}}
 use Rattle.flow_queues.specs.{declared.queues.Lending.{Lending}, Core.{total, Each, FlowStands}, Flows.{IsAtRest}, Shelves.{FlowEnds}, Totals.{lent_bytes, lent_len}}
 use Rattle.flow_queues.{specs.{Kept.{QueueState, QueuesStand}, Noting.{Noted, NoteEntered}}, proofs.{Standing.{each-map}, Done.{shelves-stay}}}
-use Rattle.app_worker.specs.{State.{State, read_of, loan_len, Working, Common, app_steps, queues_of}, Moves.{Moves, reads_of, reserve_loans}, Flushing.{Flushes, loans_so_far}}
+use Rattle.app_worker.specs.{State.{State, read_of, loan_len, Working, Common, app_steps, queues_of}, Moves.{Moves, reads_of, reserve_loans}, Flushing.{FlushesUnread, loans_so_far}}
 use Rattle.app_worker.{specs.{Works.{Works}, Whole.{Torn, KeepsShelves}}, proofs.{Flushing.{flushes-same}, Oldest.{ends-of}, ReadWhole.{read-noted}}}
 use Rattle.app_worker.proofs.{InQueues.{with_queues, out_of, queues-stand}, Noting.{common-noted, steps-noted, moves-noted}}
 
@@ -24,7 +24,7 @@ torn-of st v works =
 
 -- a note was taken
 pub record TookOne (was now : State) (old new : AppView) : Type 0 where
-  pub flushes : Flushes was now old new
+  pub flushes : FlushesUnread was now old new
   pub working : Working now new
   pub common : Common now new
   pub moves : Moves was now old new

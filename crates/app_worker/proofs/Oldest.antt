@@ -8,14 +8,15 @@ use Rattle.zr_io.{specs.Moved.{Gained, Rose}, proofs.Moved.{Gained-weaker, Gaine
 use Rattle.flow_queues.specs.{Marks.{Mark, marks_from}, declared.queues.{Lending.{Lending}, FlowQueue.{FlowQueue}}}
 use Rattle.flow_queues.specs.Core.{total, Each, Stands, FlowStands, HasTokens, OnlyReads, IsReadOf, AreReadAt, placed_of, marks_of_loan}
 use Rattle.flow_queues.specs.Core.{many, short_bytes, IsIn, lent_piece, read_out, held_len, unsplit_len}
-use Rattle.flow_queues.specs.Totals.{lent_bytes, Quits, capped, taken_len, lent_len, bytes_if, bytes_of, loan_entries}
+use Rattle.flow_queues.specs.Totals.{lent_bytes, Quits, capped, taken_len, lent_len, bytes_if, queue_bytes_of, loan_entries}
 use Rattle.flow_queues.specs.Shelves.{FlowEnds, kept_loans, IsShelved, AreShelved, AreOfOneLoan, ReadsFront, IsFrontShelved, AreFronts}
 use Rattle.flow_queues.proofs.Standing.{At, split-at, each-right, each-changed, many-same, total-changed, parts-alike, is_number, number-is}
 use Rattle.flow_queues.proofs.{Tokens.{total-append, in-left}, Entering.{marks-length}, ReadLemmas.{all-grow, read-append, marks-split}}
 use Rattle.flow_queues.proofs.{Placing.{values-split, values-length}, Looks.{looks-same}, Indexing.{index-set}, Resting.{rest-same, each-same}}
 use Rattle.zr_kinds.specs.declared.behaviour.Stopped.TheVariants as stop
-use Rattle.app_worker.specs.State.{State, read_of, TellsOf, LiesOutside, Working, Common, due_one, loan_len, app_steps}
-use Rattle.app_worker.specs.{Moves.{Moves, KeptSince, reads_of, reserve_loans}, Flushing.{Flushes, loans_so_far}, Whole.{Torn, ReadOne, ReadQuit, ReadFailed, Appended}}
+use Rattle.app_worker.specs.State.{State, read_of, TellsOfLoan, LiesOutside, Working, Common, due_one, loan_len, app_steps}
+use Rattle.app_worker.specs.{Moves.{Moves, KeptSince, reads_of, reserve_loans}, Flushing.{FlushesUnread, loans_so_far}, Whole.{Torn, ReadOne, ReadQuit, ReadFailed}}
+use Rattle.app_worker.specs.Whole.{Appended}
 use Rattle.app_worker.proofs.{LoansStand.{IsNextRead, is-next, stands-read, tokens-read, appended, own-stands, oldest-out}, Shelved.{shelved-reaped, shelved-other}}
 use Rattle.app_worker.{proofs.{EachBoth.{each-both}, Moving.{total-one, no-write, same-leaked}, Through.{moves-stopped}}, specs.ReadWhole.{IsReadWhole, AreReadWhole}}
 use Rattle.app_worker.proofs.ReadWhole.{gives-more, read-more}
@@ -191,7 +192,7 @@ module _ (was : State) (i : ℕ) (own : FlowQueue) (p : Completion × Lending) (
   same_lent = rw only.view refl
 
   -- one more was read, which is the last of them where all were to be read
-  flushes-read : (bytes written : ℕ) → Flushes was (with_read was i own bytes ps p.1 written flush) old new
+  flushes-read : (bytes written : ℕ) → FlushesUnread was (with_read was i own bytes ps p.1 written flush) old new
   flushes-read bytes written = record {
     reads = omega (arith, one_read);
     lent = omega (arith, lent_still);
@@ -257,9 +258,9 @@ module _ (was : State) (i : ℕ) (own : FlowQueue) (p : Completion × Lending) (
     };
     bytes = λ n. (let later : FlowQueue = record own { bytes = bytes } in omega (
       arith,
-      ap (bytes_of n) (at.set_is later),
+      ap (queue_bytes_of n) (at.set_is later),
       total-changed at.before at.after own later (bytes_if n),
-      ap (bytes_of n) at.is,
+      ap (queue_bytes_of n) at.is,
       still-more (own.number == n),
     ));
   })
@@ -290,7 +291,7 @@ module _ (was : State) (i : ℕ) (own : FlowQueue) (p : Completion × Lending) (
       let stands : Stands was.notes (at.before ++ later ∷ at.after) (ps ++ was.posted.entries)
       (p.1 ∷ was.leaked.items) new = stands-read was.notes at.before at.after own p
       (ps ++ was.posted.entries) was.leaked.items old new number only stood in
-      let told : Each (TellsOf old.setting.layout) (p ∷ (ps ++ was.posted.entries)) = subst (Each (TellsOf old.setting.layout)) all works.completions in
+      let told : Each (TellsOfLoan old.setting.layout) (p ∷ (ps ++ was.posted.entries)) = subst (Each (TellsOfLoan old.setting.layout)) all works.completions in
       let added : Appended own old.taken new p.1.loan.len kept kept_now = appended old.taken p (ps ++ was.posted.entries) own p.1.loan.len new kept
       kept_now number (own-stands was.notes at.before at.after own (p ∷ (ps ++ was.posted.entries)) was.leaked.items old stood) (omega arith) gained others in
       let waits : 0 < was.stray.left → Some p.1 ≡ None = λ some. absurd (omega (arith, some, pushed)) in

@@ -3,7 +3,7 @@ use Rattle.std.proofs.Common.{◌≡◌, ℕ, zero, suc, ◌+◌, ◌<◌, ◌�
 use Rattle.std.proofs.lemmas.Bool.{cases_lt}
 use Rattle.board_face.specs.{AppCalls.{ShowsCopy}, Texts.{further}, AppEvents.{has_read, loan_origin}, declared.views.app.{LentPiece.{LentPiece}, Origin.{Origin}}}
 use Rattle.board_face.specs.declared.views.app.{Reading.{Reading}, TakenNote.{TakenNote}, AppView.{AppView}}
-use Rattle.flow_queues.specs.{declared.queues.Lending.{Lending}, Core.{Each, IsIn, LieApart, OnlyReads, lent_piece}, Entries.{Gives}, Totals.{loan_entries}}
+use Rattle.flow_queues.specs.{declared.queues.Lending.{Lending}, Core.{Each, IsIn, LieApart, OnlyReads, lent_piece}, Entries.{GivesAll}, Totals.{loan_entries}}
 use Rattle.flow_queues.proofs.{Tokens.{in-left, in-right, loan-origin}, Standing.{each-map, each-join}, NotesStay.{lent-still}, GivenBack.{gives-count}}
 use Rattle.app_worker.specs.ReadWhole.{IsByteRead, IsReadUpTo, IsReadWhole, AreReadWhole, GivesWhole}
 
@@ -83,12 +83,12 @@ gives-more old new only whole = subst (Each (IsReadWhole new.reads)) (sym (ap gi
     (each-map (IsReadWhole old.reads) (IsReadWhole (old.reads ++ only.more)) (given_of old) (λ x _. whole-grows old.reads only.more x) whole))
 
 -- where entries gave back all that went
-pub given-all : (v : AppView) → Gives v v.returned → given_of v ≡ v.returned
+pub given-all : (v : AppView) → GivesAll v v.returned → given_of v ≡ v.returned
 given-all v gives = take_all (loan_entries v) v.returned (omega (arith, gives-count v v.returned gives))
 
 -- one more is given back, which was read whole
-pub gives-one : (old new : AppView) (x : LentPiece) → new.reads ≡ old.reads → new.returned ≡ old.returned ++ x ∷ [] → Gives old old.returned
-    → Gives new new.returned → IsReadWhole old.reads x → GivesWhole old → GivesWhole new
+pub gives-one : (old new : AppView) (x : LentPiece) → new.reads ≡ old.reads → new.returned ≡ old.returned ++ x ∷ [] → GivesAll old old.returned
+    → GivesAll new new.returned → IsReadWhole old.reads x → GivesWhole old → GivesWhole new
 gives-one old new x reads returned before after one whole = subst (Each (IsReadWhole new.reads)) (sym (given-all new after ∙ returned))
     (subst (λ rs. Each (IsReadWhole rs) (old.returned ++ x ∷ [])) (sym reads)
     (each-join (IsReadWhole old.reads) old.returned (x ∷ []) (subst (Each (IsReadWhole old.reads)) (given-all old before) whole) (one, tt)))

@@ -4,8 +4,8 @@ use Rattle.zr_kinds.specs.declared.behaviour.Stopped.{Stopped}
 use Rattle.zr_kinds.specs.declared.behaviour.Stopped.TheVariants as stop
 use Rattle.board_face.specs.{AppCalls.{AppOnlySaw}, declared.views.app.{AppLook.TheVariants.{RefillInUse}, AppView.{AppView}}}
 use Rattle.app_worker.specs.{declared.turning.Read.{Read, TheVariants.{Did, NoneUnread, Quit, Failed}}, State.{State, Working, Common, Bare, app_steps}}
-use Rattle.app_worker.specs.{Moves.{Moves, Goes, KeptSince, Reaps}, Whole.{GaveBack, ReadOne, ReadFailed, Reads}, Letting.{LetGo}, Stages.{Through, WriteStopped}}
-use Rattle.app_worker.{proofs.{Moving.{moves-then, no-write as no-writes}, Flushing.{flushes-none, flushes-then, flushes-saw}}, specs.Flushing.{Flushes}}
+use Rattle.app_worker.specs.{Moves.{Moves, Goes, KeptSince, Reaps}, Whole.{GaveLoansBack, ReadOne, ReadFailed, Reads}, Letting.{LetGo}, Stages.{Through, WriteStopped}}
+use Rattle.app_worker.{proofs.{Moving.{moves-then, no-write as no-writes}, Flushing.{flushes-none, flushes-then, flushes-saw}}, specs.Flushing.{FlushesUnread}}
 use Rattle.app_worker.proofs.Seeing.{goes-none}
 use Rattle.flow_queues.specs.{Core.{Each}, Flows.{IsAtRest}, Totals.{Quits}}
 use Rattle.zr_io.specs.Moved.{Rose}
@@ -57,7 +57,7 @@ through-read reaped read = assumption (
 )
 
 pub through-gave : {was now : State} {old new : AppView} {kept : ℕ → Option (List ℕ)} → was.posted.entries ≡ [] → Working now new → Common now new
-    → Goes was now old new kept kept → GaveBack was now old new → Through was now old new kept kept
+    → Goes was now old new kept kept → GaveLoansBack was now old new → Through was now old new kept kept
 through-gave {was} reaped working common goes gave = assumption (
   ap (λ (s : State). s.posted.entries) gave.same ∙ reaped,
   ap (λ (s : State). s.ended) gave.same,
@@ -147,7 +147,7 @@ write-later {a} {c} {u} {w} {f} {f2} later first stopped =
 pub through-in-use : {was now : State} {old new : AppView} {kept : ℕ → Option (List ℕ)} → was.posted.entries ≡ [] → Working now new
     → Common now new → Goes was now old new kept kept → now ≡ was → AppOnlySaw RefillInUse old new → Through was now old new kept kept
 through-in-use {was} {old} {new} reaped working common goes same saw = assumption (
-  subst (λ (s : State). Flushes was s old new) (sym same) (flushes-saw was old new RefillInUse saw),
+  subst (λ (s : State). FlushesUnread was s old new) (sym same) (flushes-saw was old new RefillInUse saw),
   ap (λ (s : State). s.posted.entries) same ∙ reaped,
   ap (λ (s : State). s.ended) same,
   λ (at : Each IsAtRest was.flows). subst (Each IsAtRest) (sym (ap (λ (s : State). s.flows) same)) at,

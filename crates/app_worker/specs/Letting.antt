@@ -2,7 +2,7 @@
 use Rattle.std.specs.Prelude.{◌≡◌, ℕ, ◌+◌, ◌<◌, ◌≤◌, true, List, [], ◌++◌, map, length, take, Option, None}
 use Rattle.circular_buffer.specs.Buffer.{buffer}
 use Rattle.board_face.specs.declared.views.app.{LentPiece.{LentPiece}, AppView.{AppView}}
-use Rattle.flow_queues.specs.{Entries.{Gives}, Core.{total, LieApart, Each, many}, Flows.{IsIndex, facts_of}, Shelves.{FlowEnds, AreFronts}}
+use Rattle.flow_queues.specs.{Entries.{GivesAll}, Core.{total, LieApart, Each, many}, Flows.{IsIndex, facts_of}, Shelves.{FlowEnds, AreFronts}}
 use Rattle.flow_queues.specs.Totals.{lent_bytes, lent_len, loan_entries}
 use Rattle.app_worker.specs.{State.{State, Common, app_steps}, Moves.{Moves}, Whole.{KeepsShelves}}
 
@@ -26,7 +26,7 @@ pub record LetGo (was now : State) (old new : AppView) : Type 0 where
   pub loans : new.loans ≡ []
   pub back : (f : LentPiece → ℕ) → total f new.returned ≡ total f old.returned + total f old.loans
   pub behind : (more : List LentPiece) × (new.returned ≡ old.returned ++ more)
-  pub given : Gives new (take (loan_entries new) new.returned)
+  pub given : GivesAll new (take (loan_entries new) new.returned)
   pub entries : loan_entries new ≡ length old.returned
   pub same : now ≡ record was { flows = now.flows; unread = []; due = None; leaked = buffer [] was.leaked.capacity; bare = true }
   pub facts : map facts_of now.flows ≡ map facts_of was.flows

@@ -3,10 +3,10 @@ use Rattle.std.specs.Prelude.{◌≡◌, ◌≢◌, ℕ, ◌+◌, ◌<◌, ◌�
 use Rattle.zr_kinds.specs.declared.{place.Place.{Place}, ring.Completion.{Completion}}
 use Rattle.zr_kinds.specs.declared.behaviour.Stopped.TheVariants as stop
 use Rattle.board_face.specs.{Looks.{AppLooksStay}, declared.views.app.AppView.{AppView}, AppEvents.{reserve_of}}
-use Rattle.flow_queues.specs.{declared.queues.Lending.{Lending}, Core.{total, Each}, Entries.{lies_in}, Totals.{loan_entries, bytes_of}}
+use Rattle.flow_queues.specs.{declared.queues.Lending.{Lending}, Core.{total, Each}, Entries.{lies_in}, Totals.{loan_entries, queue_bytes_of}}
 use Rattle.flow_queues.specs.Shelves.{AreShelved, AreFronts}
 use Rattle.zr_io.specs.Moved.{raised_by}
-use Rattle.app_worker.specs.State.{State, TellsOf, read_of, due_one, app_steps}
+use Rattle.app_worker.specs.State.{State, TellsOfLoan, read_of, due_one, app_steps}
 
 -- Until all is given up, what is kept to the end stays.
 abbrev pub KeepsLeaked : State → State → Type 0
@@ -46,7 +46,7 @@ pub record Reaps (was now : State) (old new : AppView) : Type 0 where
   pub in_order : (was.unread ++ was.posted.entries) ++ more ≡ read ++ (now.unread ++ now.posted.entries)
   -- each loan that was lent was posted once, by what tells of it, and nothing else was
   pub lent : (f : Place → ℕ) → over_lent f old + total (λ p. f p.1.loan) more ≡ over_lent f new
-  pub tells : Each (TellsOf old.setting.layout) more
+  pub tells : Each (TellsOfLoan old.setting.layout) more
   -- the loans of those that were read are kept, or to be given back, or gone, and no others are
   pub gone : (f : Place → ℕ) → over_gone f was old + total (λ p. f p.1.loan) read ≡ over_gone f now new
 
@@ -72,7 +72,7 @@ pub record Moves (was now : State) (old new : AppView) : Type 0 where
   pub abandons : (f : Place → ℕ) → over_leaked f was old ≤ over_leaked f now new
   pub reaps : Reaps was now old new
   -- no flow's count of bytes falls
-  pub bytes : (number : ℕ) → bytes_of number was.flows ≤ bytes_of number now.flows
+  pub bytes : (number : ℕ) → queue_bytes_of number was.flows ≤ queue_bytes_of number now.flows
 
 -- The shelf counts as appended what is written, beside what it had counted before the first turn.
 abbrev pub CountsOn : (written written_now appended appended_now : ℕ) → Type 0

@@ -8,12 +8,12 @@ use Rattle.app_worker.specs.declared.{stack.Delivery.{Delivery, TheVariants.{Did
 use Rattle.app_worker.specs.declared.stages.Drained.TheVariants.{Nothing as read_nothing, Did as read_some, InUse, Quit as read_quit, Failed as read_failed}
 use Rattle.app_worker.specs.declared.stages.Lent.{Lent, TheVariants.{Nothing as none_in_order, Did as lent_some, Stuck, NoSpare as NoSpareHad}}
 use Rattle.app_worker.specs.declared.stages.Lent.TheVariants.{Quit as lending_quit, Failed as lending_failed}
-use Rattle.app_worker.specs.{State.{State, LiesOutside, Working, Common, Bare, app_steps, queues_of}, Moves.{Goes}, Flushing.{Flushes}, Whole.{Lends, IsDue}}
+use Rattle.app_worker.specs.{State.{State, LiesOutside, Working, Common, Bare, app_steps, queues_of}, Moves.{Goes}, Flushing.{FlushesUnread}, Whole.{Lends, IsDue}}
 use Rattle.flow_queues.specs.{Core.{Each}, Flows.{IsAtRest}, Lent.{SawNoSpare}, Active.{HasNext, HasCopyNext}}
 
 -- it goes on, nothing is posted, and no note was taken
 pub record Through (was now : State) (old new : AppView) (kept kept_now : ℕ → Option (List ℕ)) : Type 0 where
-  pub flushes : Flushes was now old new
+  pub flushes : FlushesUnread was now old new
   pub working : Working now new
   pub common : Common now new
   pub goes : Goes was now old new kept kept_now
@@ -56,8 +56,8 @@ pub record Untouched (was now : State) (old new : AppView) (kept kept_now : ℕ 
   pub kept_is : kept_now ≡ kept
 
 -- how many may stay unread: none, while all is to be read
-abbrev pub kept_of : ℕ → State → ℕ
-kept_of keep st = if st.flush then 0 else keep
+abbrev pub kept_unread : ℕ → State → ℕ
+kept_unread keep st = if st.flush then 0 else keep
 
 -- a loan is due, or entries are to follow one, or all that is unread is to be read
 abbrev pub IsLeftOver : State → Type 0
@@ -74,17 +74,17 @@ NoneInReserve st v = Each (LiesOutside (reserve_of v)) st.unread
 -- what reading did, down to so many that stay unread
 abbrev pub ReadsTo : ℕ → State → State → AppView → AppView → (ℕ → Option (List ℕ)) → (ℕ → Option (List ℕ)) → ℕ → ℕ → Drained
     → Type 0
-ReadsTo keep was now old new kept kept_now faults faults_now read_nothing = Untouched was now old new kept kept_now × (length was.unread ≤ kept_of keep was)
+ReadsTo keep was now old new kept kept_now faults faults_now read_nothing = Untouched was now old new kept kept_now × (length was.unread ≤ kept_unread keep was)
 ReadsTo keep was now old new kept kept_now faults faults_now read_some = Through was now old new kept kept_now × (app_steps was old < app_steps now new)
-    × (now.due ≡ None) × (length now.unread ≡ kept_of keep was) × (now.flush ≡ false) × (now.stray.left ≡ 0)
+    × (now.due ≡ None) × (length now.unread ≡ kept_unread keep was) × (now.flush ≡ false) × (now.stray.left ≡ 0)
 ReadsTo keep was now old new kept kept_now faults faults_now InUse = Through was now old new kept kept_now × (app_steps was old < app_steps now new)
-    × (kept_of keep was ≤ length now.unread) × AppRose RefillInUse old new
+    × (kept_unread keep was ≤ length now.unread) × AppRose RefillInUse old new
 ReadsTo keep was now old new kept kept_now faults faults_now read_quit = HasQuit was now old new kept kept_now
 ReadsTo keep was now old new kept kept_now faults faults_now read_failed = WriteStopped was now old new kept kept_now faults faults_now
 
 -- pieces were lent, up to one that couldn't be
 pub record LentSome (was now : State) (old new : AppView) (did : Bool) (end_by : Delivery) : Type 0 where
-  pub flushes : Flushes was now old new
+  pub flushes : FlushesUnread was now old new
   pub working : Working now new
   pub common : Common now new
   pub goes : (kept : ℕ → Option (List ℕ)) → Goes was now old new kept kept

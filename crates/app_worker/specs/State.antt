@@ -10,7 +10,7 @@ use Rattle.area_layout.specs.Layout.{Shape, off_of, judged}
 use Rattle.circular_buffer.specs.Buffer.{Buffer}
 use Rattle.completion_ring.specs.Ring.{Ring}
 use Rattle.board_face.specs.{AppEvents.{reserve_of}, declared.views.app.{LentPiece.{LentPiece}, AppView.{AppView}}}
-use Rattle.flow_queues.specs.{declared.queues.{Lending.{Lending}, FlowQueue.{FlowQueue}}, Entries.{Gives, lies_in, returned_aside, WasLive, AreBlocks}}
+use Rattle.flow_queues.specs.{declared.queues.{Lending.{Lending}, FlowQueue.{FlowQueue}}, Entries.{GivesAll, lies_in, returned_aside, WasLive, AreBlocks}}
 use Rattle.flow_queues.specs.Core.{total, is_odd, is_copy, IsOfTaken, Each, many, read_out, own_notes, placed_of, short_bytes, Stands, unsplit_len, held_len}
 use Rattle.flow_queues.specs.{Flows.{IsAtRest, RestBut, IsIndex}, Shelves.{FlowEnds}, Kept.{QueueState}}
 use Rattle.flow_queues.specs.Totals.{Quits, capped, lent_len, lent_bytes, loan_entries, raw_entries, taken_len}
@@ -57,7 +57,7 @@ queues_of st = record { notes = st.notes; flows = st.flows; index = st.index; ac
 -- ---- while it goes on
 
 -- what a completion says of its loan
-pub record TellsOf (layout : Shape) (p : Completion × Lending) : Type 0 where
+pub record TellsOfLoan (layout : Shape) (p : Completion × Lending) : Type 0 where
   pub size : p.0.res ≡ cast_signed w32 p.1.loan.len
   pub flags : p.0.flags ≡ 2
   pub off : p.0.off ≡ off_of layout p.1.loan
@@ -81,7 +81,7 @@ LiesOutside buffer p = p.1.loan.buffer ≢ buffer
 -- What it has out, and how far its flows are.
 pub record Working (st : State) (v : AppView) : Type 0 where
   pub stands : Stands st.notes st.flows (st.unread ++ st.posted.entries) (read_of st) v
-  pub completions : Each (TellsOf v.setting.layout) (st.unread ++ st.posted.entries)
+  pub completions : Each (TellsOfLoan v.setting.layout) (st.unread ++ st.posted.entries)
   pub rest : RestBut st.active st.flows
   pub index : IsIndex st.index st.flows
   -- once no note comes any more, nothing is in order
@@ -92,7 +92,7 @@ pub record Working (st : State) (v : AppView) : Type 0 where
   pub flush : st.flush ≡ true → st.unread ++ st.posted.entries ≢ []
   pub live : st.bare ≡ false
   -- each loan that it doesn't have any more was given back by an entry of its own, in order
-  pub given : Gives v v.returned
+  pub given : GivesAll v v.returned
   -- a loan is given back only once as many are kept as are to be, those in the reserve aside
   pub keeps_first : 0 < returned_aside v → length st.leaked.items ≡ st.how.leak
   -- no other loan is due before the entries that follow one are written
@@ -113,7 +113,7 @@ pub record Bare (st : State) (v : AppView) : Type 0 where
   pub none_left : st.stray.left ≡ 0
   -- the first loans were given back by entries of their own, in order, and then the others abandoned: where nothing stopped
   -- it, as many as were to be kept to the end, or all outside the reserve where these are fewer, and none in it
-  pub given : Gives v (take (loan_entries v) v.returned)
+  pub given : GivesAll v (take (loan_entries v) v.returned)
   pub abandoned : st.stopped ≡ No → (length v.returned ≡ loan_entries v + min st.how.leak (returned_aside v))
       × (total (lies_in (reserve_of v)) (drop (loan_entries v) v.returned) ≡ 0)
   pub unread : st.unread ≡ []

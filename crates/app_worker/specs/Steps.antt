@@ -17,13 +17,13 @@ use Rattle.app_worker.specs.{declared.stack.Delivery.TheVariants.{Unsettled, Res
 -- ---- lending
 
 -- what is posted for a loan
-abbrev pub completion_of : Shape → ℕ → Lending → Completion
-completion_of layout flow l = record { user_data = flow; res = cast_signed w32 l.loan.len; flags = 2; off = off_of layout l.loan }
+abbrev pub completion_of_loan : Shape → ℕ → Lending → Completion
+completion_of_loan layout flow l = record { user_data = flow; res = cast_signed w32 l.loan.len; flags = 2; off = off_of layout l.loan }
 
 -- the loan of a flow with this number was posted and counted; one in the reserve is to be read with all that is unread
 abbrev pub with_posted : State → AppView → ℕ → Lending → State
 with_posted st v number loan = record st {
-  posted = ring (st.posted.entries ++ (completion_of v.setting.layout number loan, loan) ∷ []) st.posted.places;
+  posted = ring (st.posted.entries ++ (completion_of_loan v.setting.layout number loan, loan) ∷ []) st.posted.places;
   loans = capped (st.loans + 1);
   flush = st.flush || (loan.loan.buffer == reserve_of v);
 }
@@ -104,7 +104,7 @@ Given most old new (Some lending) due was now false = AppOnlySaw RefillInUse old
 -- ---- what follows a loan that was given back
 
 -- it may write the entries that are left, of which each names the buffer
-pub record MayPush (v : AppView) (stray : Stray) : Type 0 where
+pub record MayPushStrays (v : AppView) (stray : Stray) : Type 0 where
   pub here : IsHere v
   pub counted : v.scrubbed ≡ false
   pub names : 0 < stray.left → judged v.setting.layout stray.entry ≡ Some stray.buffer

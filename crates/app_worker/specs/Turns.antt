@@ -8,7 +8,7 @@ use Rattle.board_face.specs.{Looks.{AppRose}, declared.views.app.{AppLook.{AppLo
 use Rattle.board_face.specs.declared.views.app.AppLook.TheVariants.{NoNote as no_note, CardEnded, RefillInUse, RawOnItsWay, NoSpare, NotQuiet as not_quiet}
 use Rattle.app_worker.specs.declared.turn.{Turn.{Turn, TheVariants.{Did, Idle, Finished, Failed}}, Why.{Why}}
 use Rattle.app_worker.specs.declared.turn.Why.TheVariants.{NoNote, RefillFull, Unsettled, ReserveHeld, NotQuiet}
-use Rattle.app_worker.specs.{State.{State, Working, Common, Bare, AppStands, app_steps, queues_of}, Moves.{Moves, Goes}, Flushing.{Flushes}, Whole.{IsDue}}
+use Rattle.app_worker.specs.{State.{State, Working, Common, Bare, AppStands, app_steps, queues_of}, Moves.{Moves, Goes}, Flushing.{FlushesUnread}, Whole.{IsDue}}
 use Rattle.app_worker.specs.Stages.{NoneInReserve, LeavesInUse, DoesAll}
 use Rattle.flow_queues.specs.{Core.{Each}, Flows.{IsAtRest}, Active.{HasNext, HasCopyNext}}
 
@@ -69,13 +69,13 @@ pub record HasPolled (was now : State) (old new : AppView) : Type 0 where
 
 -- ---- the answers
 
-abbrev pub Answers : State → State → AppView → AppView → ℕ → ℕ → Turn → Type 0
-Answers was now old new faults faults_now Did = app_steps was old < app_steps now new
-Answers was now old new faults faults_now (Idle why) = IsAsBefore was now old new × AppRose (look_of why) old new
-Answers was now old new faults faults_now Finished = (old.left ≡ false) × (new.left ≡ true) × (now.bare ≡ true)
-Answers was now old new faults faults_now (Failed memory_fault) = (was.stopped ≡ stop.No) × (now.stopped ≡ stop.Memory)
-Answers was now old new faults faults_now (Failed write_fault) = (was.stopped ≡ stop.No) × (now.stopped ≡ stop.Write) × Rose faults faults_now
-Answers was now old new faults faults_now (Failed other) = ⊥
+abbrev pub AnswersTurn : State → State → AppView → AppView → ℕ → ℕ → Turn → Type 0
+AnswersTurn was now old new faults faults_now Did = app_steps was old < app_steps now new
+AnswersTurn was now old new faults faults_now (Idle why) = IsAsBefore was now old new × AppRose (look_of why) old new
+AnswersTurn was now old new faults faults_now Finished = (old.left ≡ false) × (new.left ≡ true) × (now.bare ≡ true)
+AnswersTurn was now old new faults faults_now (Failed memory_fault) = (was.stopped ≡ stop.No) × (now.stopped ≡ stop.Memory)
+AnswersTurn was now old new faults faults_now (Failed write_fault) = (was.stopped ≡ stop.No) × (now.stopped ≡ stop.Write) × Rose faults faults_now
+AnswersTurn was now old new faults faults_now (Failed other) = ⊥
 
 -- ---- a turn
 
@@ -111,14 +111,14 @@ pub record Rests (was now : State) (old new : AppView) (kept kept_now : ℕ → 
 pub record Turns (was now : State) (old new : AppView) (kept kept_now : ℕ → Option (List ℕ)) (faults faults_now : ℕ) (result : Turn) : Type 0 where
   pub stands : AppStands now new
   pub goes : Goes was now old new kept kept_now
-  pub answer : Answers was now old new faults faults_now result
+  pub answer : AnswersTurn was now old new faults faults_now result
   pub few : TakesFew old new
   -- where it did nothing, that was so, and the shelf has what it had
   pub idle : (why : Why) → result ≡ Idle why → (kept_now ≡ kept) × Because why was old
   -- a loan that was read is left due, or one in the reserve unread, only where a refill slot was seen in use
   pub left_over : now.bare ≡ false → LeavesInUse now old new
   -- a loan in the reserve has all read that was unread
-  pub flushes : now.bare ≡ false → Flushes was now old new
+  pub flushes : now.bare ≡ false → FlushesUnread was now old new
   -- it leaves nothing undone but what is kept back
   pub stops : now.bare ≡ false → DoesAll now old new
   -- where nothing is in order as it begins and notes may still come, it looks for one, or saw a refill slot in use
@@ -153,7 +153,7 @@ pub record Passed (st : State) (old new : AppView) (kept : ℕ → Option (List 
   pub bare : Bare st new
   pub common : Common st new
   pub goes : Goes st st old new kept kept
-  pub answer : Answers st st old new faults faults turn
+  pub answer : AnswersTurn st st old new faults faults turn
   pub few : TakesFew old new
   pub idle : (why : Why) → turn ≡ Idle why → Because why st old
   pub here : new.left ≡ old.left

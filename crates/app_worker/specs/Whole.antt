@@ -6,13 +6,13 @@ use Rattle.zr_io.specs.Moved.{Gained, Rose}
 use Rattle.completion_ring.specs.Ring.{IsFull}
 use Rattle.board_face.specs.{Looks.{AppRose}, AppCalls.{AppOnlySaw}, declared.views.app.AppLook.TheVariants.{RawOnItsWay, RefillInUse}}
 use Rattle.board_face.specs.declared.views.app.{TakenNote.{TakenNote}, AppView.{AppView}}
-use Rattle.flow_queues.specs.{declared.queues.FlowQueue.{FlowQueue}, Entries.{Gives as GivesAll}, Core.{total, HasTokens, Each, many, AreReadAt, placed_of}}
+use Rattle.flow_queues.specs.{declared.queues.FlowQueue.{FlowQueue}, Entries.{GivesAll}, Core.{total, HasTokens, Each, many, AreReadAt, placed_of}}
 use Rattle.flow_queues.specs.{Flows.{IsIndex, IsAtRest}, Shelves.{FlowEnds, AreShelved, AreFronts}, Totals.{lent_bytes, lent_len}, Lent.{SawNoSpare}, Active.{HasNext, HasCopyNext}}
 use Rattle.app_worker.specs.declared.{stack.Delivery.{Delivery, TheVariants.{Did as lent_it, NoneInOrder, Full, Unsettled, ReserveHeld}}, turning.Read.{Read}}
 use Rattle.app_worker.specs.declared.{turning.Read.TheVariants.{Did as read_it, NoneUnread, Quit, Failed}, reading.Pushed.{Pushed}}
 use Rattle.app_worker.specs.declared.reading.Pushed.TheVariants.{Nothing as pushed_nothing, All as pushed_all, Part as pushed_part, InUse as pushed_none}
 use Rattle.app_worker.specs.declared.straying.GivenBack.{GivenBack, TheVariants.{Nothing as nothing_given, Did as given, Part as given_in_part, InUse as given_none}}
-use Rattle.app_worker.specs.{State.{State, read_of, Working, Common, app_steps, queues_of}, Moves.{Moves, Goes}, Flushing.{Flushes}}
+use Rattle.app_worker.specs.{State.{State, read_of, Working, Common, app_steps, queues_of}, Moves.{Moves, Goes}, Flushing.{FlushesUnread}}
 
 -- what was kept of a flow went on by the bytes that were read at its next marks
 pub record Appended (flow : FlowQueue) (taken : List TakenNote) (new : AppView) (len : ℕ) (kept kept_now : ℕ → Option (List ℕ)) : Type 0 where
@@ -24,7 +24,7 @@ pub record Appended (flow : FlowQueue) (taken : List TakenNote) (new : AppView) 
 
 -- The piece that is next in the stream was lent and posted.
 pub record PostedOne (was now : State) (old new : AppView) : Type 0 where
-  pub flushes : Flushes was now old new
+  pub flushes : FlushesUnread was now old new
   pub next : HasNext (queues_of was)
   pub steps : app_steps was old < app_steps now new
   pub posted : length now.posted.entries ≡ length was.posted.entries + 1
@@ -43,19 +43,19 @@ Lends was now old new ReserveHeld = (now ≡ was) × SawNoSpare old new × HasCo
 
 -- nothing is due any more: what was is given back, and entries are to follow it, or it is kept to the end
 pub record GaveOne (was now : State) (old new : AppView) : Type 0 where
-  pub flushes : Flushes was now old new
+  pub flushes : FlushesUnread was now old new
   pub same : now ≡ record was { due = None; leaked = now.leaked; stray = now.stray }
   pub steps : was.due ≢ None → app_steps was old < app_steps now new
   pub taken : new.taken ≡ old.taken
   pub left : new.left ≡ old.left
 
-abbrev pub Gives : State → State → AppView → AppView → Bool → Type 0
-Gives was now old new true = GaveOne was now old new
-Gives was now old new false = (now ≡ was) × (was.due ≢ None) × AppOnlySaw RefillInUse old new
+abbrev pub GivesOneOrNone : State → State → AppView → AppView → Bool → Type 0
+GivesOneOrNone was now old new true = GaveOne was now old new
+GivesOneOrNone was now old new false = (now ≡ was) × (was.due ≢ None) × AppOnlySaw RefillInUse old new
 
 -- loans were given back or kept, and entries written
-pub record GaveBack (was now : State) (old new : AppView) : Type 0 where
-  pub flushes : Flushes was now old new
+pub record GaveLoansBack (was now : State) (old new : AppView) : Type 0 where
+  pub flushes : FlushesUnread was now old new
   pub same : now ≡ record was { due = now.due; leaked = now.leaked; stray = now.stray }
   pub steps : app_steps was old < app_steps now new
   pub taken : new.taken ≡ old.taken
@@ -63,25 +63,25 @@ pub record GaveBack (was now : State) (old new : AppView) : Type 0 where
 
 abbrev pub PushesLeft : State → State → AppView → AppView → Pushed → Type 0
 PushesLeft was now old new pushed_nothing = (now ≡ was) × (new ≡ old) × (was.stray.left ≡ 0)
-PushesLeft was now old new pushed_all = GaveBack was now old new × (now ≡ record was { stray = now.stray }) × (0 < was.stray.left) × (now.stray.left ≡ 0)
-PushesLeft was now old new pushed_part = GaveBack was now old new × (now ≡ record was { stray = now.stray }) × AppRose RefillInUse old new
+PushesLeft was now old new pushed_all = GaveLoansBack was now old new × (now ≡ record was { stray = now.stray }) × (0 < was.stray.left) × (now.stray.left ≡ 0)
+PushesLeft was now old new pushed_part = GaveLoansBack was now old new × (now ≡ record was { stray = now.stray }) × AppRose RefillInUse old new
 PushesLeft was now old new pushed_none = (now ≡ was) × AppOnlySaw RefillInUse old new × (0 < was.stray.left)
 
 -- a loan is due, or entries are to follow one
 abbrev pub IsDue : State → Type 0
 IsDue st = (st.due ≢ None) ⊎ (0 < st.stray.left)
 
-abbrev pub GivesBack : State → State → AppView → AppView → GivenBack → Type 0
-GivesBack was now old new nothing_given = (now ≡ was) × (new ≡ old) × (was.due ≡ None) × (was.stray.left ≡ 0)
-GivesBack was now old new given = GaveBack was now old new × (now.due ≡ None) × (now.stray.left ≡ 0)
-GivesBack was now old new given_in_part = GaveBack was now old new × AppRose RefillInUse old new
-GivesBack was now old new given_none = (now ≡ was) × AppOnlySaw RefillInUse old new × IsDue was
+abbrev pub GivesDueBack : State → State → AppView → AppView → GivenBack → Type 0
+GivesDueBack was now old new nothing_given = (now ≡ was) × (new ≡ old) × (was.due ≡ None) × (was.stray.left ≡ 0)
+GivesDueBack was now old new given = GaveLoansBack was now old new × (now.due ≡ None) × (now.stray.left ≡ 0)
+GivesDueBack was now old new given_in_part = GaveLoansBack was now old new × AppRose RefillInUse old new
+GivesDueBack was now old new given_none = (now ≡ was) × AppOnlySaw RefillInUse old new × IsDue was
 
 -- ---- reading
 
 -- The oldest loan was read and appended, and is due.
 pub record ReadOne (was now : State) (old new : AppView) (kept kept_now : ℕ → Option (List ℕ)) : Type 0 where
-  pub flushes : Flushes was now old new
+  pub flushes : FlushesUnread was now old new
   pub working : Working now new
   pub common : Common now new
   pub goes : Goes was now old new kept kept_now

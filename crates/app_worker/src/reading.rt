@@ -3,7 +3,7 @@ ghost use Rattle.std.specs.Prelude.{◌≡◌, false, ◌+◌, ◌-◌, ◌^◌,
 ghost use Rattle.area_layout.specs.Layout.{judged};
 ghost use Rattle.board_face.specs.{AppCalls.{IsHere, IsLive, AppOnlySaw}, AppEvents.{app_gist, pushed_raw}, declared.views.app.AppLook.TheVariants.{RefillInUse}};
 ghost use Rattle.flow_queues.specs.Core.{LieApart, IsIn, lent_piece};
-ghost use Rattle.app_worker.specs.Steps.{MayRead, as_front, ReadsThrough, CountsFront, AppendsFront, CountsShelf, Given, KeptDue, NotKept, MayPush, Pushes};
+ghost use Rattle.app_worker.specs.Steps.{MayRead, as_front, ReadsThrough, CountsFront, AppendsFront, CountsShelf, Given, KeptDue, NotKept, MayPushStrays, Pushes};
 
 use crate::stack::Stray;
 use board_face::AppFace;
@@ -157,7 +157,7 @@ fn push_stray<F: AppFace>(face: &mut F, stray: &Stray) -> bool
 
 /// Writes the entries that are left. One is dropped where a loan in its buffer is out.
 pub fn push_strays<F: AppFace>(face: &mut F, stray: &mut Stray) -> Pushed
-    requires may { MayPush (F.seen face.old) stray.old }
+    requires may { MayPushStrays (F.seen face.old) stray.old }
     ensures pushes { Pushes (F.seen face.old) (F.seen face.new) stray.old stray.new result }
     ensures told { result ≡ Pushed.InUse
         → F.tells RefillInUse (app_gist (F.seen face.new)) (F.beside face.new) }

@@ -2,7 +2,7 @@
 ghost use Rattle.std.specs.Prelude.{◌≡◌, false, ◌+◌, ◌≤◌, [], ◌++◌, length};
 ghost use Rattle.completion_ring.specs.Ring.{ring};
 ghost use Rattle.board_face.specs.AppEvents.{app_gist};
-ghost use Rattle.app_worker.specs.{StateOf.{state_of}, Works.{Works, NoneDue, MayLend}, ShelfWent.{ShelfWent}, Steps.{IsSoOfDelivery}, Stages.{kept_of, ReadsTo, LentSome, LendsAll, IsSoOfLent}};
+ghost use Rattle.app_worker.specs.{StateOf.{state_of}, Works.{Works, NoneDue, MayLend}, ShelfWent.{ShelfWent}, Steps.{IsSoOfDelivery}, Stages.{kept_unread, ReadsTo, LentSome, LendsAll, IsSoOfLent}};
 
 use crate::lending::deliver_one;
 use crate::letting::let_go;
@@ -60,7 +60,7 @@ fn reap_all(st: &mut Stack)
 
 /// How many may stay unread: none, while all is to be read.
 fn least_kept(st: &Stack, keep: usize) -> usize
-    ensures { result ≡ kept_of keep (state_of st.now) }
+    ensures { result ≡ kept_unread keep (state_of st.now) }
 {
     if st.flush { 0 } else { keep }
 }

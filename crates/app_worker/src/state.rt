@@ -1,8 +1,8 @@
 //! What an application keeps between its turns, and its turn.
 ghost use Rattle.std.specs.Prelude.{◌≡◌, ℕ, ◌≤◌, List, Option, IfOk};
 ghost use Rattle.board_face.specs.{AppCalls.{IsHere}, AppEvents.{app_gist}, declared.views.app.AppView.{AppView}};
-ghost use Rattle.app_worker.specs.{declared.turn.{Why.{Why}, Turn.TheVariants.{Idle}}, State.{AppStands}, Kept.{new_state, IsFresh, flow_bytes}, Turns.{look_of}, TurnMakes.{TurnMakes, at_work}};
-ghost use Rattle.flow_queues.specs.{Shelves.{AreShelved}, Totals.{bytes_of}};
+ghost use Rattle.app_worker.specs.{declared.turn.{Why.{Why}, Turn.TheVariants.{Idle}}, State.{AppStands}, Kept.{new_state, IsFreshApp, flow_bytes}, Turns.{look_of}, TurnMakes.{TurnMakes, at_work}};
+ghost use Rattle.flow_queues.specs.{Shelves.{AreShelved}, Totals.{queue_bytes_of}};
 
 use crate::stack::{Stack, Stray};
 use crate::turn::Turn;
@@ -23,13 +23,13 @@ pub struct AppState {
 }
 
 impl Model for AppState {
-    ghost use Rattle.app_worker.specs.{State.{State}, StateOf.{state_of}, Kept.{AreFound}};
+    ghost use Rattle.app_worker.specs.{State.{State}, StateOf.{state_of}, Kept.{AreIndexed}};
 
     ghost Value = { State };
 
     ghost view = { λ s. state_of s.stack };
 
-    ghost invariant = { λ s. AreFound (state_of s.stack) };
+    ghost invariant = { λ s. AreIndexed (state_of s.stack) };
 }
 
 impl AppState {
@@ -39,7 +39,7 @@ impl AppState {
         requires least { 1 ≤ places }
         requires most { places ≤ 256 }
         ensures state { IfOk result (λ st. st ≡ new_state app places how) }
-        ensures stands { IfOk result (λ st. (v : AppView) → IsFresh app v → AppStands st v) }
+        ensures stands { IfOk result (λ st. (v : AppView) → IsFreshApp app v → AppStands st v) }
         // what the shelf has since the first turn is nothing yet
         ensures shelved { IfOk result
             (λ st. (kept : ℕ → Option (List ℕ)) → (v : AppView) → AreShelved kept kept st.flows v) }
@@ -111,7 +111,7 @@ impl AppState {
     /// How many bytes of a flow the appends that went well took.
     pub fn flow_bytes(&self, flow: u32) -> u64
         ensures value { result ≡ flow_bytes flow self.now.flows }
-        ensures sum { result ≡ bytes_of flow self.now.flows }
+        ensures sum { result ≡ queue_bytes_of flow self.now.flows }
     {
         match find(&self.stack.queues.index, u64::from(flow)) {
             Some(place) => self.stack.queues.flows[place].bytes,

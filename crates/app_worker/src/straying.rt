@@ -1,7 +1,7 @@
 //! Loans that are due are given back, each followed by its stray entries.
 ghost use Rattle.std.specs.Prelude.{◌≡◌};
 ghost use Rattle.board_face.specs.{AppEvents.{app_gist}, declared.views.app.AppLook.TheVariants.{RefillInUse}};
-ghost use Rattle.app_worker.specs.{StateOf.{state_of}, Works.{Works, StillWorks}, Whole.{GivesBack, PushesLeft}};
+ghost use Rattle.app_worker.specs.{StateOf.{state_of}, Works.{Works, StillWorks}, Whole.{GivesDueBack, PushesLeft}};
 
 use crate::reading::{Pushed, push_strays};
 use crate::stack::Stack;
@@ -40,7 +40,7 @@ pub fn give_back<F: AppFace>(face: &mut F, st: &mut Stack) -> GivenBack
     requires works { Works (state_of st.old) (F.seen face.old) }
     ensures works { StillWorks (state_of st.old) (state_of st.new) (F.seen face.old)
         (F.seen face.new) }
-    ensures gives { GivesBack (state_of st.old) (state_of st.new) (F.seen face.old)
+    ensures gives { GivesDueBack (state_of st.old) (state_of st.new) (F.seen face.old)
         (F.seen face.new) result }
     ensures told { result ≡ GivenBack.InUse
         → F.tells RefillInUse (app_gist (F.seen face.new)) (F.beside face.new) }

@@ -2,7 +2,7 @@
 ghost use Rattle.std.specs.Prelude.{◌≡◌, ◌≢◌, false, true, ◌<◌, [], length, ◌^◌, IfSome, ◌⊎◌};
 ghost use Rattle.board_face.specs.{declared.views.app.AppLook.TheVariants.{RefillInUse}, AppEvents.{app_gist}};
 ghost use Rattle.flow_queues.specs.Totals.{wanted_of};
-ghost use Rattle.app_worker.specs.{StateOf.{state_of}, Works.{Works, NoneDue, StillWorks}, ShelfWent.{ShelfWent}, Whole.{Gives, Reads}};
+ghost use Rattle.app_worker.specs.{StateOf.{state_of}, Works.{Works, NoneDue, StillWorks}, ShelfWent.{ShelfWent}, Whole.{GivesOneOrNone, Reads}};
 
 use crate::reading::{give_due, keep_due, read_loan};
 use crate::stack::Stack;
@@ -30,7 +30,8 @@ pub fn give_one<F: AppFace>(face: &mut F, st: &mut Stack) -> bool
     requires works { Works (state_of st.old) (F.seen face.old) }
     ensures works { StillWorks (state_of st.old) (state_of st.new) (F.seen face.old)
         (F.seen face.new) }
-    ensures gives { Gives (state_of st.old) (state_of st.new) (F.seen face.old) (F.seen face.new)
+    ensures gives { GivesOneOrNone (state_of st.old) (state_of st.new) (F.seen face.old)
+        (F.seen face.new)
         result }
     ensures told { result ≡ false
         → F.tells RefillInUse (app_gist (F.seen face.new)) (F.beside face.new) }

@@ -4,7 +4,7 @@ use Rattle.std.proofs.{Common.{length, refl, sym, ap, subst, ◌∙◌, inl, inr
 use Rattle.std.proofs.lemmas.{Nat.{div-mul-add, mod-mul-add, mul-add-lt, row_fits}, Bool.{cases_lt, lt-ltb, le-ltb, cond_both}, List.{get_or_past}}
 use Rattle.std.proofs.lemmas.List.Sums.{sum_by_more, sum_by-take-le}
 use Rattle.zr_kinds.specs.declared.place.Place.{Place}
-use Rattle.area_layout.specs.{declared.layout.Area.{Area}, Layout.{Shape, IsLayout, IsBufferSize, LiesIn, no_area, area_at, pool_buffers, total}}
+use Rattle.area_layout.specs.{declared.layout.Area.{Area}, Layout.{Shape, IsLayout, IsBufferSize, LiesIn, no_area, area_at, pool_buffers, all_buffers}}
 use Rattle.area_layout.specs.Layout.{areas_before, area_of_buffer, size_of, buffers_before, number_in_area, begin_of}
 use Rattle.area_layout.specs.{Layout.{begin_in_area, off_of, area_of, place_in, end_of_area, buffer_in, judged}, Laws.{HasBuffersInOrder, HasWordsApart}}
 use Rattle.area_layout.proofs.Powers.{eights}
@@ -57,9 +57,9 @@ begin-upto shape (suc buffer) =
     omega arith
 
 -- all bytes, reserves included
-pub few_bytes : (shape : Shape) → IsLayout shape → begin_of shape (total shape) ≤ 67633152
+pub few_bytes : (shape : Shape) → IsLayout shape → begin_of shape (all_buffers shape) ≤ 67633152
 few_bytes shape l =
-    let upto = begin-upto shape (total shape) in
+    let upto = begin-upto shape (all_buffers shape) in
     let all = upto-all (first_size shape) shape.areas shape.reserves in
     let bytes = l.bytes in
     let more = mul-le-mul l.reserves.1 (l.sizes 0 l.first).most in
@@ -112,7 +112,7 @@ words-next shape b l =
 pub words_apart : (shape : Shape) → IsLayout shape → HasWordsApart shape
 words_apart shape l = record {
   apart = λ a b lt within. words-before shape a b l lt;
-  inside = λ b within. words-before shape b (total shape) l within;
+  inside = λ b within. words-before shape b (all_buffers shape) l within;
   next = λ b within. words-next shape b l;
   size = λ b. size-fits shape b l;
   whole = λ b. whole_words (size_of shape b) (size-fits shape b l);
@@ -152,7 +152,7 @@ pub record IsNumbered (shape : Shape) (buffer n number : ℕ) : Type 0 where
   pub within : number < lying shape n
   pub back : buffer_in shape n number ≡ buffer
 
-numbered : (shape : Shape) (buffer : ℕ) → buffer < total shape
+numbered : (shape : Shape) (buffer : ℕ) → buffer < all_buffers shape
     → IsNumbered shape buffer (area_of_buffer shape buffer) (number_in_area shape buffer)
 numbered shape buffer there =
     elim (cases_lt buffer (pool_buffers shape)) [
@@ -204,7 +204,7 @@ few-in-area shape n l =
     ]
 
 -- a number in an area is that of a buffer
-pub buffer-there : (shape : Shape) (n number : ℕ) → IsLayout shape → number < lying shape n → buffer_in shape n number < total shape
+pub buffer-there : (shape : Shape) (n number : ℕ) → IsLayout shape → number < lying shape n → buffer_in shape n number < all_buffers shape
 buffer-there shape n number l within =
     elim (cases_lt number (area_at shape n).buffers) [
       | inl lt ↦
@@ -234,17 +234,17 @@ place-within shape place l lies =
 -- by the order of numbers it lies among all bytes
 pub byte-within : (shape : Shape) (place : Place) → IsLayout shape → LiesIn shape place → begin_of shape place.buffer + place.offset ≤ 67633152
 byte-within shape place l lies =
-    let apart = begins-apart shape place.buffer (total shape) lies.buffer in
+    let apart = begins-apart shape place.buffer (all_buffers shape) lies.buffer in
     let few = few_bytes shape l in
     let inside = lies.bytes in
     omega arith
 
-pub begin-few : (shape : Shape) (buffer : ℕ) → IsLayout shape → buffer ≤ total shape → begin_of shape buffer ≤ 67633152
+pub begin-few : (shape : Shape) (buffer : ℕ) → IsLayout shape → buffer ≤ all_buffers shape → begin_of shape buffer ≤ 67633152
 begin-few shape buffer l within =
     let few = few_bytes shape l in
-    elim (cases_lt buffer (total shape)) [
-      | inl lt ↦ let apart = begins-apart shape buffer (total shape) lt in omega arith
-      | inr ge ↦ let e : buffer ≡ total shape = omega arith in rw e few
+    elim (cases_lt buffer (all_buffers shape)) [
+      | inl lt ↦ let apart = begins-apart shape buffer (all_buffers shape) lt in omega arith
+      | inr ge ↦ let e : buffer ≡ all_buffers shape = omega arith in rw e few
     ]
 
 place-small : (shape : Shape) (place : Place) → IsLayout shape → LiesIn shape place → place.offset < size_of shape place.buffer
@@ -281,7 +281,7 @@ pub upto-now : (shape now : Shape) (buffer : ℕ) → shape ≡ now → begin_of
 upto-now shape now buffer view = ap (λ (s : Shape). begin_of s buffer) (sym view) ∙ begin-upto shape buffer
 
 -- what was counted so far and what is left are few bytes together
-pub part-few : (shape now : Shape) (buffer bytes rest : ℕ) → shape ≡ now → IsLayout shape → buffer ≤ total now
+pub part-few : (shape now : Shape) (buffer bytes rest : ℕ) → shape ≡ now → IsLayout shape → buffer ≤ all_buffers now
     → bytes_upto (first_size shape) shape.areas buffer ≡ bytes + rest → bytes + rest ≤ 67633152
 part-few shape now buffer bytes rest view l within parts =
     let few = begin-few now buffer (layout-now shape now view l) within in

@@ -10,9 +10,9 @@ pub record Field : Type 0 where
 abbrev pub field : ℕ → ℕ → Field
 field width number = record { width = width; number = number }
 
-abbrev pub bytes_of : List Field → List ℕ
-bytes_of [] = []
-bytes_of (first ∷ fields) = little_bytes first.width first.number ++ bytes_of fields
+abbrev pub bytes_of_fields : List Field → List ℕ
+bytes_of_fields [] = []
+bytes_of_fields (first ∷ fields) = little_bytes first.width first.number ++ bytes_of_fields fields
 
 -- ---- the completion: user_data, res as two's complement, flags, off, and 8 bytes of 0
 
@@ -21,7 +21,7 @@ completion_fields c =
     field 8 c.user_data ∷ field 4 (cast_unsigned w32 c.res) ∷ field 4 c.flags ∷ field 8 c.off ∷ field 8 0 ∷ []
 
 abbrev pub completion_bytes : Completion → List ℕ
-completion_bytes c = bytes_of (completion_fields c)
+completion_bytes c = bytes_of_fields (completion_fields c)
 
 abbrev pub completion_of : List ℕ → Completion
 completion_of bytes = record {
@@ -40,7 +40,7 @@ abbrev pub refill_fields : Rqe → List Field
 refill_fields e = field 8 e.off ∷ field 4 e.len ∷ field 4 e.pad ∷ []
 
 abbrev pub refill_bytes : Rqe → List ℕ
-refill_bytes e = bytes_of (refill_fields e)
+refill_bytes e = bytes_of_fields (refill_fields e)
 
 abbrev pub refill_of : List ℕ → Rqe
 refill_of bytes = record {

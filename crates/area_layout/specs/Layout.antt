@@ -76,8 +76,8 @@ pub record MakeLayout (areas : List (ℕ × ℕ)) (reserves : ℕ) : Type 0 wher
 -- ---- buffers
 
 -- how many buffers there are, reserves included
-abbrev pub total : Shape → ℕ
-total shape = pool_buffers shape + shape.reserves
+abbrev pub all_buffers : Shape → ℕ
+all_buffers shape = pool_buffers shape + shape.reserves
 
 -- how many areas end at or before this buffer
 abbrev pub areas_before : List Area → ℕ → ℕ
@@ -122,7 +122,7 @@ first_word shape buffer = begin_of shape buffer / 8
 
 -- how many words all buffers have
 abbrev pub area_words : Shape → ℕ
-area_words shape = first_word shape (total shape)
+area_words shape = first_word shape (all_buffers shape)
 
 -- ---- offsets: the upper 16 bits are the number of an area, and the low 48 bits a place in it
 
@@ -134,7 +134,7 @@ place_in off = off % 2 ^ 48
 
 -- the place lies in one buffer
 pub record LiesIn (shape : Shape) (place : Place) : Type 0 where
-  pub buffer : place.buffer < total shape
+  pub buffer : place.buffer < all_buffers shape
   pub bytes : place.offset + place.len ≤ size_of shape place.buffer
 
 -- how many bytes the buffers of its own area have that lie before this one

@@ -1,5 +1,5 @@
 ghost use Rattle.std.specs.Prelude.{◌≡◌, ℕ, ◌+◌, ◌*◌, ◌^◌, ◌<◌, ◌≤◌, ◌↔◌, Some, IsTrue, IsSome, IsNone, IfSome, All, length, sum_by};
-ghost use Rattle.area_layout.specs.Layout.{IsLayout, MakeLayout, IsArea, IsBufferSize, LiesIn, IsVoid, shape_of, shape_of_areas, listed_area, pool_buffers, total, least_size, size_of, begin_of, first_word, area_words, area_of_buffer, buffers_before, number_in_area, end_of_area, off_of, judged};
+ghost use Rattle.area_layout.specs.Layout.{IsLayout, MakeLayout, IsArea, IsBufferSize, LiesIn, IsVoid, shape_of, shape_of_areas, listed_area, pool_buffers, all_buffers, least_size, size_of, begin_of, first_word, area_words, area_of_buffer, buffers_before, number_in_area, end_of_area, off_of, judged};
 
 use std::marker::Model;
 use zr_kinds::{Place, Rqe};
@@ -102,7 +102,7 @@ impl Layout {
 
     /// How many buffers there are, reserves included.
     pub fn total(&self) -> u32
-        ensures value { result ≡ total self.now }
+        ensures value { result ≡ all_buffers self.now }
         ensures within { (pool_buffers self.now < result) × (result ≤ pool_buffers self.now + 8) }
         ensures sound { IsLayout self.now }
     {
@@ -112,7 +112,7 @@ impl Layout {
     /// The least size of a buffer, in bytes.
     pub fn size(&self) -> u32
         ensures value { result ≡ least_size self.now }
-        ensures least { (b : ℕ) → b < total self.now → result ≤ size_of self.now b }
+        ensures least { (b : ℕ) → b < all_buffers self.now → result ≤ size_of self.now b }
         ensures within { IsBufferSize result }
     {
         let mut least = self.areas[0].size;
@@ -126,7 +126,7 @@ impl Layout {
 
     /// The size of a buffer, in bytes.
     pub fn size_of(&self, buffer: u32) -> u32
-        requires { buffer < total self.now }
+        requires { buffer < all_buffers self.now }
         ensures value { result ≡ size_of self.now buffer }
         ensures within { IsBufferSize result }
     {
@@ -135,7 +135,7 @@ impl Layout {
 
     /// How many bytes all buffers have, reserves included.
     pub fn bytes(&self) -> u64
-        ensures value { result ≡ begin_of self.now (total self.now) }
+        ensures value { result ≡ begin_of self.now (all_buffers self.now) }
         ensures within { result ≤ 67633152 }
     {
         self.begin_of(self.total())
@@ -151,7 +151,7 @@ impl Layout {
 
     /// The number of words of 8 bytes that the buffers before this one have.
     pub fn first_word(&self, buffer: u32) -> u64
-        requires { buffer < total self.now }
+        requires { buffer < all_buffers self.now }
         ensures { result ≡ first_word self.now buffer }
     {
         self.begin_of(buffer) / WORD_BYTES
@@ -168,7 +168,7 @@ impl Layout {
 
     /// The number of the area in which the buffer lies.
     pub fn area_of(&self, buffer: u32) -> u32
-        requires { buffer < total self.now }
+        requires { buffer < all_buffers self.now }
         ensures value { result ≡ area_of_buffer self.now buffer }
         ensures within { result < 4 }
     {
@@ -197,7 +197,7 @@ impl Layout {
     pub fn judge(&self, e: &Rqe) -> Option<u32>
         ensures names { result ≡ judged self.now e.now }
         ensures void { IsNone result ↔ IsVoid self.now e.now }
-        ensures within { IfSome result (λ buffer. buffer < total self.now) }
+        ensures within { IfSome result (λ buffer. buffer < all_buffers self.now) }
     {
         let number = (e.off / AREA_SPAN) as usize;
         let place = e.off % AREA_SPAN;
@@ -239,7 +239,7 @@ impl Layout {
 
     /// The buffer's number in its own area.
     fn number_in_area(&self, buffer: u32) -> u32
-        requires { buffer < total self.now }
+        requires { buffer < all_buffers self.now }
         ensures value { result ≡ number_in_area self.now buffer }
         ensures sound { IsLayout self.now }
     {
@@ -253,7 +253,7 @@ impl Layout {
 
     /// The number of bytes that the buffers before this one have; for the number of all buffers, where the last ends.
     fn begin_of(&self, buffer: u32) -> u64
-        requires { buffer ≤ total self.now }
+        requires { buffer ≤ all_buffers self.now }
         ensures value { result ≡ begin_of self.now buffer }
         ensures sound { IsLayout self.now }
     {

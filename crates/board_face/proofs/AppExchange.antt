@@ -14,7 +14,7 @@ use Rattle.board_face.specs.declared.views.app.{HeldPiece.{HeldPiece}, LentPiece
 use Rattle.board_face.{specs.declared.views.app.AppSide.{AppSide}, proofs.ListLemmas.{same_place-refl, same_filling-refl, same_place-is, same_filling-is}}
 use Rattle.board_face.proofs.{WayLemmas.{after-taken}, Tallies.{total, total-append}, Sums.{total-push, total-without, total-filter}}
 use Rattle.board_face.specs.BoardSteps.{AppStep, polls, polls_linear, cuts, releases, lends, gives, abandons, spares, fills, lends_own, app_view, AppCan}
-use Rattle.board_face.specs.Holdings.{Hold, sent_to, held, spare, loan, owed, returning, here, weight, app_weight, ended_weight, app_ends, app_begins}
+use Rattle.board_face.specs.Holdings.{Hold, sent_to, held, spare, loan, owed, returning, here, weight_in, app_weight, ended_weight, app_ends, app_begins}
 
 -- what the note that is taken weighs among those on their way
 way-next : (nic : NicSide) (x : AppSide) (note : Note) → IsNextNote nic x note → (t : TakenNote) (g : Note → ℕ)
@@ -105,8 +105,8 @@ back-exchange nic x p out w b sound =
 
 -- of one application's side
 pub app-exchange : (step : AppStep) (nic : NicSide) (x : AppSide) → AppCan step nic x → (w : Hold → ℕ) (b : ℕ)
-    → app_weight w b nic (app_at x (app_view step x.view)) + weight w b (app_ends x.view.app step x.view)
-    ≡ app_weight w b nic x + weight w b (app_begins x.view.app step x.view)
+    → app_weight w b nic (app_at x (app_view step x.view)) + weight_in w b (app_ends x.view.app step x.view)
+    ≡ app_weight w b nic x + weight_in w b (app_begins x.view.app step x.view)
 app-exchange (polls note) nic x can w b =
     let n = x.view.app in
     let g : Note → ℕ = λ m. here b m.place.buffer (w (sent_to n m.place)) in

@@ -10,7 +10,7 @@ use Rattle.board_face.specs.{Sides.{app_at, IsApp}, Holders.{ended_in, returning
 use Rattle.board_face.specs.declared.views.{parts.Filling.{Filling}, nic.{NicSide.{NicSide}}, app.{LentPiece.{LentPiece}}}
 use Rattle.board_face.{specs.declared.views.app.{SpareOwn.{SpareOwn}, AppView.{AppView}, AppSide.{AppSide}}, proofs.ListLemmas.{same_filling-refl, same_filling-is}}
 use Rattle.board_face.specs.declared.views.app.Origin.TheVariants.{Copied as of_copy}
-use Rattle.board_face.proofs.Tallies.{weight, tally, tally-push, tally-without, total-set}
+use Rattle.board_face.proofs.Tallies.{one_if, tally, tally-push, tally-without, total-set}
 use Rattle.board_face.proofs.Parts.{app_count, user_part, loans_in, came_back_in, owed_count, returned_in-count, pool_count-parts, user_count-parts}
 use Rattle.board_face.{proofs.Counting.{weight-and}, specs.Laws.{IsNextNote}}
 pub use Rattle.board_face.proofs.WayLemmas.{after-taken}
@@ -65,18 +65,18 @@ app_count-took_linear b nic app note bytes next split = omega (arith, app-counts
 -- ---- pieces
 
 pub owns-without : (b : ℕ) (v : AppView) (own : Filling) → HasSpare v own
-    → tally (λ (s : SpareOwn). s.own.buffer == b) (owns_without v own) + weight (own.buffer == b) ≡ tally (λ (s : SpareOwn). s.own.buffer == b) v.owns
+    → tally (λ (s : SpareOwn). s.own.buffer == b) (owns_without v own) + one_if (own.buffer == b) ≡ tally (λ (s : SpareOwn). s.own.buffer == b) v.owns
 owns-without b v own out = tally-without (λ (s : SpareOwn). s.own) (same_filling own) own (same_filling-is own) (same_filling-refl own)
     (λ o. o.buffer == b) v.owns out
 
 -- a cut piece has one holder more
 pub app_count-cut : (b : ℕ) (nic : NicSide) (app : AppSide) (place : Place) (at : ℕ) → HasHeld app.view place
-    → app_count b nic (app_at app (cut app.view place at)) ≡ app_count b nic app + weight (place.buffer == b)
+    → app_count b nic (app_at app (cut app.view place at)) ≡ app_count b nic app + one_if (place.buffer == b)
 app_count-cut b nic app place at out = omega (arith, app-counts (cuts place at) b nic app out)
 
 -- a released piece has one less
 pub app_count-released : (b : ℕ) (nic : NicSide) (app : AppSide) (place : Place) → HasHeld app.view place
-    → app_count b nic (app_at app (released app.view place)) + weight (place.buffer == b) ≡ app_count b nic app
+    → app_count b nic (app_at app (released app.view place)) + one_if (place.buffer == b) ≡ app_count b nic app
 app_count-released b nic app place out = omega (arith, app-counts (releases place) b nic app out)
 
 -- ---- loans
@@ -93,9 +93,9 @@ user-case false m n w e = refl
 -- a loan more is one user more
 user_part-more : (x b : ℕ) (nic : NicSide) (app : AppSide) (l : LentPiece)
     → user_part x b nic (app_at app (record app.view { loans = app.view.loans ++ l ∷ [] }))
-    ≡ user_part x b nic app + weight ((app.view.app == x) && (l.place.buffer == b))
+    ≡ user_part x b nic app + one_if ((app.view.app == x) && (l.place.buffer == b))
 user_part-more x b nic app l =
-    let w = weight (l.place.buffer == b) in
+    let w = one_if (l.place.buffer == b) in
     let now = app_at app (record app.view { loans = app.view.loans ++ l ∷ [] }) in
     let more = tally-push (λ (k : LentPiece). k.place.buffer == b) app.view.loans l in
     let split = user-case (app.view.app == x) (loans_in b now + owed_count b nic app) (loans_in b app + owed_count b nic app) w (omega arith) in
@@ -103,11 +103,11 @@ user_part-more x b nic app l =
 
 -- and is one user more
 pub user_part-lent : (x b : ℕ) (nic : NicSide) (app : AppSide) (place : Place)
-    → user_part x b nic (app_at app (lent app.view place)) ≡ user_part x b nic app + weight ((app.view.app == x) && (place.buffer == b))
+    → user_part x b nic (app_at app (lent app.view place)) ≡ user_part x b nic app + one_if ((app.view.app == x) && (place.buffer == b))
 user_part-lent x b nic app place = user_part-more x b nic app (record { place = place; origin = held_origin app.view place })
 
 returned-push : (b : ℕ) (app : AppSide) (place : Place) → came_back_in b (app_at app (abandoned app.view place))
-    ≡ came_back_in b app + weight (place.buffer == b)
+    ≡ came_back_in b app + one_if (place.buffer == b)
 returned-push b app place = tally-push (λ (l : LentPiece). l.place.buffer == b) app.view.returned
     (record { place = place; origin = loan_origin app.view place })
 
@@ -140,7 +140,7 @@ EndedWereReturned-abandoned b nic app place sound =
 
 -- a spare has one holder more
 pub app_count-got_spare : (b : ℕ) (nic : NicSide) (app : AppSide) (buffer : ℕ)
-    → app_count b nic (app_at app (got_spare app.view buffer)) ≡ app_count b nic app + weight (buffer == b)
+    → app_count b nic (app_at app (got_spare app.view buffer)) ≡ app_count b nic app + one_if (buffer == b)
 app_count-got_spare b nic app buffer = omega (arith, app-counts (spares buffer) b nic app tt)
 
 -- filling changes no count
@@ -155,7 +155,7 @@ app_count-lent_own b nic app own out = omega (arith, app-counts (lends_own own) 
 
 -- and is one user more
 pub user_part-lent_own : (x b : ℕ) (nic : NicSide) (app : AppSide) (own : Filling)
-    → user_part x b nic (app_at app (lent_own app.view own)) ≡ user_part x b nic app + weight ((app.view.app == x) && (own.buffer == b))
+    → user_part x b nic (app_at app (lent_own app.view own)) ≡ user_part x b nic app + one_if ((app.view.app == x) && (own.buffer == b))
 user_part-lent_own x b nic app own =
     user_part-more x b nic app
     (record { place = begin_place own.buffer (length (own_bytes app.view own)); origin = of_copy (own_bytes app.view own) })

@@ -4,7 +4,7 @@ use Rattle.std.{specs.Prelude.{◌≢◌}, proofs.Common.{◌≡◌, ℕ, ◌+�
 use Rattle.board_face.proofs.Counting.{All-none as none-of}
 use Rattle.zr_kinds.{proofs.Booleans.{if-none}, specs.declared.place.{Place.{Place}, Note.{Note}}}
 use Rattle.board_face.{specs.BoardSteps.{AppStep, AppCan, app_view, lends, spares}, proofs.PlacesByEvent.{app_places-then}}
-use Rattle.board_face.specs.Holdings.{app_ends, app_begins, weight as weights}
+use Rattle.board_face.specs.Holdings.{app_ends, app_begins, weight_in as weights}
 use Rattle.board_face.proofs.PlaceTallies.{placed as placed_test}
 use Rattle.std.proofs.Common.{drop, refl, ap, subst, ⊎_elim, arith, length-drop, length-take}
 use Rattle.std.specs.Prelude.{filter, ◌==◌, ◌&&◌, nat_lt, nat_le, count_by, All, Contains, Some, None}
@@ -20,7 +20,7 @@ use Rattle.board_face.specs.{Counts.{pool_count, EndedWereReturned}, Fillings.{I
 use Rattle.board_face.specs.{Places.{places_of, has_byte, is_empty, ends_behind, ArePlaced}, declared.views.parts.{Filling.{Filling}, Making.{Making}}}
 use Rattle.board_face.specs.declared.views.{nic.{PlacedText.{PlacedText}, SentNote.{SentNote}, NicView.{NicView}, NicSide.{NicSide}}, app.HeldPiece.{HeldPiece}}
 use Rattle.board_face.specs.declared.views.app.{LentPiece.{LentPiece}, SpareOwn.{SpareOwn}, AppSide.{AppSide}}
-use Rattle.board_face.proofs.{ListLemmas.{All-without, not-eqb}, Tallies.{total-le, weight, tally, tally-le, tally-push, weight-le, total-set}}
+use Rattle.board_face.proofs.{ListLemmas.{All-without, not-eqb}, Tallies.{total-le, one_if, tally, tally-le, tally-push, one_if-le, total-set}}
 use Rattle.board_face.proofs.{Parts.{owns_in, spares_in, app_count, returned_in-count, pool_count-parts, count-tally}, NicLemmas.{making_at, owns-without}}
 use Rattle.board_face.proofs.AppLemmas.{pool_count-app, owns-without as spares-without}
 use Rattle.board_face.proofs.PlaceTallies.{in_buffer, piece_places, app_places, places-parts}
@@ -35,21 +35,21 @@ use Rattle.board_face.{proofs.FillingsFitLemmas.{FillingsFit-own, FillingsFit-sp
 abbrev pub IsBehind : ℕ → NicSide → List AppSide → Filling → Type 0
 IsBehind b nic apps o = o.buffer ≡ b → count_by (ends_behind o.start) (places_of b nic apps) ≡ 0
 
-left-weight : (c d : Bool) → weight (c && d) ≤ weight c
-left-weight true d = weight-le d
+left-weight : (c d : Bool) → one_if (c && d) ≤ one_if c
+left-weight true d = one_if-le d
 left-weight false d = omega arith
 
-pub right-weight : (c d : Bool) → weight (c && d) ≤ weight d
+pub right-weight : (c d : Bool) → one_if (c && d) ≤ one_if d
 right-weight true d = omega arith
 right-weight false d = omega arith
 
 -- a test that is met by no more
-pub tally-fewer : {A : Type 0} (p q : A → Bool) → ((x : A) → weight (p x) ≤ weight (q x)) → (xs : List A) → tally p xs ≤ tally q xs
+pub tally-fewer : {A : Type 0} (p q : A → Bool) → ((x : A) → one_if (p x) ≤ one_if (q x)) → (xs : List A) → tally p xs ≤ tally q xs
 tally-fewer p q less [] = omega arith
 tally-fewer p q less (x ∷ xs) = omega (arith, less x, tally-fewer p q less xs)
 
 less-case : {A : Type 0} (test : A → Bool) (c : Bool) (x : A) (xs ys : List A) → tally test ys ≤ tally test xs
-    → tally test (cond c xs (x ∷ ys)) ≤ weight (test x) + tally test xs
+    → tally test (cond c xs (x ∷ ys)) ≤ one_if (test x) + tally test xs
 less-case test true x xs ys less = omega arith
 less-case test false x xs ys less = omega arith
 
@@ -63,7 +63,7 @@ few-in : {A : Type 0} (b : ℕ) (test : Place → Bool) (f : A → Place) (xs : 
 few-in b test f xs = tally-fewer (λ x. in_buffer b test (f x)) (λ x. (f x).buffer == b) (λ x. left-weight ((f x).buffer == b) (test (f x))) xs
 
 few-spare : (b : ℕ) (test : Place → Bool) (s : SpareOwn)
-    → weight (nat_lt 0 (length s.bytes) && in_buffer b test (begin_place s.own.buffer (length s.bytes))) ≤ weight (s.own.buffer == b)
+    → one_if (nat_lt 0 (length s.bytes) && in_buffer b test (begin_place s.own.buffer (length s.bytes))) ≤ one_if (s.own.buffer == b)
 few-spare b test s =
     let place = begin_place s.own.buffer (length s.bytes) in
     omega (arith, right-weight (nat_lt 0 (length s.bytes)) (in_buffer b test place), left-weight (s.own.buffer == b) (test place))
@@ -187,15 +187,15 @@ pub All-none : {A : Type 0} (f : A → ℕ) (b : ℕ) (P : A → Type 0) (xs : L
 All-none f b P xs none =
     All-weaker (λ x. f x ≢ b) (λ x. f x ≡ b → P x) (λ x other e. absurd (other e)) xs (none-of f b xs none)
 
-end-weight : (m n e : ℕ) → m ≤ n → weight (nat_lt n e) ≤ weight (nat_lt m e)
+end-weight : (m n e : ℕ) → m ≤ n → one_if (nat_lt n e) ≤ one_if (nat_lt m e)
 end-weight m n e le =
     ⊎_elim
-    (λ less. let one : weight (nat_lt m e) ≡ 1 = ap weight (lt-ltb m e (omega arith)) in omega (arith, weight-le (nat_lt n e)))
-    (λ more. let none : weight (nat_lt n e) ≡ 0 = ap weight (le-ltb n e more) in omega arith)
+    (λ less. let one : one_if (nat_lt m e) ≡ 1 = ap one_if (lt-ltb m e (omega arith)) in omega (arith, one_if-le (nat_lt n e)))
+    (λ more. let none : one_if (nat_lt n e) ≡ 0 = ap one_if (le-ltb n e more) in omega arith)
     (cases_lt n e)
 
 -- a place that has a byte ends behind each byte before
-byte-ends : (m x : ℕ) (p : Place) → m ≤ x → weight (has_byte x p) ≤ weight (ends_behind m p)
+byte-ends : (m x : ℕ) (p : Place) → m ≤ x → one_if (has_byte x p) ≤ one_if (ends_behind m p)
 byte-ends m x p le = omega (arith, right-weight (nat_le p.offset x) (nat_lt x (p.offset + p.len)), end-weight m x (p.offset + p.len) le)
 
 -- where no place ends behind m, none has a byte from m on, and none ends behind a later one
@@ -217,29 +217,29 @@ none-later m x ps le none = omega (
   tally-fewer (ends_behind x) (ends_behind m) (λ p. end-weight m x (p.offset + p.len) le) ps,
 )
 
-not-empty : (p : Place) → 0 < p.len → weight (is_empty p) ≡ 0
-not-empty p some_bytes = ap weight (not-eqb p.len 0 (λ e. absurd (omega arith)))
+not-empty : (p : Place) → 0 < p.len → one_if (is_empty p) ≡ 0
+not-empty p some_bytes = ap one_if (not-eqb p.len 0 (λ e. absurd (omega arith)))
 
-pub not-behind : (x : ℕ) (p : Place) → p.offset + p.len ≤ x → weight (ends_behind x p) ≡ 0
-not-behind x p within = ap weight (le-ltb x (p.offset + p.len) within)
+pub not-behind : (x : ℕ) (p : Place) → p.offset + p.len ≤ x → one_if (ends_behind x p) ≡ 0
+not-behind x p within = ap one_if (le-ltb x (p.offset + p.len) within)
 
-before-byte : (x : ℕ) (p : Place) → x < p.offset → weight (has_byte x p) ≡ 0
-before-byte x p before = omega (arith, left-weight (nat_le p.offset x) (nat_lt x (p.offset + p.len)), ap weight (lt-leb p.offset x before))
+before-byte : (x : ℕ) (p : Place) → x < p.offset → one_if (has_byte x p) ≡ 0
+before-byte x p before = omega (arith, left-weight (nat_le p.offset x) (nat_lt x (p.offset + p.len)), ap one_if (lt-leb p.offset x before))
 
-pub in-none : (b : ℕ) (test : Place → Bool) (p : Place) → weight (test p) ≡ 0 → weight (in_buffer b test p) ≡ 0
+pub in-none : (b : ℕ) (test : Place → Bool) (p : Place) → one_if (test p) ≡ 0 → one_if (in_buffer b test p) ≡ 0
 in-none b test p none = omega (arith, none, right-weight (p.buffer == b) (test p))
 
-pub in-other : (b : ℕ) (test : Place → Bool) (p : Place) → (p.buffer == b) ≡ false → weight (in_buffer b test p) ≡ 0
-in-other b test p other = ap (λ c. weight (c && test p)) other
+pub in-other : (b : ℕ) (test : Place → Bool) (p : Place) → (p.buffer == b) ≡ false → one_if (in_buffer b test p) ≡ 0
+in-other b test p other = ap (λ c. one_if (c && test p)) other
 
-one-none : (b : ℕ) (test : Place → Bool) (ps ps' : List Place) (p : Place) → tally test ps' ≤ tally test ps + weight (in_buffer b test p)
-    → weight (in_buffer b test p) ≡ 0 → count_by test ps ≡ 0 → count_by test ps' ≡ 0
+one-none : (b : ℕ) (test : Place → Bool) (ps ps' : List Place) (p : Place) → tally test ps' ≤ tally test ps + one_if (in_buffer b test p)
+    → one_if (in_buffer b test p) ≡ 0 → count_by test ps ≡ 0 → count_by test ps' ≡ 0
 one-none b test ps ps' p more none was = omega (arith, more, none, was, count-tally test ps, count-tally test ps')
 
 -- Where one place comes that has bytes and ends within its buffer, where no place of its buffer ended behind its begin, and
 -- where the card's buffers for filling are filled next behind it, all stays as it is to be.
 pub ArePlaced-more : (b : ℕ) (nic nic' : NicSide) (apps apps' : List AppSide) (p : Place) → nic'.view.setting ≡ nic.view.setting
-    → ((test : Place → Bool) → tally test (places_of b nic' apps') ≤ tally test (places_of b nic apps) + weight (in_buffer b test p))
+    → ((test : Place → Bool) → tally test (places_of b nic' apps') ≤ tally test (places_of b nic apps) + one_if (in_buffer b test p))
     → 0 < p.len → p.offset + p.len ≤ size_of nic.view.setting.layout p.buffer
     → (p.buffer ≡ b → count_by (ends_behind p.offset) (places_of b nic apps) ≡ 0)
     → All (IsBehind b nic apps) nic'.view.owns → (p.buffer ≡ b → All (λ o. o.buffer ≡ b → p.offset + p.len ≤ o.start) nic'.view.owns)
@@ -257,7 +257,7 @@ ArePlaced-more b nic nic' apps apps' p setting more some_bytes within free owns 
       within = rw setting (let n = size_of nic.view.setting.layout b in one-none b (ends_behind n) ps ps' p (more (ends_behind n))
           (in-none b (ends_behind n) p (not-behind n p ends)) sound.within);
       apart = λ x.
-          let one = weight-le (in_buffer b (has_byte x) p) in
+          let one = one_if-le (in_buffer b (has_byte x) p) in
           let here = more (has_byte x) in
           ⊎_elim
           (λ before. omega (
@@ -283,7 +283,7 @@ placed-on : (b : ℕ) (nic nic' : NicSide) (apps : List AppSide) (own : Filling)
     → FillingsFit nic apps → IsFilledByOne b nic apps
     → nic'.view.setting ≡ nic.view.setting → nic'.view.owns ≡ without (same_filling own) nic.view.owns ++ filled_by own n ∷ []
     → ((test : Place → Bool) → tally test (places_of b nic' apps)
-    ≤ tally test (places_of b nic apps) + weight (in_buffer b test (next_place own n)))
+    ≤ tally test (places_of b nic apps) + one_if (in_buffer b test (next_place own n)))
     → ArePlaced b nic apps → ArePlaced b nic' apps
 placed-on b nic nic' apps own n out some_bytes within fit by_one setting owns more sound =
     let rest = without (same_filling own) nic.view.owns in
@@ -294,7 +294,7 @@ placed-on b nic nic' apps own n out some_bytes within fit by_one setting owns mo
     let one = fillings-one b nic apps by_one in
     let mine = owns-without b nic own out in
     let others : own.buffer ≡ b → All (λ (o : Filling). o.buffer ≡ b → p.offset + p.len ≤ o.start) rest = λ e.
-    let here : weight (own.buffer == b) ≡ 1 = ap weight (eq-eqb own.buffer b e) in
+    let here : one_if (own.buffer == b) ≡ 1 = ap one_if (eq-eqb own.buffer b e) in
     All-none (λ (o : Filling). o.buffer) b (λ o. p.offset + p.len ≤ o.start) rest (omega arith) in
     ArePlaced-more b nic nic' apps apps p setting more some_bytes (omega arith) free
     (rw owns (All-push (IsBehind b nic apps) rest (filled_by own n) (All-without (IsBehind b nic apps) (same_filling own) nic.view.owns sound.behind)
@@ -360,50 +360,50 @@ app_places-spare_begun b test nic app buffer = omega (arith, app_places-then (sp
 
 -- ---- a piece that is cut
 
-both-weight : (c d e : Bool) → weight d ≤ weight e → weight (c && d) ≤ weight (c && e)
+both-weight : (c d e : Bool) → one_if d ≤ one_if e → one_if (c && d) ≤ one_if (c && e)
 both-weight true d e le = le
 both-weight false d e le = omega arith
 
 -- the two parts of a place end behind no byte behind which it doesn't end
 pub front-ends : (b x : ℕ) (place : Place) (at : ℕ) → at ≤ place.len
-    → weight (in_buffer b (ends_behind x) (front_place place at)) ≤ weight (in_buffer b (ends_behind x) place)
+    → one_if (in_buffer b (ends_behind x) (front_place place at)) ≤ one_if (in_buffer b (ends_behind x) place)
 front-ends b x place at within =
     both-weight (place.buffer == b) (ends_behind x (front_place place at)) (ends_behind x place)
     (⊎_elim
-    (λ less. let one : weight (ends_behind x place) ≡ 1 = ap weight (lt-ltb x (place.offset + place.len) (omega arith)) in omega
-    (arith, weight-le (ends_behind x (front_place place at))))
+    (λ less. let one : one_if (ends_behind x place) ≡ 1 = ap one_if (lt-ltb x (place.offset + place.len) (omega arith)) in omega
+    (arith, one_if-le (ends_behind x (front_place place at))))
     (λ more. omega (arith, not-behind x (front_place place at) more))
     (cases_lt x (place.offset + at)))
 
 pub rest-ends : (b x : ℕ) (place : Place) (at : ℕ) → at ≤ place.len
-    → weight (in_buffer b (ends_behind x) (rest_place place at)) ≤ weight (in_buffer b (ends_behind x) place)
+    → one_if (in_buffer b (ends_behind x) (rest_place place at)) ≤ one_if (in_buffer b (ends_behind x) place)
 rest-ends b x place at within =
     let same : place.offset + at + (place.len - at) ≡ place.offset + place.len = omega arith in
-    let is : weight (ends_behind x (rest_place place at)) ≡ weight (ends_behind x place) = ap (λ e. weight (nat_lt x e)) same in
+    let is : one_if (ends_behind x (rest_place place at)) ≡ one_if (ends_behind x place) = ap (λ e. one_if (nat_lt x e)) same in
     both-weight (place.buffer == b) (ends_behind x (rest_place place at)) (ends_behind x place) (omega (arith, is))
 
 -- and have each byte of it once
 parts-once : (b x : ℕ) (place : Place) (at : ℕ) → at ≤ place.len
-    → weight (in_buffer b (has_byte x) (front_place place at)) + weight (in_buffer b (has_byte x) (rest_place place at))
-    ≤ weight (in_buffer b (has_byte x) place)
+    → one_if (in_buffer b (has_byte x) (front_place place at)) + one_if (in_buffer b (has_byte x) (rest_place place at))
+    ≤ one_if (in_buffer b (has_byte x) place)
 parts-once b x place at within =
     ⊎_elim
     (λ front.
     let no_rest = in-none b (has_byte x) (rest_place place at) (before-byte x (rest_place place at) front) in
     let mine = both-weight (place.buffer == b) (has_byte x (front_place place at)) (has_byte x place)
     (both-weight (nat_le place.offset x) (nat_lt x (place.offset + at)) (nat_lt x (place.offset + place.len))
-    (let one : weight (nat_lt x (place.offset + place.len)) ≡ 1 = ap weight (lt-ltb x (place.offset + place.len) (omega arith)) in omega
-    (arith, weight-le (nat_lt x (place.offset + at))))) in
+    (let one : one_if (nat_lt x (place.offset + place.len)) ≡ 1 = ap one_if (lt-ltb x (place.offset + place.len) (omega arith)) in omega
+    (arith, one_if-le (nat_lt x (place.offset + at))))) in
     omega (arith, no_rest, mine))
     (λ rest.
-    let no_front : weight (in_buffer b (has_byte x) (front_place place at))
+    let no_front : one_if (in_buffer b (has_byte x) (front_place place at))
     ≡ 0 = in-none b (has_byte x) (front_place place at)
     (omega (arith, right-weight (nat_le place.offset x) (nat_lt x (place.offset + at)), not-behind x (front_place place at) rest)) in
     let same : place.offset + at + (place.len - at) ≡ place.offset + place.len = omega arith in
-    let ends : weight (nat_lt x (place.offset + at + (place.len - at)))
-    ≡ weight (nat_lt x (place.offset + place.len)) = ap (λ e. weight (nat_lt x e)) same in
-    let begins : weight (nat_le place.offset x) ≡ 1 = ap weight (le-leb place.offset x (omega arith)) in
-    let both : weight (has_byte x place) ≡ weight (nat_lt x (place.offset + place.len)) = ap (λ c. weight (c && nat_lt x (place.offset + place.len)))
+    let ends : one_if (nat_lt x (place.offset + at + (place.len - at)))
+    ≡ one_if (nat_lt x (place.offset + place.len)) = ap (λ e. one_if (nat_lt x e)) same in
+    let begins : one_if (nat_le place.offset x) ≡ 1 = ap one_if (le-leb place.offset x (omega arith)) in
+    let both : one_if (has_byte x place) ≡ one_if (nat_lt x (place.offset + place.len)) = ap (λ c. one_if (c && nat_lt x (place.offset + place.len)))
     (le-leb place.offset x (omega arith)) in
     let mine = both-weight (place.buffer == b) (has_byte x (rest_place place at)) (has_byte x place)
     (omega (arith, right-weight (nat_le (place.offset + at) x) (nat_lt x (place.offset + at + (place.len - at))), ends, both)) in
@@ -418,10 +418,10 @@ ArePlaced-cut b nic apps a app place at here out front rest sound =
     let less = app_at app (released app.view place) in
     let ps = places_of b nic apps in
     let ps' = places_of b nic (set apps a now) in
-    let more : (test : Place → Bool) → tally test ps' + weight (in_buffer b test place)
-    ≡ tally test ps + (weight (in_buffer b test (front_place place at)) + weight (in_buffer b test (rest_place place at))) = λ test.
+    let more : (test : Place → Bool) → tally test ps' + one_if (in_buffer b test place)
+    ≡ tally test ps + (one_if (in_buffer b test (front_place place at)) + one_if (in_buffer b test (rest_place place at))) = λ test.
     omega (arith, places-app b test nic apps a app now here, app_places-cut b test nic app place at out) in
-    let has : (test : Place → Bool) → weight (in_buffer b test place) ≤ tally test ps = λ test.
+    let has : (test : Place → Bool) → one_if (in_buffer b test place) ≤ tally test ps = λ test.
     omega (arith, places-app b test nic apps a app less here, app_places-released b test nic app place out) in
     let ends : (x : ℕ) → count_by (ends_behind x) ps ≡ 0 → count_by (ends_behind x) ps' ≡ 0 = λ x none.
     omega (
@@ -462,7 +462,7 @@ pub spare-free : (b : ℕ) (nic : NicSide) (apps : List AppSide) (a : ℕ) (app 
     → IsFilledByOne b nic apps → own.buffer ≡ b → pool_count b nic (set apps a (less_spare app own)) ≡ 0
 spare-free b nic apps a app own here out by_one e =
     let less = less_spare app own in
-    let one : weight (own.buffer == b) ≡ 1 = ap weight (eq-eqb own.buffer b e) in
+    let one : one_if (own.buffer == b) ≡ 1 = ap one_if (eq-eqb own.buffer b e) in
     let mine = spares-without b app.view own out in
     let all = total-set (spares_in b) apps a app less here.there here.is in
     let alone = fillings-alone b nic apps by_one (omega arith) in
@@ -485,7 +485,7 @@ ArePlaced-filled b nic apps a app own bytes here out begin some_bytes few layout
     ≤ app_places b test nic app = λ test. omega (arith, tally-without_le (g test) (λ (s : SpareOwn). same_filling own s.own) app.view.owns) in
     let sound_less = ArePlaced-app b nic apps a app less here fewer sound in
     let more : (test : Place → Bool) → tally test (places_of b nic (set apps a now))
-    ≤ tally test (places_of b nic (set apps a less)) + weight (in_buffer b test place) = λ test.
+    ≤ tally test (places_of b nic (set apps a less)) + one_if (in_buffer b test place) = λ test.
     omega (
       arith,
       places-app b test nic apps a app less here,

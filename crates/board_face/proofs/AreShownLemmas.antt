@@ -1,6 +1,6 @@
 -- All texts stay shown, and all places as they are to be, under each event.
 use Rattle.board_face.{specs.BoardSteps.{AppStep, AppCan, app_view, lends, abandons, polls, polls_linear, releases, gives, spares}, proofs.PlaceTallies.{app_places}}
-use Rattle.board_face.specs.Holdings.{app_ends, app_begins, weight as weights}
+use Rattle.board_face.specs.Holdings.{app_ends, app_begins, weight_in as weights}
 use Rattle.board_face.proofs.PlaceTallies.{placed as placed_test}
 use Rattle.zr_kinds.{proofs.Booleans.{if-none}, specs.declared.{place.{Place.{Place}, Note.{Note}}, ring.Rqe.{Rqe}}}
 use Rattle.std.specs.Prelude.{◌==◌}
@@ -16,7 +16,7 @@ use Rattle.board_face.specs.{AppEvents.{lent_own}, NicCalls.{HasOwn, HasPiece}, 
 use Rattle.board_face.specs.{Sides.{nic_at, app_at, IsApp, AreNumbered}, Holders.{sent_to, ended_in, returning_count}, Counts.{pool_count, EndedWereReturned}}
 use Rattle.board_face.specs.{Fillings.{IsFilledByOne, FillingsFit}, Places.{places_of, ends_behind, ArePlaced}, Shown.{IsShown, CardIsShown, AppIsShown, AreShown}}
 use Rattle.board_face.specs.declared.views.{parts.{Filling.{Filling}, Making.{Making}}, nic.{SentNote.{SentNote}, NicView.{NicView}, NicSide.{NicSide}}}
-use Rattle.board_face.{specs.declared.views.app.{SpareOwn.{SpareOwn}, AppView.{AppView}, AppSide.{AppSide}}, proofs.{ListLemmas.{All-without}, Tallies.{weight}}}
+use Rattle.board_face.{specs.declared.views.app.{SpareOwn.{SpareOwn}, AppView.{AppView}, AppSide.{AppSide}}, proofs.{ListLemmas.{All-without}, Tallies.{one_if}}}
 use Rattle.board_face.proofs.{NicLemmas.{making_at, ended_in-honoured, ended_in-passed_over}, AppLemmas.{SameHoldings, scrubbed_side}}
 use Rattle.board_face.proofs.TextsByEvent.{CardIsShown-placed, CardIsShown-sent, CardIsShown-same, IsShown-text_at, AppIsShown-nic, AppIsShown-sent_other}
 use Rattle.board_face.proofs.TextsByEvent.{AppIsShown-sent, AppIsShown-dealt, AppIsShown-took_note, AppIsShown-took_linear, AppIsShown-cut, AppIsShown-released}
@@ -161,7 +161,7 @@ module _ (byte : ℕ → ℕ → ℕ) where
   AreShown-honoured nic apps a buffer entry small shown =
       let v = honoured nic.view a entry buffer in
       AreShown-from_nic nic (nic_at nic v) apps (CardIsShown-same byte nic v refl)
-      (λ app _. AppIsShown-dealt byte nic v app (λ b. weight ((a == app.view.app) && (buffer == b))) refl (λ b. ended_in-honoured b nic app a buffer entry))
+      (λ app _. AppIsShown-dealt byte nic v app (λ b. one_if ((a == app.view.app) && (buffer == b))) refl (λ b. ended_in-honoured b nic app a buffer entry))
       (λ b. ArePlaced-card b nic apps (nic_at nic v) refl refl (λ test. places-honoured b test nic apps a buffer entry (small b))) shown
 
   pub AreShown-passed_over : (nic : NicSide) (apps : List AppSide) (a : ℕ) (entry : Rqe)

@@ -14,7 +14,7 @@ use Rattle.board_face.proofs.{Parts.{total-shift}, WayLemmas.{drop-push, sent_to
 use Rattle.std.proofs.lemmas.Bool.Decides.{eqb_tells}
 use Rattle.board_face.proofs.{Tallies.{total, total-append, total-agree}, Sums.{total-push, total-without}}
 use Rattle.board_face.specs.BoardSteps.{CardStep, takes, places, sends, sends_linear, shuts, honours, strays, card_view, CardCan}
-use Rattle.board_face.specs.Holdings.{Hold, own, piece, owed, returning, sent_to, here, weight, card_weight, app_weight, weigh, card_ends, card_begins}
+use Rattle.board_face.specs.Holdings.{Hold, own, piece, owed, returning, sent_to, here, weight_in, card_weight, app_weight, weigh, card_ends, card_begins}
 
 pub here-same : (b c m n : ℕ) → (c ≡ b → m ≡ n) → here b c m ≡ here b c n
 here-same b c m n same =
@@ -145,7 +145,7 @@ module _ (nic : NicSide) (apps : List AppSide) (a c : ℕ) (entry : Rqe) (x : Ap
 -- ---- all steps
 
 pub card-exchange : (step : CardStep) (s : AllSides) → CardCan step s → (w : Hold → ℕ) (b : ℕ)
-    → weigh w b (by_card s (card_view step s.nic.view)) + weight w b (card_ends step) ≡ weigh w b s + weight w b (card_begins step s.nic.view)
+    → weigh w b (by_card s (card_view step s.nic.view)) + weight_in w b (card_ends step) ≡ weigh w b s + weight_in w b (card_begins step s.nic.view)
 card-exchange (takes buffer) s can w b =
     omega (
       arith,

@@ -3,7 +3,7 @@ use Rattle.board_face.{proofs.{FreeLemmas.{free-side}, Counted.{user-here}}, spe
 use Rattle.zr_kinds.proofs.Booleans.{if-none}
 use Rattle.board_face.specs.BoardSteps.{AppStep, AppCan, app_view, polls, polls_linear, cuts, releases, gives, abandons, spares, fills, lends_own, sees, reads, pushes, settles, falls_quiet, is_told, leaves}
 use Rattle.board_face.specs.BoardSteps as steps
-use Rattle.board_face.specs.Holdings.{Hold, CountsBy, app_ends, app_begins, weight as weights, used, here}
+use Rattle.board_face.specs.Holdings.{Hold, CountsBy, app_ends, app_begins, weight_in as weights, used, here}
 use Rattle.board_face.proofs.{Counted.{counted}, Exchanging.{app-exchanged}}
 use Rattle.std.proofs.Common.{◌≡◌, ℕ, ◌+◌, Bool, true, false, refl, ap, sym, ◌∙◌, arith, ⊎_elim}
 use Rattle.std.{specs.{Prelude.{◌≢◌, if◌then◌else◌, ◌==◌, slice_index}}, proofs.lemmas.Bool.{cases_eq, eq-eqb}}
@@ -13,21 +13,21 @@ use Rattle.board_face.specs.Laws.{LendOwnLaw, AppKeepsAll, ScrubLaw}
 use Rattle.board_face.specs.NicEvents.{took, swept, placed, sent, sent_linear, gave_up, shut, passed_over, honoured, nic_saw, saw_leave, nic_ended}
 use Rattle.board_face.specs.{Sides.{nic_at, IsApp}, Counts.{user_count}}
 use Rattle.board_face.specs.{FreeOnce.{free_places}, declared.views.{nic.{NicView.{NicView}, NicSide.{NicSide}}, app.{AppSide.{AppSide}}}}
-use Rattle.board_face.proofs.{ListLemmas.{not-eqb}, Tallies.{weight}, Parts.{nic_count, user_part, owed_count, owed-count, user_count-parts, total-only}}
+use Rattle.board_face.proofs.{ListLemmas.{not-eqb}, Tallies.{one_if}, Parts.{nic_count, user_part, owed_count, owed-count, user_count-parts, total-only}}
 use Rattle.board_face.proofs.NicLemmas.{Owes, pool_count-nic, user_count-nic, pool_count-took, pool_count-placed, pool_count-swept, pool_count-gave_up}
 use Rattle.board_face.proofs.NicLemmas.{pool_count-shut, pool_count-sent, pool_count-sent_linear, pool_count-honoured, user_count-honoured}
 use Rattle.board_face.proofs.{NicLemmas.{pool_count-passed_over, user_count-passed_over}, AppLemmas.{scrubbed_side, pool_count-app, user_count-app}}
 use Rattle.board_face.proofs.AppLemmas.{app_count-scrubbed, user_part-scrubbed}
 use Rattle.board_face.proofs.FreeLemmas.{free_places-took, free_places-swept, free_places-gave_up, free_places-nic, free_places-app, comes_in}
 
-turned : (a b : ℕ) → weight (a == b) ≡ one_at b a
+turned : (a b : ℕ) → one_if (a == b) ≡ one_at b a
 turned a b =
     ⊎_elim
     (λ e. rw e refl)
     (λ ne. rw (not-eqb a b ne, not-eqb b a (λ e. ne (sym e))) refl)
     (cases_eq a b)
 
-turned-if : (c : Bool) (a b : ℕ) → (if c then weight (a == b) else 0) ≡ (if c then one_at b a else 0)
+turned-if : (c : Bool) (a b : ℕ) → (if c then one_if (a == b) else 0) ≡ (if c then one_at b a else 0)
 turned-if c a b = ap (λ n. if c then n else 0) (turned a b)
 
 -- ---- the card

@@ -2,28 +2,28 @@
 use Rattle.std.proofs.Common.{◌≡◌, ℕ, ◌+◌, ◌≤◌, Bool, true, false, List, [], ◌∷◌, ◌++◌, map, refl, ap, sym, subst, ◌∙◌, arith, ⊎_elim}
 use Rattle.std.{specs.{Prelude.{◌≢◌, ◌⊎◌, ◌==◌, ◌&&◌, if◌then◌else◌, nat_eq, count_by, sum_by, All}, List.{flat_map}}, proofs.lemmas.Bool.Decides.{eqb_tells}}
 use Rattle.std.proofs.lemmas.List.{Elements.{All-nil, All-cons, All-head, All-tail}, Sums.{sum_by-cons, sum_by-append}}
-use Rattle.board_face.proofs.{ListLemmas.{eqb_same, not-eqb}, Tallies.{weight, tally, total, total-append}}
+use Rattle.board_face.proofs.{ListLemmas.{eqb_same, not-eqb}, Tallies.{one_if, tally, total, total-append}}
 
 -- ---- what a test weighs
 
-pub weight-same : (b : ℕ) → weight (b == b) ≡ 1
-weight-same b = ap weight (eqb_same b)
+pub weight-same : (b : ℕ) → one_if (b == b) ≡ 1
+weight-same b = ap one_if (eqb_same b)
 
-pub weight-other : (a b : ℕ) → a ≢ b → weight (a == b) ≡ 0
-weight-other a b other = ap weight (not-eqb a b other)
+pub weight-other : (a b : ℕ) → a ≢ b → one_if (a == b) ≡ 0
+weight-other a b other = ap one_if (not-eqb a b other)
 
-pub weight-swap : (a b : ℕ) → weight (a == b) ≡ weight (b == a)
+pub weight-swap : (a b : ℕ) → one_if (a == b) ≡ one_if (b == a)
 weight-swap a b =
     ⊎_elim
-    (λ t. let e : a ≡ b = t.1 in omega (arith, ap weight t.0, subst (λ c. weight (c == a) ≡ 1) e (weight-same a)))
-    (λ t. omega (arith, ap weight t.0, weight-other b a (λ e. t.1 (sym e))))
+    (λ t. let e : a ≡ b = t.1 in omega (arith, ap one_if t.0, subst (λ c. one_if (c == a) ≡ 1) e (weight-same a)))
+    (λ t. omega (arith, ap one_if t.0, weight-other b a (λ e. t.1 (sym e))))
     (eqb_tells a b)
 
-pub weight-none : (c : Bool) → weight c ≡ 0 → c ≡ false
+pub weight-none : (c : Bool) → one_if c ≡ 0 → c ≡ false
 weight-none true e = absurd (omega arith)
 weight-none false e = refl
 
-pub weight-and : (c d : Bool) → (if c then weight d else 0) ≡ weight (c && d)
+pub weight-and : (c d : Bool) → (if c then one_if d else 0) ≡ one_if (c && d)
 weight-and true d = refl
 weight-and false d = refl
 
@@ -34,16 +34,16 @@ user_case false l m n w e = refl
 
 -- ---- how often a number stands in a list
 
-pub count-first : {A : Type 0} (p : A → Bool) (x : A) (xs : List A) → count_by p (x ∷ xs) ≡ weight (p x) + count_by p xs
+pub count-first : {A : Type 0} (p : A → Bool) (x : A) (xs : List A) → count_by p (x ∷ xs) ≡ one_if (p x) + count_by p xs
 count-first p x xs = sum_by-cons (λ y. if p y then 1 else 0) x xs
 
-pub count-cons : (b x : ℕ) (xs : List ℕ) → count_by (nat_eq b) (x ∷ xs) ≡ weight (b == x) + count_by (nat_eq b) xs
+pub count-cons : (b x : ℕ) (xs : List ℕ) → count_by (nat_eq b) (x ∷ xs) ≡ one_if (b == x) + count_by (nat_eq b) xs
 count-cons b x xs = count-first (nat_eq b) x xs
 
 pub count-append : (b : ℕ) (xs ys : List ℕ) → count_by (nat_eq b) (xs ++ ys) ≡ count_by (nat_eq b) xs + count_by (nat_eq b) ys
 count-append b xs ys = sum_by-append (λ y. if nat_eq b y then 1 else 0) xs ys
 
-pub count-push : (b x : ℕ) (xs : List ℕ) → count_by (nat_eq b) (xs ++ x ∷ []) ≡ count_by (nat_eq b) xs + weight (b == x)
+pub count-push : (b x : ℕ) (xs : List ℕ) → count_by (nat_eq b) (xs ++ x ∷ []) ≡ count_by (nat_eq b) xs + one_if (b == x)
 count-push b x xs = omega (arith, count-append b xs (x ∷ []), count-cons b x [])
 
 -- ---- sums
@@ -65,7 +65,7 @@ pub All-none : {A : Type 0} (f : A → ℕ) (b : ℕ) (xs : List A) → tally (�
 All-none f b [] none = All-nil (λ x. f x ≢ b)
 All-none f b (x ∷ xs) none =
     All-cons (λ y. f y ≢ b) x xs
-    (λ e. absurd (let one : weight (f x == b) ≡ 1 = subst (λ c. weight (f x == c) ≡ 1) e (weight-same (f x)) in omega (arith, one, none)))
+    (λ e. absurd (let one : one_if (f x == b) ≡ 1 = subst (λ c. one_if (f x == c) ≡ 1) e (weight-same (f x)) in omega (arith, one, none)))
     (All-none f b xs (omega (arith, none)))
 
 -- ---- a buffer with a holder more
@@ -90,14 +90,14 @@ pub once-freed : (came : Bool) (p p' f f' w u n : ℕ) → f ≡ (if p == 0 then
 once-freed came p p' f f' w u n e less more which =
     ⊎_elim
     (λ none. let same : p' ≡ p = omega (arith, none.0) in rw same (no-more came f f' u none.1 more ∙ e))
-    (λ one. let used : f ≡ 0 = e ∙ ap weight (not-eqb p 0 (λ z. absurd (omega (arith, one.0)))) in
-    one-more came f f' u used one.1 more ∙ ap weight (one.3 ∙ ap (λ x. x == 0) (sym one.2)))
+    (λ one. let used : f ≡ 0 = e ∙ ap one_if (not-eqb p 0 (λ z. absurd (omega (arith, one.0)))) in
+    one-more came f f' u used one.1 more ∙ ap one_if (one.3 ∙ ap (λ x. x == 0) (sym one.2)))
     which
   where
     no-more : (came : Bool) (f f' u : ℕ) → u ≡ 0 → f' ≡ f + (if came then u else 0) → f' ≡ f
     no-more true f f' u none more = omega arith
     no-more false f f' u none more = omega arith
 
-    one-more : (came : Bool) (f f' u : ℕ) → f ≡ 0 → u ≡ 1 → f' ≡ f + (if came then u else 0) → f' ≡ weight came
+    one-more : (came : Bool) (f f' u : ℕ) → f ≡ 0 → u ≡ 1 → f' ≡ f + (if came then u else 0) → f' ≡ one_if came
     one-more true f f' u used one more = omega arith
     one-more false f f' u used one more = omega arith

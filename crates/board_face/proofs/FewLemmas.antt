@@ -5,7 +5,7 @@ use Rattle.zr_kinds.specs.declared.place.Place.{Place}
 use Rattle.area_layout.specs.Layout.{size_of}
 use Rattle.board_face.specs.Places.{kind_place, filled_places, places_of, has_byte, is_empty, ends_behind, ArePlaced}
 use Rattle.board_face.specs.{Holders.{Kind, own, piece, sent, held, spare, loan, owed, returning, holders_of}, Counts.{pool_count}}
-use Rattle.board_face.{specs.{Fillings.{is_filling, IsFilledByOne}, declared.views.{nic.NicSide.{NicSide}, app.AppSide.{AppSide}}}, proofs.Tallies.{weight, tally}}
+use Rattle.board_face.{specs.{Fillings.{is_filling, IsFilledByOne}, declared.views.{nic.NicSide.{NicSide}, app.AppSide.{AppSide}}}, proofs.Tallies.{one_if, tally}}
 use Rattle.board_face.proofs.{Parts.{count-tally}, ApartLemmas.{has-weight}}
 
 -- a sum over the numbers below n
@@ -34,15 +34,15 @@ many-bytes : (n : ℕ) (ps : List Place) → tally is_empty ps ≡ 0 → tally (
     → length ps ≤ sum_below (λ x. tally (has_byte x) ps) n
 many-bytes n [] some within = omega arith
 many-bytes n (p ∷ ps) some within =
-    let full : 0 < p.len = ⊎_elim (λ less. less) (λ none. absurd (let e : p.len ≡ 0 = omega arith in omega (arith, some, ap weight (eq-eqb p.len 0 e))))
+    let full : 0 < p.len = ⊎_elim (λ less. less) (λ none. absurd (let e : p.len ≡ 0 = omega arith in omega (arith, some, ap one_if (eq-eqb p.len 0 e))))
     (cases_lt 0 p.len) in
-    let inside : p.offset + p.len ≤ n = ⊎_elim (λ behind. absurd (omega (arith, within, ap weight (lt-ltb n (p.offset + p.len) behind))))
+    let inside : p.offset + p.len ≤ n = ⊎_elim (λ behind. absurd (omega (arith, within, ap one_if (lt-ltb n (p.offset + p.len) behind))))
     (λ in_time. in_time) (cases_lt n (p.offset + p.len)) in
-    let here = sum-at (λ x. weight (has_byte x p)) p.offset n (omega arith) in
+    let here = sum-at (λ x. one_if (has_byte x p)) p.offset n (omega arith) in
     let one = has-weight p.offset p (omega arith) (omega arith) in
     omega (
       arith,
-      sum-both (λ x. weight (has_byte x p)) (λ x. tally (has_byte x) ps) n,
+      sum-both (λ x. one_if (has_byte x p)) (λ x. tally (has_byte x) ps) n,
       here,
       one,
       many-bytes n ps (omega (arith, some)) (omega (arith, within)),
@@ -61,7 +61,7 @@ places-few b nic apps placed =
       sum-once (λ x. tally (has_byte x) ps) once n,
     )
 
-kind-one : (k : Kind) → length (kind_place k) + weight (is_filling k) ≡ 1
+kind-one : (k : Kind) → length (kind_place k) + one_if (is_filling k) ≡ 1
 kind-one own = refl
 kind-one (piece p) = refl
 kind-one (sent a p) = refl

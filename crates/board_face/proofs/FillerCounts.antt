@@ -1,5 +1,5 @@
 -- How many fill a buffer, as a sum, and what each event does to it.
-use Rattle.board_face.specs.Lists.{weight as one}
+use Rattle.board_face.specs.Lists.{one_if as one}
 use Rattle.board_face.{specs.{NicEvents.{begun}, Holdings.{Hold, app_weight, kind_of}, Holders.{on_way}}, proofs.Sums.{none, zeros}}
 use Rattle.zr_kinds.specs.declared.place.Place.{Place}
 use Rattle.board_face.specs.declared.views.{nic.{SentNote.{SentNote}, PlacedText.{PlacedText}}, app.{HeldPiece.{HeldPiece}, LentPiece.{LentPiece}}}
@@ -9,7 +9,7 @@ use Rattle.board_face.specs.{Lists.{without}, Tokens.{filled_by, same_filling}, 
 use Rattle.board_face.specs.{AppEvents.{owns_without, got_spare, filled}, NicCalls.{HasOwn}, AppCalls.{HasSpare}, Sides.{nic_at, app_at}}
 use Rattle.board_face.specs.Holders.{owed_in, returning_in, making_places}
 use Rattle.board_face.specs.{Holders.{holders_of}, Fillings.{is_filling}, declared.views.{parts.Filling.{Filling}, nic.NicSide.{NicSide}}}
-use Rattle.board_face.{specs.declared.views.app.{SpareOwn.{SpareOwn}, AppSide.{AppSide}}, proofs.Tallies.{weight, total, tally-push, total-agree}}
+use Rattle.board_face.{specs.declared.views.app.{SpareOwn.{SpareOwn}, AppSide.{AppSide}}, proofs.Tallies.{one_if, total, tally-push, total-agree}}
 use Rattle.board_face.proofs.{Parts.{owns_in, spares_in}, NicLemmas.{owns-without as card_owns-without}, AppLemmas.{owns-without as spares-without}}
 
 abbrev fills : Hold → ℕ
@@ -40,11 +40,11 @@ fillings-parts b nic apps =
       total-agree (app_weight fills b nic) (spares_in b) (spares-weigh b nic) apps,
     )
 
-pub owns_in-took : (b : ℕ) (nic : NicSide) (buffer : ℕ) → owns_in b (nic_at nic (took nic.view buffer)) ≡ owns_in b nic + weight (buffer == b)
+pub owns_in-took : (b : ℕ) (nic : NicSide) (buffer : ℕ) → owns_in b (nic_at nic (took nic.view buffer)) ≡ owns_in b nic + one_if (buffer == b)
 owns_in-took b nic buffer = tally-push (λ (o : Filling). o.buffer == b) nic.view.owns (fresh nic.view.setting buffer)
 
 pub spares_in-got_spare : (b : ℕ) (app : AppSide) (buffer : ℕ)
-    → spares_in b (app_at app (got_spare app.view buffer)) ≡ spares_in b app + weight (buffer == b)
+    → spares_in b (app_at app (got_spare app.view buffer)) ≡ spares_in b app + one_if (buffer == b)
 spares_in-got_spare b app buffer = tally-push (λ (s : SpareOwn). s.own.buffer == b) app.view.owns (record { own = fresh app.view.setting buffer; bytes = [] })
 
 pub owns_in-filled : (b : ℕ) (nic : NicSide) (it : Filling) (n : ℕ) → HasOwn nic.view it → owns_in b (nic_at nic (begun nic.view it n)) ≡ owns_in b nic

@@ -8,7 +8,7 @@ use Rattle.zr_kinds.{specs.declared.{place.Place.{Place}, ring.Rqe.{Rqe}}, proof
 use Rattle.board_face.specs.Holders.{places_in, owed_in, returned_in, ended_in, returning_count, lowered_in_hand, returning_in_hand, making_places}
 use Rattle.board_face.specs.{Sides.{IsApp, side_in}, Laws.{AllSides, FitTogether}}
 use Rattle.board_face.specs.Steps.{side_begun, side_user_lowered, side_both_lowered, side_released, side_spare_begun, side_user_taken, side_owes_lowered}
-use Rattle.board_face.specs.{BoardSteps.{card, app}, Holdings.{Hold, own, piece, held, spare, owed, returning, buffer_of, here, weight, weigh, app_weight}}
+use Rattle.board_face.specs.{BoardSteps.{card, app}, Holdings.{Hold, own, piece, held, spare, owed, returning, buffer_of, here, weight_in, weigh, app_weight}}
 use Rattle.board_face.specs.BoardSteps as steps
 use Rattle.board_face.specs.FineSteps.{FineExchangeLaw, begins, completes, shuts, lowers_user, lowers_pool, releases, begins_spare, takes_users, lowers_owes, scrubs, side_text_done, with_app, with_card}
 use Rattle.board_face.specs.declared.views.{parts.Filling.{Filling}, nic.{Judged.{Judged, TheVariants.{Owed, UserLowered, BothLowered}}, EntryInHand.{EntryInHand}, PlacedText.{PlacedText}, NicSide.{NicSide}}}
@@ -30,7 +30,7 @@ here-sum b c m n = sum-case (c == b)
 
 -- holdings that all lie in one buffer
 one-buffer : (w : Hold → ℕ) (b c : ℕ) (k : Place → Hold) → ((p : Place) → buffer_of (k p) ≡ p.buffer) → (ps : List Place)
-    → All (λ p. p.buffer ≡ c) ps → weight w b (map k ps) ≡ here b c (total (λ p. w (k p)) ps)
+    → All (λ p. p.buffer ≡ c) ps → weight_in w b (map k ps) ≡ here b c (total (λ p. w (k p)) ps)
 one-buffer w b c k same [] all = sym (if-none (c == b) 0 refl)
 one-buffer w b c k same (p ∷ ps) all =
     let first : here b (buffer_of (k p)) (w (k p)) ≡ here b c (w (k p)) = ap (λ m. here b m (w (k p))) (same p ∙ All-head (λ q. q.buffer ≡ c) p ps all) in
@@ -46,7 +46,7 @@ in-buffer c (p ∷ ps) = kept (p.buffer == c) (eqb-true p.buffer c) (in-buffer c
 
 -- some of an application's loans that came back there
 some-weigh : (w : Hold → ℕ) (b c n : ℕ) (from : ℕ → ℕ) (k : ℕ → Place → Hold) → ((a : ℕ) (p : Place) → buffer_of (k a p) ≡ p.buffer) → (x : AppSide) (a : ℕ)
-    → x.view.app ≡ a → weight w b (map (k a) (take n (drop (from c) (returned_in c x))))
+    → x.view.app ≡ a → weight_in w b (map (k a) (take n (drop (from c) (returned_in c x))))
     ≡ here b c (total (λ p. w (k x.view.app p)) (take n (drop (from b) (returned_in b x))))
 some-weigh w b c n from k same x a number =
     let P : Place → Type 0 = λ p. p.buffer ≡ c in
@@ -185,17 +185,17 @@ fine-exchange (lowers_pool a entry c last) s can w b =
     omega (
       arith,
       pool-moves s a c entry can.0 can.1 w b last can.2,
-      ap (λ ps. weight w b (map (returning a) ps)) first,
+      ap (λ ps. weight_in w b (map (returning a) ps)) first,
       some-weigh w b c 1 (λ m. ended_in m s.nic x - returning_count m s.nic x) returning (λ _ p. refl) x a can.1.number,
     )
 fine-exchange (releases a p last) s can w b =
     let x = side_in s.apps a in
     app-moves s a x (side_released x p last) can.0 w b _ _
-    (omega (arith, app-exchange (steps.releases p) s.nic x can.1 w b, ap (λ n. weight w b (held n p ∷ [])) can.0.number))
+    (omega (arith, app-exchange (steps.releases p) s.nic x can.1 w b, ap (λ n. weight_in w b (held n p ∷ [])) can.0.number))
 fine-exchange (begins_spare a c) s can w b =
     let x = side_in s.apps a in
     app-moves s a x (side_spare_begun x c) can w b _ _
-    (omega (arith, app-exchange (steps.spares c) s.nic x tt w b, ap (λ n. weight w b (spare n (fresh x.view.setting c) 0 ∷ [])) can.number))
+    (omega (arith, app-exchange (steps.spares c) s.nic x tt w b, ap (λ n. weight_in w b (spare n (fresh x.view.setting c) 0 ∷ [])) can.number))
 fine-exchange (takes_users a c n) s can w b =
     let x = side_in s.apps a in
     let now = side_user_taken x c n in
@@ -221,7 +221,7 @@ fine-exchange (lowers_owes a c last) s can w b =
     (omega (
       arith,
       moved,
-      ap (λ ps. weight w b (map (returning a) ps)) (take-take k (returning_count c s.nic x) (drop (from c) (returned_in c x)) (omega arith)),
+      ap (λ ps. weight_in w b (map (returning a) ps)) (take-take k (returning_count c s.nic x) (drop (from c) (returned_in c x)) (omega arith)),
       some-weigh w b c k from returning (λ _ p. refl) x a can.0.number,
     ))
 fine-exchange (scrubs a all) s can w b =
@@ -233,7 +233,7 @@ fine-exchange (scrubs a all) s can w b =
     let h = ended_in b s.nic x in
     let idle = can.1.idle b in
     let none : drop (ended_in b s.nic now) ps ≡ [] = drop_all (ended_in b s.nic now) ps (omega (arith, can.1.took b, length-drop h ps)) in
-    let own : weight w b (map (owed a) (owed_in b s.nic x)) ≡ total f (owed_in b s.nic x) =
+    let own : weight_in w b (map (owed a) (owed_in b s.nic x)) ≡ total f (owed_in b s.nic x) =
     one-buffer w b b (owed a) (λ p. refl) (owed_in b s.nic x)
     (All-drop (λ p. p.buffer ≡ b) h ps (in-buffer b (map (λ l. l.place) x.view.returned)))
     ∙ ap (λ d. if d then total (λ p. w (owed a p)) (owed_in b s.nic x) else 0) (eqb_same b)

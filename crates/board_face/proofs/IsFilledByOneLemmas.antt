@@ -5,13 +5,13 @@ use Rattle.std.proofs.Common.{◌≡◌, ℕ, ◌+◌, ◌<◌, ◌≤◌, Bool,
 use Rattle.std.{specs.Prelude.{◌==◌, All, slice_index, Some, None}, proofs.lemmas.Bool.{eq-eqb, cases_lt, Decides.{eqb_tells}}}
 use Rattle.std.proofs.lemmas.List.Elements.{All-nil, All-cons, All-head, All-tail}
 use Rattle.zr_kinds.specs.declared.{place.{Place.{Place}, Note.{Note}}, ring.Rqe.{Rqe}}
-use Rattle.area_layout.specs.Layout.{total as all_buffers}
+use Rattle.area_layout.specs.Layout.{all_buffers}
 use Rattle.board_face.specs.NicEvents.{begun, text_done, took, swept, placed, sent, sent_linear, gave_up, shut, passed_over, honoured}
 use Rattle.board_face.specs.{AppEvents.{took_note, took_linear, cut, released, lent, abandoned, gave, got_spare, filled, lent_own}, NicCalls.{HasOwn, HasPiece}}
 use Rattle.board_face.specs.{AppCalls.{HasHeld, HasLoan, HasSpare}, Sides.{nic_at, app_at, IsApp, AreNumbered}, Holders.{sent_to, holders_of}}
 use Rattle.board_face.specs.{Counts.{pool_count, EndedWereReturned}, Fillings.{is_filling, IsFilledByOne}, declared.views.parts.{Filling.{Filling}, Making.{Making}}}
 use Rattle.board_face.specs.declared.views.{nic.{NicView.{NicView}, NicSide.{NicSide}}, app.{SpareOwn.{SpareOwn}, AppView.{AppView}, AppSide.{AppSide}}}
-use Rattle.board_face.proofs.{Tallies.{weight, tally, total, tally-le, total-set}, Parts.{owns_in, pieces_in, spares_in, app_count, owed_count, count-tally}}
+use Rattle.board_face.proofs.{Tallies.{one_if, tally, total, tally-le, total-set}, Parts.{owns_in, pieces_in, spares_in, app_count, owed_count, count-tally}}
 use Rattle.board_face.proofs.NicLemmas.{Owes, making_at, owns-without, pool_count-nic, pool_count-took, pool_count-placed, pool_count-shut, pool_count-sent}
 use Rattle.board_face.proofs.NicLemmas.{pool_count-sent_linear, pool_count-honoured, pool_count-passed_over, pool_count-begun, pool_count-text_done}
 use Rattle.board_face.proofs.AppLemmas.{SameHoldings, scrubbed_side, pool_count-app, app_count-same, app_count-took_note, app_count-took_linear}
@@ -25,7 +25,7 @@ inner-from : (b : ℕ) (P : Type 0) (xs : List SpareOwn) → (0 < tally (λ s. s
 inner-from b P [] if_some = All-nil (λ s. s.own.buffer ≡ b → P)
 inner-from b P (s ∷ xs) if_some =
     All-cons (λ s. s.own.buffer ≡ b → P) s xs
-    (λ e. if_some (omega (arith, ap weight (eq-eqb s.own.buffer b e))))
+    (λ e. if_some (omega (arith, ap one_if (eq-eqb s.own.buffer b e))))
     (inner-from b P xs (λ more. if_some (omega arith)))
 
 inner-to : (b : ℕ) (P : Type 0) (xs : List SpareOwn) → All (λ s. s.own.buffer ≡ b → P) xs → 0 < tally (λ s. s.own.buffer == b) xs → P
@@ -33,7 +33,7 @@ inner-to b P [] all more = absurd (omega arith)
 inner-to b P (s ∷ xs) all more =
     ⊎_elim
     (λ t. All-head (λ s. s.own.buffer ≡ b → P) s xs all t.1)
-    (λ t. inner-to b P xs (All-tail (λ s. s.own.buffer ≡ b → P) s xs all) (let none : weight (s.own.buffer == b) ≡ 0 = ap weight t.0 in omega arith))
+    (λ t. inner-to b P xs (All-tail (λ s. s.own.buffer ≡ b → P) s xs all) (let none : one_if (s.own.buffer == b) ≡ 0 = ap one_if t.0 in omega arith))
     (eqb_tells s.own.buffer b)
 
 outer-from : (b : ℕ) (P : Type 0) (apps : List AppSide) → (0 < total (spares_in b) apps → P)
@@ -119,18 +119,18 @@ module _ (b : ℕ) (nic : NicSide) (apps : List AppSide) where
       let held = fillings-held b nic apps in
       ⊎_elim
       (λ t.
-      let here : weight (buffer == b) ≡ 1 = ap weight t.0 in
+      let here : one_if (buffer == b) ≡ 1 = ap one_if t.0 in
       let none : pool_count b nic apps ≡ 0 = subst (λ c. pool_count c nic apps ≡ 0) t.1 free in
       IsFilledByOne-from b now apps (omega (arith, owns, here, none, held)) (λ more. absurd (omega (arith, none, held)))
       (λ past. absurd (let e = t.1 in omega arith)))
       (λ t.
-      let other : weight (buffer == b) ≡ 0 = ap weight t.0 in
+      let other : one_if (buffer == b) ≡ 0 = ap one_if t.0 in
       IsFilledByOne-fewer b nic now apps apps refl (omega (arith, owns, other)) (omega arith) (omega (arith, count, other)) sound)
       (eqb_tells buffer b)
 
   -- a buffer has one holder more, which the card fills
   more-held : (own : Filling) (now : NicSide) → HasOwn nic.view own → now.view.setting ≡ nic.view.setting → owns_in b now ≡ owns_in b nic
-      → pool_count b now apps ≡ pool_count b nic apps + weight (own.buffer == b) → CardStays b nic apps now
+      → pool_count b now apps ≡ pool_count b nic apps + one_if (own.buffer == b) → CardStays b nic apps now
   more-held own now out same owns count sound =
       let mine = owns-without b nic own out in
       let held = fillings-held b nic apps in
@@ -273,7 +273,7 @@ module _ (b : ℕ) (nic : NicSide) (apps : List AppSide) (a : ℕ) (app : AppSid
 
 -- a spare is given that nobody has
 pub one-spare : (b buffer : ℕ) (nic : NicSide) (apps : List AppSide) (a : ℕ) (app now : AppSide) → IsApp apps a app
-    → spares_in b now ≡ spares_in b app + weight (buffer == b) → app_count b nic now ≡ app_count b nic app + weight (buffer == b)
+    → spares_in b now ≡ spares_in b app + one_if (buffer == b) → app_count b nic now ≡ app_count b nic app + one_if (buffer == b)
     → buffer < all_buffers nic.view.setting.layout → pool_count buffer nic apps ≡ 0 → SideStays b nic apps a app now
 one-spare b buffer nic apps a app now here spares count within free sound =
     let all_spares = total-set (spares_in b) apps a app now here.there here.is in
@@ -281,11 +281,11 @@ one-spare b buffer nic apps a app now here spares count within free sound =
     let held = fillings-held b nic apps in
     ⊎_elim
     (λ t.
-    let one : weight (buffer == b) ≡ 1 = ap weight t.0 in
+    let one : one_if (buffer == b) ≡ 1 = ap one_if t.0 in
     let none : pool_count b nic apps ≡ 0 = subst (λ c. pool_count c nic apps ≡ 0) t.1 free in
     IsFilledByOne-from b nic (set apps a now) (omega arith) (λ _. omega arith) (λ past. absurd (let e = t.1 in omega arith)))
     (λ t.
-    let other : weight (buffer == b) ≡ 0 = ap weight t.0 in
+    let other : one_if (buffer == b) ≡ 0 = ap one_if t.0 in
     IsFilledByOne-app b nic apps a app now here (omega arith) (omega arith) sound)
     (eqb_tells buffer b)
 

@@ -2,10 +2,10 @@
 use Rattle.std.proofs.Common.{◌≡◌, ⊎_elim, ℕ, zero, suc, ◌+◌, ◌<◌, ◌≤◌, Bool, List, [], ◌∷◌, length, map, get_or, ap, arith}
 use Rattle.std.{specs.Prelude.{◌==◌, ◌&&◌, count_by, Contains}, proofs.lemmas.Bool.{cases_lt, lt-ltb, eq-eqb}}
 use Rattle.zr_kinds.specs.declared.place.Place.{Place}
-use Rattle.area_layout.specs.Layout.{total as all_buffers, size_of, LiesIn}
+use Rattle.area_layout.specs.Layout.{all_buffers, size_of, LiesIn}
 use Rattle.board_face.specs.{Lists.{same_place}, Sides.{IsApp}, AppCalls.{HasLoan}, Counts.{pool_count}, Places.{ArePlaced, places_of, is_empty, ends_behind}}
 use Rattle.board_face.specs.declared.views.{nic.NicSide.{NicSide}, app.{HeldPiece.{HeldPiece}, LentPiece.{LentPiece}, AppSide.{AppSide}}}
-use Rattle.board_face.proofs.{ListLemmas.{eqb_same, same_place-is, same_place-refl}, Tallies.{weight, tally, tally-without, total}}
+use Rattle.board_face.proofs.{ListLemmas.{eqb_same, same_place-is, same_place-refl}, Tallies.{one_if, tally, tally-without, total}}
 use Rattle.board_face.proofs.{Parts.{app_count, count-tally, pool_count-parts}, PlaceTallies.{in_buffer, app_places, places-parts}}
 
 -- ---- one among many
@@ -20,7 +20,7 @@ total-at f xs i v there is = omega (arith, total-of f xs i v there, ap f is)
 
 -- what a token shows meets a test as often as its element does
 pub helds-at : (v : List HeldPiece) (place : Place) (test : Place → Bool) → Contains (map (λ h. h.place) v) place
-    → weight (test place) ≤ tally (λ h. test h.place) v
+    → one_if (test place) ≤ tally (λ h. test h.place) v
 helds-at v place test out = omega (
   arith,
   tally-without (λ (h : HeldPiece). h.place) (same_place place) place (same_place-is place)
@@ -28,7 +28,7 @@ helds-at v place test out = omega (
 )
 
 pub loans-at : (v : List LentPiece) (place : Place) (test : Place → Bool) → Contains (map (λ l. l.place) v) place
-    → weight (test place) ≤ tally (λ l. test l.place) v
+    → one_if (test place) ≤ tally (λ l. test l.place) v
 loans-at v place test out = omega (
   arith,
   tally-without (λ (l : LentPiece). l.place) (same_place place) place (same_place-is place)
@@ -51,30 +51,30 @@ module _ (nic : NicSide) (apps : List AppSide) (a : ℕ) (x : AppSide) (here : I
         total-at (app_places p.buffer test nic) apps a x here.there here.is,
       )
 
-  in-own : (test : Place → Bool) → weight (in_buffer p.buffer test p) ≡ weight (test p)
-  in-own test = ap (λ c. weight (c && test p)) (eqb_same p.buffer)
+  in-own : (test : Place → Bool) → one_if (in_buffer p.buffer test p) ≡ one_if (test p)
+  in-own test = ap (λ c. one_if (c && test p)) (eqb_same p.buffer)
 
   -- where the place is one of its buffer's, it lies in the area and has a byte
   pub lies-by : 0 < app_count p.buffer nic x
-      → ((test : Place → Bool) → weight (in_buffer p.buffer test p) ≤ app_places p.buffer test nic x)
+      → ((test : Place → Bool) → one_if (in_buffer p.buffer test p) ≤ app_places p.buffer test nic x)
       → LiesIn nic.view.setting.layout p × (0 < p.len)
   lies-by held met =
       let size = size_of nic.view.setting.layout p.buffer in
-      let short : weight (ends_behind size p) ≡ 0 =
+      let short : one_if (ends_behind size p) ≡ 0 =
       omega (arith, met (ends_behind size), met-none (ends_behind size) placed.within, in-own (ends_behind size)) in
-      let full : weight (is_empty p) ≡ 0 = omega (arith, met is_empty, met-none is_empty placed.some_bytes, in-own is_empty) in (
+      let full : one_if (is_empty p) ≡ 0 = omega (arith, met is_empty, met-none is_empty placed.some_bytes, in-own is_empty) in (
         record {
           buffer = ⊎_elim (λ within. within) (λ past. absurd (omega (arith, part-le, inside past, held)))
               (cases_lt p.buffer (all_buffers nic.view.setting.layout));
-          bytes = ⊎_elim (λ behind. absurd (omega (arith, short, ap weight (lt-ltb size (p.offset + p.len) behind))))
+          bytes = ⊎_elim (λ behind. absurd (omega (arith, short, ap one_if (lt-ltb size (p.offset + p.len) behind))))
               (λ in_time. omega arith) (cases_lt size (p.offset + p.len));
         },
-        ⊎_elim (λ some. some) (λ none. absurd (let e : p.len ≡ 0 = omega arith in omega (arith, full, ap weight (eq-eqb p.len 0 e)))) (cases_lt 0 p.len),
+        ⊎_elim (λ some. some) (λ none. absurd (let e : p.len ≡ 0 = omega arith in omega (arith, full, ap one_if (eq-eqb p.len 0 e)))) (cases_lt 0 p.len),
       )
 
   -- a loan that is out
   pub loan-lies : HasLoan x.view p → LiesIn nic.view.setting.layout p × (0 < p.len)
   loan-lies out =
       lies-by
-      (omega (arith, loans-at x.view.loans p (λ q. q.buffer == p.buffer) out, ap weight (eqb_same p.buffer)))
+      (omega (arith, loans-at x.view.loans p (λ q. q.buffer == p.buffer) out, ap one_if (eqb_same p.buffer)))
       (λ test. omega (arith, loans-at x.view.loans p (in_buffer p.buffer test) out))

@@ -5,7 +5,7 @@ use Rattle.board_face.specs.declared.views.nic.NicLook.{NicLook, TheVariants.{Ri
 use Rattle.board_face.specs.declared.views.app.AppLook.{AppLook, TheVariants.{NoNote, CardEnded, RefillInUse, RawOnItsWay, NoneListed, NoSpare, NotQuiet}}
 use Rattle.board_face.specs.declared.views.{nic.NicView.{NicView}, app.AppView.{AppView}}
 use Rattle.board_face.specs.{Looks.{same_nic_look, same_app_look, times, NicRose, AppRose, NicLooksStay, NicTold, AppTold}, NicEvents.{nic_saw}, AppEvents.{app_saw}}
-use Rattle.board_face.proofs.{ListLemmas.{eqb_same}, Tallies.{weight}}
+use Rattle.board_face.proofs.{ListLemmas.{eqb_same}, Tallies.{one_if}}
 
 pub same_nic_look-refl : (look : NicLook) → same_nic_look look look ≡ true
 same_nic_look-refl (RingEmpty a) = eqb_same a
@@ -84,7 +84,7 @@ same_app_look-is x y e = absurd (let no : false ≡ true = e in cc)
 
 -- a look that isn't the one in front stands no more often than behind it
 times-other : {A : Type 0} (same : A → A → Bool) (x y : A) (ys : List A) → same x y ≡ false → times same x (y ∷ ys) ≡ times same x ys
-times-other same x y ys other = omega (arith, ap weight other)
+times-other same x y ys other = omega (arith, ap one_if other)
 
 pub NicTold-none : (is_so : NicLook → Type 0) (v w : NicView) → w.looks ≡ v.looks → NicTold is_so v w
 NicTold-none is_so v w same look rose = absurd (omega (arith, rose.rose, ap (times same_nic_look look) same))

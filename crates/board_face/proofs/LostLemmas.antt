@@ -3,25 +3,25 @@ use Rattle.std.proofs.Common.{◌≡◌, ℕ, zero, suc, ◌+◌, ◌<◌, ◌�
 use Rattle.std.{specs.{Prelude.{not, ◌&&◌, ◌||◌, ◌/◌, nat_eq, count_by}, List.{list_any}}, proofs.lemmas.Bool.{cases_Bool, not-true, or_parts, Decides.{eqb_tells}}}
 use Rattle.area_layout.specs.Layout.{pool_buffers}
 use Rattle.board_face.specs.{Lists.{count_below}, NicEvents.{word_bits}, NicCalls.{HasSweptAll, is_lost, lost_of}, Used.{used_buffers, UnusedAreCached}}
-use Rattle.board_face.{specs.declared.views.nic.NicView.{NicView}, proofs.{Tallies.{weight, weight-le}, ListLemmas.{not-eqb}, Counting.{count-first}}}
+use Rattle.board_face.{specs.declared.views.nic.NicView.{NicView}, proofs.{Tallies.{one_if, one_if-le}, ListLemmas.{not-eqb}, Counting.{count-first}}}
 
 -- ---- how many numbers below n stand in a list
 
 below-first : (x n : ℕ) → n ≤ x → count_below (λ b. nat_eq b x) n ≡ 0
 below-first x zero small = refl
 below-first x (suc n) small =
-    let none : weight (nat_eq n x) ≡ 0 = ap weight (not-eqb n x (λ e. absurd (omega arith))) in
+    let none : one_if (nat_eq n x) ≡ 0 = ap one_if (not-eqb n x (λ e. absurd (omega arith))) in
     omega (arith, none, below-first x n (omega arith))
 
 below-one : (x n : ℕ) → count_below (λ b. nat_eq b x) n ≤ 1
 below-one x zero = omega arith
 below-one x (suc n) =
     ⊎_elim
-    (λ t. let e : n ≡ x = t.1 in omega (arith, weight-le (nat_eq n x), below-first x n (omega arith)))
-    (λ t. let none : weight (nat_eq n x) ≡ 0 = ap weight t.0 in omega (arith, below-one x n))
+    (λ t. let e : n ≡ x = t.1 in omega (arith, one_if-le (nat_eq n x), below-first x n (omega arith)))
+    (λ t. let none : one_if (nat_eq n x) ≡ 0 = ap one_if t.0 in omega (arith, below-one x n))
     (eqb_tells n x)
 
-weight-or : (c d : Bool) → weight (c || d) ≤ weight c + weight d
+weight-or : (c d : Bool) → one_if (c || d) ≤ one_if c + one_if d
 weight-or true d = omega arith
 weight-or false d = omega arith
 
@@ -43,9 +43,9 @@ pub none-counted : (b : ℕ) (xs : List ℕ) → list_any (nat_eq b) xs ≡ fals
 none-counted b [] none = refl
 none-counted b (x ∷ xs) none =
     let both = or_parts (nat_eq b x) (list_any (nat_eq b) xs) none in
-    omega (arith, count-first (nat_eq b) x xs, ap weight both.0, none-counted b xs both.1)
+    omega (arith, count-first (nat_eq b) x xs, ap one_if both.0, none-counted b xs both.1)
 
-some-case : (c d : Bool) (n : ℕ) → (d ≡ true → 1 ≤ n) → (c || d) ≡ true → 1 ≤ weight c + n
+some-case : (c d : Bool) (n : ℕ) → (d ≡ true → 1 ≤ n) → (c || d) ≡ true → 1 ≤ one_if c + n
 some-case true d n rest any = omega arith
 some-case false d n rest any = omega (arith, rest any)
 
@@ -59,7 +59,7 @@ some-counted b (x ∷ xs) any = omega (
 
 -- ---- buffers
 
-some-of-three : (c d : Bool) → 1 ≤ weight (not c && not d) + (weight c + weight d)
+some-of-three : (c d : Bool) → 1 ≤ one_if (not c && not d) + (one_if c + one_if d)
 some-of-three true d = omega arith
 some-of-three false true = omega arith
 some-of-three false false = omega arith
@@ -71,7 +71,7 @@ each-somewhere v swept (suc n) within =
     let c = list_any (nat_eq n) v.cache in
     let u = list_any (nat_eq n) v.used in
     let word : list_any (nat_eq (n / word_bits)) v.swept ≡ true = swept (n / word_bits) (omega arith) in
-    let lost : weight (is_lost v n) ≡ weight (not c && not u) = ap (λ s. weight (s && not c && not u)) word in
+    let lost : one_if (is_lost v n) ≡ one_if (not c && not u) = ap (λ s. one_if (s && not c && not u)) word in
     omega (arith, lost, some-of-three c u, each-somewhere v swept n (omega arith))
 
 -- Where every word of the free list was swept, the pool's buffers are at most as many as those that are cached, the
@@ -88,8 +88,8 @@ below-fewer p q zero each = omega arith
 below-fewer p q (suc n) each =
     omega (arith, weight-fewer (p n) (q n) (each n (omega arith)), below-fewer p q n (λ b less. each b (omega (arith, less))))
   where
-    weight-fewer : (c d : Bool) → (c ≡ true → d ≡ true) → weight c ≤ weight d
-    weight-fewer true d e = let one : weight d ≡ 1 = ap weight (e refl) in omega arith
+    weight-fewer : (c d : Bool) → (c ≡ true → d ≡ true) → one_if c ≤ one_if d
+    weight-fewer true d e = let one : one_if d ≡ 1 = ap one_if (e refl) in omega arith
     weight-fewer false d e = omega arith
 
 -- Where each lost buffer is among these picks, no more are lost than these.

@@ -7,7 +7,7 @@ use Rattle.board_face.specs.{Tokens.{next_place}, NicEvents.{begun, sent, sent_l
 use Rattle.board_face.specs.{NicCalls.{HasOwn, HasPiece}, AppCalls.{HasHeld, HasSpare, IsFilled}, Sides.{nic_at, app_at, IsApp, AreNumbered}}
 use Rattle.board_face.specs.{Holders.{sent_to, ended_in, returning_count}, Fillings.{IsFilledByOne}, Places.{places_of, ends_behind, ArePlaced, IsMadeLast}}
 use Rattle.board_face.specs.declared.views.{parts.{Filling.{Filling}, Making.{Making}}, nic.{NicView.{NicView}, NicSide.{NicSide}}, app.AppSide.{AppSide}}
-use Rattle.board_face.proofs.{Tallies.{weight, tally}, ListLemmas.{eqb_same, not-eqb}, Parts.{making_in, pool_count-parts, count-tally}, NicLemmas.{making_at}}
+use Rattle.board_face.proofs.{Tallies.{one_if, tally}, ListLemmas.{eqb_same, not-eqb}, Parts.{making_in, pool_count-parts, count-tally}, NicLemmas.{making_at}}
 use Rattle.board_face.proofs.{PlaceTallies.{in_buffer, piece_places, app_places}, PlacesByEvent.{places-nic, places-begun, places-sent, places-sent_linear}}
 use Rattle.board_face.proofs.PlacesByEvent.{places-app, app_places-cut, app_places-released, app_places-filled, app_places-lent_own, places-stretch}
 use Rattle.board_face.proofs.ArePlacedLemmas.{IsBehind, right-weight, none-later, in-none, in-other, not-behind, less_spare, spare-free, front-ends, rest-ends}
@@ -39,7 +39,7 @@ IsMadeLast-nic nic v apps pieces sents deals is =
     IsMadeLast-fewer nic (nic_at nic v) apps apps refl (λ b test. omega (arith, same b test, places-nic b test nic v apps sents deals)) is
 
 -- a place doesn't end behind its own end
-ends-itself : (b : ℕ) (p : Place) → weight (in_buffer b (ends_behind (p.offset + p.len)) p) ≡ 0
+ends-itself : (b : ℕ) (p : Place) → one_if (in_buffer b (ends_behind (p.offset + p.len)) p) ≡ 0
 ends-itself b p = in-none b (ends_behind (p.offset + p.len)) p (not-behind (p.offset + p.len) p (omega arith))
 
 -- A piece is begun where the card fills its buffer next, behind all that lies there.
@@ -146,11 +146,11 @@ IsMadeLast-filled nic apps a app own bytes here out by_one is = record {
       let b = making.place.buffer in
       let x = making.place.offset + making.place.len in
       let now = app_at app (filled app.view own bytes) in
-      let made : making_in b nic ≡ 1 = rw busy (omega (arith, ap weight (eqb_same b))) in
+      let made : making_in b nic ≡ 1 = rw busy (omega (arith, ap one_if (eqb_same b))) in
       let other : own.buffer ≡ b → ⊥ = λ e.
       let free = spare-free b nic apps a app own here out (by_one b) e in
       omega (arith, free, made, pool_count-parts b nic (set apps a (less_spare app own))) in
-      let apart : weight (in_buffer b (ends_behind x) (begin_place own.buffer (length bytes))) ≡ 0 =
+      let apart : one_if (in_buffer b (ends_behind x) (begin_place own.buffer (length bytes))) ≡ 0 =
       in-other b (ends_behind x) (begin_place own.buffer (length bytes)) (not-eqb own.buffer b other) in
       omega (
         arith,

@@ -5,7 +5,7 @@ use Rattle.zr_kinds.specs.declared.place.{Place.{Place}, Note.{Note}}
 use Rattle.area_layout.specs.Layout.{LiesIn, pool_buffers}
 use Rattle.board_face.specs.{Sides.{IsApp}, Holders.{sent_to, on_way}, Counts.{pool_count}, Places.{ArePlaced, places_of, has_byte, is_empty}, Fillings.{IsFilledByOne}}
 use Rattle.board_face.specs.{OwnBuffers.{CardLiesInPool}, AppCalls.{IsNewPlace}, declared.views.{nic.{SentNote.{SentNote}, NicSide.{NicSide}}, app.AppSide.{AppSide}}}
-use Rattle.board_face.proofs.{ListLemmas.{eqb_same}, Tallies.{weight, tally}, Parts.{app_count, spares_in, pool_count-parts, count-tally}}
+use Rattle.board_face.proofs.{ListLemmas.{eqb_same}, Tallies.{one_if, tally}, Parts.{app_count, spares_in, pool_count-parts, count-tally}}
 use Rattle.board_face.proofs.{PlaceTallies.{in_buffer, app_places, held_places, loan_places, places-parts, first-of, All-some}, IsFilledByOneLemmas.{fillings-alone}}
 use Rattle.board_face.{proofs.{ApartLemmas.{AreApart-all}, LiesLemmas.{total-at, lies-by}, Counting.{All-none}}, specs.Laws.{IsNextNote}}
 
@@ -14,14 +14,14 @@ module _ (nic : NicSide) (apps : List AppSide) (a : ℕ) (app : AppSide) (here :
   theirs : next.next.note.split ≡ true
   theirs = ap (λ (n : Note). n.split) next.same ∙ split
 
-  first-in : (f : Place → Bool) → weight (f note.place)
+  first-in : (f : Place → Bool) → one_if (f note.place)
       ≤ tally (λ (t : SentNote). f t.note.place) (filter (λ (t : SentNote). t.note.split) (on_way nic app))
   first-in f =
       omega (
         arith,
         ap (λ way. tally (λ (t : SentNote). f t.note.place) (filter (λ (t : SentNote). t.note.split) way)) next.way,
         first-of f next.next.note.split next.next (filter (λ (t : SentNote). t.note.split) next.rest) theirs,
-        ap (λ (n : Note). weight (f n.place)) next.same,
+        ap (λ (n : Note). one_if (f n.place)) next.same,
       )
 
   -- it lies in a buffer of the pool
@@ -37,11 +37,11 @@ module _ (nic : NicSide) (apps : List AppSide) (a : ℕ) (app : AppSide) (here :
     pub new-lies : LiesIn nic.view.setting.layout note.place × (0 < note.place.len)
     new-lies =
         lies-by nic apps a app here note.place (placed note.place.buffer) (by_one note.place.buffer).inside
-        (omega (arith, first-in (λ p. p.buffer == note.place.buffer), ap weight (eqb_same note.place.buffer)))
+        (omega (arith, first-in (λ p. p.buffer == note.place.buffer), ap one_if (eqb_same note.place.buffer)))
         (λ test. omega (arith, first-in (in_buffer note.place.buffer test)))
 
     places-first : (c : ℕ) (test : Place → Bool)
-        → weight (in_buffer c test note.place) + held_places c test app + loan_places c test app ≤ count_by test (places_of c nic apps)
+        → one_if (in_buffer c test note.place) + held_places c test app + loan_places c test app ≤ count_by test (places_of c nic apps)
     places-first c test =
         omega (
           arith,
@@ -51,7 +51,7 @@ module _ (nic : NicSide) (apps : List AppSide) (a : ℕ) (app : AppSide) (here :
           first-in (in_buffer c test),
         )
 
-    holders-first : (c : ℕ) → weight (note.place.buffer == c) + spares_in c app ≤ pool_count c nic apps
+    holders-first : (c : ℕ) → one_if (note.place.buffer == c) + spares_in c app ≤ pool_count c nic apps
     holders-first c =
         omega (
           arith,
@@ -78,7 +78,7 @@ module _ (nic : NicSide) (apps : List AppSide) (a : ℕ) (app : AppSide) (here :
           spares = All-none (λ s. s.own.buffer) c app.view.owns (⊎_elim
               (λ some. absurd (
               let alone = fillings-alone c nic apps (by_one c) (omega (arith, total-at (spares_in c) apps a app here.there here.is)) in
-              omega (arith, alone, holders-first c, ap weight (eqb_same c))))
+              omega (arith, alone, holders-first c, ap one_if (eqb_same c))))
               (λ none. omega arith)
               (cases_lt 0 (spares_in c app)));
         }

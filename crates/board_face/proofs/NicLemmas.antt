@@ -1,8 +1,8 @@
 -- What each event of the card does to the counts of every buffer.
-use Rattle.board_face.specs.Lists.{weight as one}
+use Rattle.board_face.specs.Lists.{one_if as one}
 use Rattle.std.proofs.Common.{◌∷◌, [], drop, take, length-drop, ◌≡◌, ℕ, ◌+◌, ◌-◌, ◌<◌, ◌≤◌, min, Bool, true, false, List}
 use Rattle.zr_kinds.{specs.declared.{place.{Place.{Place}, Note.{Note}}, ring.Rqe.{Rqe}}, proofs.Booleans.{if-none}}
-use Rattle.board_face.specs.{Holders.{returned_in, owed_in}, Counts.{is_user}, Holdings.{used}}
+use Rattle.board_face.specs.{Holders.{returned_in, owed_in}, Counts.{is_user_kind}, Holdings.{used}}
 use Rattle.board_face.{proofs.{CardExchange.{honoured-exchange, here-same}, Weighing.{kinds-counted}, Sums.{zeros}, Counted.{user-here}}, specs.Steps.{side_begun}}
 use Rattle.board_face.{specs.{FineSteps.{begins, completes}, BoardSteps.{card, takes, sweeps, places, shuts, strays}}, proofs.Counted.{fine-counts}}
 use Rattle.board_face.proofs.{CardExchange.{sides, sent-exchange, linear-exchange}, Weighing.{pool-weigh}, Counted.{counts}}
@@ -12,7 +12,7 @@ use Rattle.board_face.specs.NicEvents.{begun, text_done, took, swept, placed, se
 use Rattle.board_face.specs.{NicCalls.{HasOwn, HasPiece}, Sides.{nic_at, IsApp, AreNumbered}, Holders.{sent_to, ended_in, returning_count}}
 use Rattle.board_face.specs.{Counts.{pool_count, user_count, EndedWereReturned}, declared.views.{parts.{Filling.{Filling}, Making.{Making}}}}
 use Rattle.board_face.specs.declared.views.{nic.{NicView.{NicView}, NicSide.{NicSide}}, app.{AppInside.{AppInside}, AppSide.{AppSide}}}
-use Rattle.board_face.proofs.{ListLemmas.{same_filling-refl, same_filling-is}, Tallies.{weight, tally, total, tally-without}}
+use Rattle.board_face.proofs.{ListLemmas.{same_filling-refl, same_filling-is}, Tallies.{one_if, tally, total, tally-without}}
 use Rattle.board_face.proofs.Parts.{returned_in-count, sent_in, returning_in_count, nic_count, app_count, user_part}
 pub use Rattle.board_face.proofs.WayLemmas.{drop-push, sent_to-other, sent_to-same, ended_in-push, ended_in-honoured, honoured-other, honoured-target, ended_in-passed_over}
 use Rattle.board_face.proofs.{Parts.{came_back_in, owed_count, pool_count-parts, user_count-parts, total-shift}}
@@ -33,11 +33,11 @@ user_count-nic a b nic v apps deals =
 
 -- a taken buffer has one holder more
 pub pool_count-took : (b : ℕ) (nic : NicSide) (apps : List AppSide) (buffer : ℕ)
-    → pool_count b (nic_at nic (took nic.view buffer)) apps ≡ pool_count b nic apps + weight (buffer == b)
+    → pool_count b (nic_at nic (took nic.view buffer)) apps ≡ pool_count b nic apps + one_if (buffer == b)
 pool_count-took b nic apps buffer = let now = counts (card (takes buffer)) (sides nic apps) tt in omega (arith, now.pool b)
 
 pub owns-without : (b : ℕ) (nic : NicSide) (own : Filling) → HasOwn nic.view own
-    → tally (λ (o : Filling). o.buffer == b) (without (same_filling own) nic.view.owns) + weight (own.buffer == b)
+    → tally (λ (o : Filling). o.buffer == b) (without (same_filling own) nic.view.owns) + one_if (own.buffer == b)
     ≡ tally (λ (o : Filling). o.buffer == b) nic.view.owns
 owns-without b nic own out =
     tally-without (λ o. o) (same_filling own) own (same_filling-is own) (same_filling-refl own) (λ o. o.buffer == b) nic.view.owns
@@ -45,7 +45,7 @@ owns-without b nic own out =
 
 -- and so has a buffer in which a piece was placed
 pub pool_count-placed : (b : ℕ) (nic : NicSide) (apps : List AppSide) (own : Filling) (bytes : List ℕ) → HasOwn nic.view own
-    → pool_count b (nic_at nic (placed nic.view own bytes)) apps ≡ pool_count b nic apps + weight (own.buffer == b)
+    → pool_count b (nic_at nic (placed nic.view own bytes)) apps ≡ pool_count b nic apps + one_if (own.buffer == b)
 pool_count-placed b nic apps own bytes out = let now = counts (card (places own bytes)) (sides nic apps) out in omega (arith, now.pool b)
 
 -- a sweep, and a buffer that comes to be free, change no count
@@ -59,7 +59,7 @@ pool_count-gave_up b nic apps buffer last = omega (arith, pool_count-nic b nic (
 
 -- a closed buffer has one holder less
 pub pool_count-shut : (b : ℕ) (nic : NicSide) (apps : List AppSide) (own : Filling) (last : Bool) → HasOwn nic.view own
-    → pool_count b (nic_at nic (shut nic.view own last)) apps + weight (own.buffer == b) ≡ pool_count b nic apps
+    → pool_count b (nic_at nic (shut nic.view own last)) apps + one_if (own.buffer == b) ≡ pool_count b nic apps
 pool_count-shut b nic apps own last out = let now = counts (card (shuts own last)) (sides nic apps) out in omega (arith, now.pool b)
 
 -- ---- sending
@@ -102,7 +102,7 @@ first-of v (p ∷ ps) some = omega arith
 -- an entry that is honoured takes one holder of its buffer
 pub pool_count-honoured : (b : ℕ) (nic : NicSide) (apps : List AppSide) (a buffer : ℕ) (entry : Rqe) (app : AppSide) → AreNumbered 0 apps
     → IsApp apps a app → Owes buffer nic app
-    → pool_count b (nic_at nic (honoured nic.view a entry buffer)) apps + weight (buffer == b) ≡ pool_count b nic apps
+    → pool_count b (nic_at nic (honoured nic.view a entry buffer)) apps + one_if (buffer == b) ≡ pool_count b nic apps
 pool_count-honoured b nic apps a buffer entry app numbered here owes =
     let L = drop (ended_in b nic app - returning_count b nic app) (returned_in b app) in
     omega (
@@ -117,13 +117,13 @@ pool_count-honoured b nic apps a buffer entry app numbered here owes =
 -- and one user of this application there
 pub user_count-honoured : (x b : ℕ) (nic : NicSide) (apps : List AppSide) (a buffer : ℕ) (entry : Rqe) (app : AppSide) → AreNumbered 0 apps
     → IsApp apps a app → Owes buffer nic app
-    → user_count x b (nic_at nic (honoured nic.view a entry buffer)) apps + weight ((a == x) && (buffer == b)) ≡ user_count x b nic apps
+    → user_count x b (nic_at nic (honoured nic.view a entry buffer)) apps + one_if ((a == x) && (buffer == b)) ≡ user_count x b nic apps
 user_count-honoured x b nic apps a buffer entry app numbered here owes =
     let one_user = one (app.view.app == x) in
     omega (
       arith,
-      kinds-counted (is_user x) b (sides nic apps),
-      kinds-counted (is_user x) b (sides (nic_at nic (honoured nic.view a entry buffer)) apps),
+      kinds-counted (is_user_kind x) b (sides nic apps),
+      kinds-counted (is_user_kind x) b (sides (nic_at nic (honoured nic.view a entry buffer)) apps),
       honoured-exchange nic apps a buffer entry app numbered here owes.returning (used x) b,
       here-same b buffer _ one_user (λ e. let there : Owes b nic app = subst (λ c. Owes c nic app) e owes in
           let o = there.owes in first-of one_user (owed_in b nic app) (omega (arith, length-drop (ended_in b nic app) (returned_in b app), returned_in-count b app))),
@@ -131,7 +131,7 @@ user_count-honoured x b nic apps a buffer entry app numbered here owes =
       here-same b buffer _ 0 (λ _. zeros (take 1 (drop (ended_in b nic app - returning_count b nic app) (returned_in b app)))),
       if-none (buffer == b) 0 refl,
       user-here app.view.app x buffer b,
-      ap (λ n. weight ((n == x) && (buffer == b))) here.number,
+      ap (λ n. one_if ((n == x) && (buffer == b))) here.number,
     )
 
 -- ---- strays
@@ -155,7 +155,7 @@ making_at nic view making = record { view = view; inside = record nic.inside { m
 pub pool_count-begun : (b : ℕ) (nic : NicSide) (apps : List AppSide) (own : Filling) (n : ℕ) (bytes : List ℕ) → HasOwn nic.view own
     → nic.inside.making ≡ None
     → pool_count b (making_at nic (begun nic.view own n) (Some (record { place = next_place own n; bytes = bytes }))) apps
-    ≡ pool_count b nic apps + weight (own.buffer == b)
+    ≡ pool_count b nic apps + one_if (own.buffer == b)
 pool_count-begun b nic apps own n bytes out idle =
     let now = making_at nic (begun nic.view own n) (Some (record { place = next_place own n; bytes = bytes })) in
     let same : pool_count b now apps ≡ pool_count b (side_begun nic own n) apps = refl in

@@ -1,5 +1,5 @@
 -- The counts of a buffer as sums of numbers, one for each kind of holding.
-use Rattle.board_face.specs.Lists.{weight as one}
+use Rattle.board_face.specs.Lists.{one_if as one}
 use Rattle.zr_kinds.specs.declared.place.Place.{Place}
 use Rattle.board_face.specs.{Holdings.{here, used, app_weight}, declared.views.{parts.Filling.{Filling}, nic.PlacedText.{PlacedText}}}
 use Rattle.board_face.specs.declared.views.app.{HeldPiece.{HeldPiece}, LentPiece.{LentPiece}, SpareOwn.{SpareOwn}}
@@ -9,7 +9,7 @@ use Rattle.std.proofs.Common.{◌≡◌, ℕ, zero, suc, ◌+◌, ◌-◌, ◌<�
 use Rattle.std.{proofs.Common.{refl, ap, ◌∙◌, arith, length-append, length-drop, length-take}, specs.Prelude.{if◌then◌else◌, ◌≢◌, filter, ◌==◌}}
 use Rattle.std.{specs.List.{flat_map}, proofs.lemmas.{List.{length-map}, Bool.{eq-eqb, ne_eqb}}}
 use Rattle.board_face.specs.Holders.{on_way, returned_in, ended_in, returning_count, owed_in, returning_in, making_places, nic_holders, app_holders}
-use Rattle.board_face.specs.{Counts.{pool_count, is_user, user_count}, declared.views.{nic.{SentNote.{SentNote}, NicSide.{NicSide}}, app.AppSide.{AppSide}}}
+use Rattle.board_face.specs.{Counts.{pool_count, is_user_kind, user_count}, declared.views.{nic.{SentNote.{SentNote}, NicSide.{NicSide}}, app.AppSide.{AppSide}}}
 use Rattle.board_face.proofs.Tallies.{tally, total, tally-append, length-tally, tally-map, length-flat, total-agree}
 
 -- ---- the numbers
@@ -106,7 +106,7 @@ pub user_count-parts : (a b : ℕ) (nic : NicSide) (apps : List AppSide) → use
 user_count-parts a b nic apps =
     omega (
       arith,
-      kinds-counted (is_user a) b (sides nic apps),
+      kinds-counted (is_user_kind a) b (sides nic apps),
       none (λ (o : Filling). o.buffer) b nic.view.owns,
       none (λ (p : PlacedText). p.place.buffer) b nic.view.pieces,
       none (λ (p : Place). p.buffer) b (making_places nic.inside.making),

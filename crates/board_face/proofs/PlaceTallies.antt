@@ -9,7 +9,7 @@ use Rattle.std.proofs.lemmas.Bool.{eq-eqb, cases_lt}
 use Rattle.zr_kinds.specs.declared.place.Place.{Place}
 use Rattle.board_face.specs.{Holders.{making_places, holders_of}, Places.{kind_place, filled_places, places_of, is_empty}}
 use Rattle.board_face.specs.declared.views.{nic.NicSide.{NicSide}, app.AppSide.{AppSide}}
-use Rattle.board_face.proofs.{Tallies.{weight, tally, total, tally-append, tally-map, tally-flat, total-agree}}
+use Rattle.board_face.proofs.{Tallies.{one_if, tally, total, tally-append, tally-map, tally-flat, total-agree}}
 use Rattle.board_face.{specs.declared.views.nic.SentNote.{SentNote}, proofs.ListLemmas.{eqb_same}}
 
 -- a place in the buffer that meets the test
@@ -41,7 +41,7 @@ app_places b test nic app =
 -- ---- the places are as many
 
 filter-case : {A : Type 0} (q : A → Bool) (c : Bool) (x : A) (ys : List A) (n : ℕ) → tally q ys ≡ n
-    → tally q (cond c (x ∷ ys) ys) ≡ weight (c && q x) + n
+    → tally q (cond c (x ∷ ys) ys) ≡ one_if (c && q x) + n
 filter-case q true x ys n e = omega (arith, e)
 filter-case q false x ys n e = omega (arith, e)
 
@@ -55,7 +55,7 @@ tally-filter p q (x ∷ xs) = filter-case q (p x) x (filter p xs) _ (tally-filte
 abbrev pub placed : (Place → Bool) → Hold → ℕ
 placed test h = tally test (hold_place h)
 
-pub in-case : (c d : Bool) → weight (c && d) ≡ (if c then weight d + 0 else 0)
+pub in-case : (c d : Bool) → one_if (c && d) ≡ (if c then one_if d + 0 else 0)
 in-case true d = omega arith
 in-case false d = refl
 
@@ -68,7 +68,7 @@ in-all : (test : Place → Bool) (ps : List Place) → tally test ps ≡ total (
 in-all test [] = refl
 in-all test (p ∷ ps) = omega (arith, in-all test ps)
 
-pub spare-case : (test : Place → Bool) (c d : Bool) (p : Place) → weight (c && (d && test p)) ≡ (if d then tally test (if c then p ∷ [] else []) else 0)
+pub spare-case : (test : Place → Bool) (c d : Bool) (p : Place) → one_if (c && (d && test p)) ≡ (if d then tally test (if c then p ∷ [] else []) else 0)
 spare-case test true true p = omega arith
 spare-case test true false p = refl
 spare-case test false true p = refl
@@ -144,7 +144,7 @@ places-parts b test nic apps =
 -- ---- one among many
 
 pub first-of : (f : Place → Bool) (c : Bool) (s : SentNote) (rest : List SentNote) → c ≡ true
-    → tally (λ (t : SentNote). f t.note.place) (if c then s ∷ rest else rest) ≡ weight (f s.note.place) + tally (λ (t : SentNote). f t.note.place) rest
+    → tally (λ (t : SentNote). f t.note.place) (if c then s ∷ rest else rest) ≡ one_if (f s.note.place) + tally (λ (t : SentNote). f t.note.place) rest
 first-of f true s rest is = refl
 first-of f false s rest is = absurd (let none : ⊥ = cc in none)
 
@@ -160,6 +160,6 @@ All-some f (y ∷ ys) none =
     (⊎_elim
     (λ some. some)
     (λ empty. let e : (f y).len ≡ 0 = omega arith in absurd
-    (omega (arith, none (f y).buffer, ap weight (in-own is_empty (f y)), ap weight (eq-eqb (f y).len 0 e))))
+    (omega (arith, none (f y).buffer, ap one_if (in-own is_empty (f y)), ap one_if (eq-eqb (f y).len 0 e))))
     (cases_lt 0 (f y).len))
     (All-some f ys (λ b. omega (arith, none b)))

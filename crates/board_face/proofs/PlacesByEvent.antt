@@ -3,7 +3,7 @@
 use Rattle.zr_kinds.{specs.declared.{place.{Place.{Place}, Note.{Note}}, ring.Rqe.{Rqe}}}
 use Rattle.std.{proofs.lemmas.List.{drop-drop}, specs.Prelude.{if◌then◌else◌}}
 use Rattle.board_face.specs.{AppCalls.{HasSpare}, BoardSteps.{AppStep, AppCan, app_view, strays, polls, polls_linear, cuts, releases, fills, lends_own}}
-use Rattle.board_face.specs.Holdings.{here, app_ends, app_begins, weight as weights}
+use Rattle.board_face.specs.Holdings.{here, app_ends, app_begins, weight_in as weights}
 use Rattle.board_face.proofs.{AppExchange.{app-exchange, back-exchange}, CardExchange.{sides, sent-exchange, linear-exchange, card-exchange}, PlaceTallies.{placed as placed_test, in-case, spare-case, app-placed, places-weigh}}
 use Rattle.std.proofs.Common.{◌≡◌, ℕ, zero, suc, ◌+◌, ◌-◌, ◌≤◌, Bool, true, false, List, [], ◌∷◌, length, map, take, drop, set, refl, ap, ◌∙◌, arith, zero-add}
 use Rattle.std.{specs.Prelude.{◌==◌, ◌&&◌, nat_lt, slice_index, Contains, Some, None}, proofs.lemmas.List.{take-append-drop}}
@@ -15,7 +15,7 @@ use Rattle.board_face.specs.{Sides.{nic_at, app_at, IsApp, AreNumbered}, Holders
 use Rattle.board_face.specs.{Counts.{EndedWereReturned}, Places.{places_of}, declared.views.{parts.{Filling.{Filling}, Making.{Making}}, nic.PlacedText.{PlacedText}}}
 use Rattle.board_face.specs.declared.views.nic.{NicView.{NicView}, NicSide.{NicSide}}
 use Rattle.board_face.{specs.declared.views.app.{SpareOwn.{SpareOwn}, AppInside.{AppInside}, AppSide.{AppSide}}, proofs.ListLemmas.{same_filling-is}}
-use Rattle.board_face.proofs.{Tallies.{total-le, weight, tally, total, tally-append, tally-push, total-set}, NicLemmas.{making_at, ended_in-honoured}}
+use Rattle.board_face.proofs.{Tallies.{total-le, one_if, tally, total, tally-append, tally-push, total-set}, NicLemmas.{making_at, ended_in-honoured}}
 use Rattle.board_face.{proofs.{AppLemmas.{scrubbed_side}, PlaceTallies.{in_buffer, piece_places, way_places, app_places, places-parts}}, specs.Laws.{IsNextNote}}
 
 -- ---- the card's events that send nothing and deal with nothing
@@ -30,7 +30,7 @@ places-nic b test nic v apps sents deals =
 -- a piece that is placed brings its place
 pub places-placed : (b : ℕ) (test : Place → Bool) (nic : NicSide) (apps : List AppSide) (own : Filling) (bytes : List ℕ)
     → tally test (places_of b (nic_at nic (placed nic.view own bytes)) apps)
-    ≡ tally test (places_of b nic apps) + weight (in_buffer b test (next_place own (length bytes)))
+    ≡ tally test (places_of b nic apps) + one_if (in_buffer b test (next_place own (length bytes)))
 places-placed b test nic apps own bytes =
     omega (
       arith,
@@ -115,15 +115,15 @@ app_places-took_linear b test nic app note bytes next split = omega (arith, app_
 
 -- a cut piece's place becomes two
 pub app_places-cut : (b : ℕ) (test : Place → Bool) (nic : NicSide) (app : AppSide) (place : Place) (at : ℕ) → HasHeld app.view place
-    → app_places b test nic (app_at app (cut app.view place at)) + weight (in_buffer b test place)
-    ≡ app_places b test nic app + (weight (in_buffer b test (front_place place at)) + weight (in_buffer b test (rest_place place at)))
+    → app_places b test nic (app_at app (cut app.view place at)) + one_if (in_buffer b test place)
+    ≡ app_places b test nic app + (one_if (in_buffer b test (front_place place at)) + one_if (in_buffer b test (rest_place place at)))
 app_places-cut b test nic app place at out =
-    let in_place : (p : Place) → weight (in_buffer b test p) ≡ here b p.buffer (tally test (p ∷ [])) = λ p. in-case (p.buffer == b) (test p) in
+    let in_place : (p : Place) → one_if (in_buffer b test p) ≡ here b p.buffer (tally test (p ∷ [])) = λ p. in-case (p.buffer == b) (test p) in
     omega (arith, app_places-then (cuts place at) b test nic app out, in_place place, in_place (front_place place at), in_place (rest_place place at))
 
 -- a released piece takes its place along
 pub app_places-released : (b : ℕ) (test : Place → Bool) (nic : NicSide) (app : AppSide) (place : Place) → HasHeld app.view place
-    → app_places b test nic (app_at app (released app.view place)) + weight (in_buffer b test place) ≡ app_places b test nic app
+    → app_places b test nic (app_at app (released app.view place)) + one_if (in_buffer b test place) ≡ app_places b test nic app
 app_places-released b test nic app place out = omega (arith, app_places-then (releases place) b test nic app out, in-case (place.buffer == b) (test place))
 
 -- ---- loans that come back
@@ -143,7 +143,7 @@ app_places-abandoned b test nic app place out sound =
 
 -- whether a spare with these bytes has a place that meets the test
 abbrev pub shows : ℕ → (Place → Bool) → Filling → List ℕ → ℕ
-shows b test own bytes = weight (nat_lt 0 (length bytes) && in_buffer b test (begin_place own.buffer (length bytes)))
+shows b test own bytes = one_if (nat_lt 0 (length bytes) && in_buffer b test (begin_place own.buffer (length bytes)))
 
 -- a spare that is filled brings its place, if it had none
 pub app_places-filled : (b : ℕ) (test : Place → Bool) (nic : NicSide) (app : AppSide) (own : Filling) (bytes : List ℕ)
@@ -188,7 +188,7 @@ app_places-lent_own b test nic app own some_bytes =
 pub places-begun : (b : ℕ) (test : Place → Bool) (nic : NicSide) (apps : List AppSide) (own : Filling) (n : ℕ) (bytes : List ℕ)
     → nic.inside.making ≡ None
     → tally test (places_of b (making_at nic (begun nic.view own n) (Some (record { place = next_place own n; bytes = bytes }))) apps)
-    ≡ tally test (places_of b nic apps) + weight (in_buffer b test (next_place own n))
+    ≡ tally test (places_of b nic apps) + one_if (in_buffer b test (next_place own n))
 places-begun b test nic apps own n bytes idle =
     let now = making_at nic (begun nic.view own n) (Some (record { place = next_place own n; bytes = bytes })) in
     let same : total (app_places b test now) apps ≡ total (app_places b test nic) apps = refl in
@@ -203,7 +203,7 @@ places-text_done b test nic apps own bytes making busy place =
     let now = making_at nic (text_done nic.view own bytes) None in
     let same : total (app_places b test now) apps ≡ total (app_places b test nic) apps = refl in
     let one : tally (in_buffer b test) (making_places nic.inside.making)
-    ≡ weight (in_buffer b test (next_place own (length bytes))) + 0 = rw (busy, place) refl in
+    ≡ one_if (in_buffer b test (next_place own (length bytes))) + 0 = rw (busy, place) refl in
     omega (
       arith,
       places-parts b test now apps,

@@ -6,7 +6,7 @@ use Rattle.zr_kinds.specs.declared.place.Place.{Place}
 use Rattle.board_face.specs.{AppEvents.{begin_place}, Holders.{on_way, ended_in, owed_in, making_places}, Places.{places_of, has_byte, ends_behind, ArePlaced}}
 use Rattle.board_face.specs.{Shown.{owed_loans, CardIsShown, AppIsShown}, declared.views.{parts.Making.{Making}, nic.{PlacedText.{PlacedText}, SentNote.{SentNote}}}}
 use Rattle.board_face.specs.declared.views.{nic.NicSide.{NicSide}, app.{HeldPiece.{HeldPiece}, LentPiece.{LentPiece}, SpareOwn.{SpareOwn}, AppSide.{AppSide}}}
-use Rattle.board_face.proofs.{Tallies.{weight, tally, total, tally-map}, Parts.{count-tally}, PlaceTallies.{in_buffer, app_places, places-parts, tally-filter}}
+use Rattle.board_face.proofs.{Tallies.{one_if, tally, total, tally-map}, Parts.{count-tally}, PlaceTallies.{in_buffer, app_places, places-parts, tally-filter}}
 use Rattle.board_face.proofs.{ApartLemmas.{has-weight}, ArePlacedLemmas.{tally-fewer, right-weight, none-has}}
 use Rattle.board_face.proofs.TextsByEvent.{IsKept, CardIsShown-stored, AppIsShown-stored}
 
@@ -32,13 +32,13 @@ filter-map test f (x ∷ xs) = by (test (f x)) (filter-map test f xs)
     by true e = ap (λ ys. f x ∷ ys) e
     by false e = e
 
-and-true : (c d : Bool) → c ≡ true → weight (c && d) ≡ weight d
-and-true c d e = ap (λ t. weight (t && d)) e
+and-true : (c d : Bool) → c ≡ true → one_if (c && d) ≡ one_if d
+and-true c d e = ap (λ t. one_if (t && d)) e
 
 module _ (byte byte' : ℕ → ℕ → ℕ) (p : Place) (stores : StoresAt byte byte' p) where
   -- a byte that isn't one of the place stays
   kept-at : (q : Place) (i : ℕ) → i < q.len → (q.buffer ≡ p.buffer → p.offset ≤ q.offset + i → q.offset + i < p.offset + p.len
-      → weight (in_buffer p.buffer (has_byte (q.offset + i)) q) ≡ 0)
+      → one_if (in_buffer p.buffer (has_byte (q.offset + i)) q) ≡ 0)
       → byte' q.buffer (q.offset + i) ≡ byte q.buffer (q.offset + i)
   kept-at q i small none =
       let x = q.offset + i in
@@ -50,7 +50,7 @@ module _ (byte byte' : ℕ → ℕ → ℕ) (p : Place) (stores : StoresAt byte 
       ⊎_elim
       (λ inside.
       let has = has-weight x q (omega arith) (omega arith) in
-      let one : weight (in_buffer p.buffer (has_byte x) q) ≡ weight (has_byte x q) = and-true (q.buffer == p.buffer) (has_byte x q) t.0 in
+      let one : one_if (in_buffer p.buffer (has_byte x) q) ≡ one_if (has_byte x q) = and-true (q.buffer == p.buffer) (has_byte x q) t.0 in
       absurd (omega (arith, has, one, none t.1 from inside)))
       (λ behind. stores q.buffer x (inr (inr behind)))
       (cases_lt x (p.offset + p.len)))
@@ -182,5 +182,5 @@ HasNoText-making nic apps making busy sound x from inside =
     let p = making.place in
     let has = has-weight x p from inside in
     let one : tally (in_buffer p.buffer (has_byte x)) (making_places nic.inside.making)
-    ≡ weight (has_byte x p) + 0 = rw busy (rw (eq-eqb p.buffer p.buffer refl) refl) in
+    ≡ one_if (has_byte x p) + 0 = rw busy (rw (eq-eqb p.buffer p.buffer refl) refl) in
     omega (arith, sound.apart x, texts-le p.buffer x nic apps, has, one)

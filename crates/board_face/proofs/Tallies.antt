@@ -3,20 +3,20 @@ use Rattle.std.{specs.Prelude.{count_by}, proofs.lemmas.List.Sums.{length-filter
 use Rattle.std.proofs.Common.{◌≡◌, ℕ, zero, suc, ◌+◌, ◌<◌, ◌≤◌, Bool, true, false, cond, List, [], ◌∷◌, ◌++◌, length, map}
 use Rattle.std.{proofs.{Common.{get_or, set, refl, ap, sym, ◌∙◌, arith, length-append}, lemmas.Bool.{false≢true}}, specs.{Prelude.{filter, Contains}, List.{flat_map}}}
 use Rattle.board_face.specs.Lists.{without}
-pub use Rattle.board_face.specs.Lists.{total, weight}
+pub use Rattle.board_face.specs.Lists.{total, one_if}
 
 abbrev pub tally : {A : Type 0} → (A → Bool) → List A → ℕ
 tally test [] = 0
-tally test (x ∷ xs) = weight (test x) + tally test xs
+tally test (x ∷ xs) = one_if (test x) + tally test xs
 
 pub tally-append : {A : Type 0} (test : A → Bool) (xs ys : List A) → tally test (xs ++ ys) ≡ tally test xs + tally test ys
 tally-append test [] ys = omega arith
 tally-append test (x ∷ xs) ys = omega (arith, tally-append test xs ys)
 
-pub tally-push : {A : Type 0} (test : A → Bool) (xs : List A) (x : A) → tally test (xs ++ x ∷ []) ≡ tally test xs + weight (test x)
+pub tally-push : {A : Type 0} (test : A → Bool) (xs : List A) (x : A) → tally test (xs ++ x ∷ []) ≡ tally test xs + one_if (test x)
 tally-push test xs x = omega (arith, tally-append test xs (x ∷ []))
 
-length-case : {A : Type 0} (b : Bool) (x : A) (ys : List A) (n : ℕ) → length ys ≡ n → length (cond b (x ∷ ys) ys) ≡ weight b + n
+length-case : {A : Type 0} (b : Bool) (x : A) (ys : List A) (n : ℕ) → length ys ≡ n → length (cond b (x ∷ ys) ys) ≡ one_if b + n
 length-case true x ys n e = omega (arith, e)
 length-case false x ys n e = omega (arith, e)
 
@@ -26,19 +26,19 @@ length-tally test (x ∷ xs) = length-case (test x) x (filter test xs) (tally te
 
 pub tally-map : {A B : Type 0} (test : B → Bool) (f : A → B) (xs : List A) → tally test (map f xs) ≡ tally (λ x. test (f x)) xs
 tally-map test f [] = refl
-tally-map test f (x ∷ xs) = ap (λ n. weight (test (f x)) + n) (tally-map test f xs)
+tally-map test f (x ∷ xs) = ap (λ n. one_if (test (f x)) + n) (tally-map test f xs)
 
-pub weight-le : (b : Bool) → weight b ≤ 1
-weight-le true = omega arith
-weight-le false = omega arith
+pub one_if-le : (b : Bool) → one_if b ≤ 1
+one_if-le true = omega arith
+one_if-le false = omega arith
 
 pub tally-le : {A : Type 0} (test : A → Bool) (xs : List A) → tally test xs ≤ length xs
 tally-le test [] = omega arith
-tally-le test (x ∷ xs) = omega (arith, weight-le (test x), tally-le test xs)
+tally-le test (x ∷ xs) = omega (arith, one_if-le (test x), tally-le test xs)
 
 pub tally-agree : {A : Type 0} (p q : A → Bool) → ((x : A) → p x ≡ q x) → (xs : List A) → tally p xs ≡ tally q xs
 tally-agree p q same [] = refl
-tally-agree p q same (x ∷ xs) = rw (same x) (ap (λ n. weight (q x) + n) (tally-agree p q same xs))
+tally-agree p q same (x ∷ xs) = rw (same x) (ap (λ n. one_if (q x) + n) (tally-agree p q same xs))
 
 -- ---- one element taken out
 
@@ -60,20 +60,20 @@ total-without f same q is refls g (x ∷ xs) (suc k, there, e) =
     without-case f g (same (f x)) (g q) x xs (without (λ x. same (f x)) xs) (λ meets. ap g (is (f x) meets))
     (λ misses. total-without f same q is refls g xs (k, omega arith, e))
 
-pub tally-total : {A : Type 0} (test : A → Bool) (xs : List A) → tally test xs ≡ total (λ x. weight (test x)) xs
+pub tally-total : {A : Type 0} (test : A → Bool) (xs : List A) → tally test xs ≡ total (λ x. one_if (test x)) xs
 tally-total test [] = refl
 tally-total test (x ∷ xs) = omega (arith, tally-total test xs)
 
 -- and so with a count of those that meet a test
 pub tally-without : {A B : Type 0} (f : A → B) (same : B → Bool) (q : B) → ((y : B) → same y ≡ true → y ≡ q) → same q ≡ true
     → (test : B → Bool) (xs : List A) → Contains (map f xs) q
-    → tally (λ x. test (f x)) (without (λ x. same (f x)) xs) + weight (test q) ≡ tally (λ x. test (f x)) xs
+    → tally (λ x. test (f x)) (without (λ x. same (f x)) xs) + one_if (test q) ≡ tally (λ x. test (f x)) xs
 tally-without f same q is refls test xs has =
     omega (
       arith,
       tally-total (λ x. test (f x)) xs,
       tally-total (λ x. test (f x)) (without (λ x. same (f x)) xs),
-      total-without f same q is refls (λ y. weight (test y)) xs has,
+      total-without f same q is refls (λ y. one_if (test y)) xs has,
     )
 
 -- ---- sums

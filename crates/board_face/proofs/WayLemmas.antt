@@ -4,7 +4,7 @@ use Rattle.std.{specs.Prelude.{◌≢◌, filter, ◌==◌, ◌&&◌}, proofs.le
 use Rattle.zr_kinds.{specs.declared.ring.Rqe.{Rqe}, proofs.Lists.{drop-after}}
 use Rattle.board_face.specs.{NicEvents.{honoured, passed_over}, Sides.{nic_at}, Holders.{sent_to, on_way, is_honoured_for, ended_in}}
 use Rattle.board_face.specs.declared.views.nic.{SentNote.{SentNote}, Dealt.{Dealt}, Fate.TheVariants.{Honoured, Stray}, NicView.{NicView}, NicSide.{NicSide}}
-use Rattle.board_face.{specs.declared.views.app.{TakenNote.{TakenNote}, AppSide.{AppSide}}, proofs.{ListLemmas.{not-eqb}, Tallies.{weight, tally-push}}}
+use Rattle.board_face.{specs.declared.views.app.{TakenNote.{TakenNote}, AppSide.{AppSide}}, proofs.{ListLemmas.{not-eqb}, Tallies.{one_if, tally-push}}}
 use Rattle.board_face.proofs.Parts.{count-tally}
 
 -- ---- notes
@@ -35,7 +35,7 @@ after-taken nic app t next rest way = rw (length-append app.view.taken (t ∷ []
 -- ---- entries
 
 pub ended_in-push : (b : ℕ) (nic : NicSide) (v : NicView) (d : Dealt) (app : AppSide) → v.dealt ≡ nic.view.dealt ++ d ∷ []
-    → ended_in b (nic_at nic v) app ≡ ended_in b nic app + weight (is_honoured_for app.view.app b d)
+    → ended_in b (nic_at nic v) app ≡ ended_in b nic app + one_if (is_honoured_for app.view.app b d)
 ended_in-push b nic v d app deals =
     rw deals (omega (
       arith,
@@ -49,25 +49,25 @@ and-false true = refl
 and-false false = refl
 
 pub ended_in-honoured : (b : ℕ) (nic : NicSide) (app : AppSide) (a buffer : ℕ) (entry : Rqe)
-    → ended_in b (nic_at nic (honoured nic.view a entry buffer)) app ≡ ended_in b nic app + weight ((a == app.view.app) && (buffer == b))
+    → ended_in b (nic_at nic (honoured nic.view a entry buffer)) app ≡ ended_in b nic app + one_if ((a == app.view.app) && (buffer == b))
 ended_in-honoured b nic app a buffer entry = ended_in-push b nic (honoured nic.view a entry buffer)
     (record { app = a; entry = entry; fate = Honoured buffer }) app refl
 
 pub honoured-other : (b : ℕ) (nic : NicSide) (a buffer : ℕ) (entry : Rqe) (app : AppSide) → app.view.app ≢ a
     → ended_in b (nic_at nic (honoured nic.view a entry buffer)) app ≡ ended_in b nic app
 honoured-other b nic a buffer entry app other =
-    let none : weight ((a == app.view.app) && (buffer == b)) ≡ 0 = ap (λ c. weight (c && (buffer == b))) (not-eqb a app.view.app (λ e. other (sym e))) in
+    let none : one_if ((a == app.view.app) && (buffer == b)) ≡ 0 = ap (λ c. one_if (c && (buffer == b))) (not-eqb a app.view.app (λ e. other (sym e))) in
     omega (arith, ended_in-honoured b nic app a buffer entry)
 
 pub honoured-target : (b : ℕ) (nic : NicSide) (a buffer : ℕ) (entry : Rqe) (app : AppSide) → app.view.app ≡ a
-    → ended_in b (nic_at nic (honoured nic.view a entry buffer)) app ≡ ended_in b nic app + weight (buffer == b)
+    → ended_in b (nic_at nic (honoured nic.view a entry buffer)) app ≡ ended_in b nic app + one_if (buffer == b)
 honoured-target b nic a buffer entry app same =
-    let one : weight ((a == app.view.app) && (buffer == b)) ≡ weight (buffer == b) = ap (λ c. weight (c && (buffer == b)))
+    let one : one_if ((a == app.view.app) && (buffer == b)) ≡ one_if (buffer == b) = ap (λ c. one_if (c && (buffer == b)))
     (eq-eqb a app.view.app (sym same)) in
     omega (arith, ended_in-honoured b nic app a buffer entry)
 
 pub ended_in-passed_over : (b : ℕ) (nic : NicSide) (a : ℕ) (entry : Rqe) (app : AppSide)
     → ended_in b (nic_at nic (passed_over nic.view a entry)) app ≡ ended_in b nic app
 ended_in-passed_over b nic a entry app =
-    let none : weight ((a == app.view.app) && false) ≡ 0 = ap weight (and-false (a == app.view.app)) in
+    let none : one_if ((a == app.view.app) && false) ≡ 0 = ap one_if (and-false (a == app.view.app)) in
     omega (arith, ended_in-push b nic (passed_over nic.view a entry) (record { app = a; entry = entry; fate = Stray }) app refl)

@@ -1,6 +1,6 @@
 -- What the holders of a buffer weigh, as a sum of numbers, one for each kind of holding: any weight of the holders, and any count of places.
 pub use Rattle.board_face.proofs.Tallies.{tally-total}
-use Rattle.board_face.specs.Lists.{weight as one}
+use Rattle.board_face.specs.Lists.{one_if as one}
 use Rattle.std.{proofs.Common.{◌≡◌, ℕ, List, [], ◌∷◌, ◌++◌, length, map, refl, ◌∙◌, arith}, specs.{Prelude.{filter, count_by, ◌==◌, Bool}, List.{flat_map}}}
 use Rattle.zr_kinds.specs.declared.place.Place.{Place}
 use Rattle.board_face.specs.Holders.{Kind, own, piece, sent, held, spare, loan, owed, returning, places_in, on_way, owed_in, returning_in}

@@ -9,7 +9,7 @@ use Rattle.board_face.specs.{AppEvents.{abandoned, gave, pushed_raw, entry_of, l
 use Rattle.board_face.specs.{Holders.{ended_in, owed_in, returned_in}, Relay.{dealt_entries, IsNoLoanStray, HasNoLoanStray}}
 use Rattle.board_face.specs.{Returns.{entries_on_way, returns, names, is_some_of, loans_out, IsOfLoan, IsNamed, IsClear, AreReturns}, declared.views.nic.Dealt.{Dealt}}
 use Rattle.board_face.specs.declared.views.{nic.NicSide.{NicSide}, app.{LentPiece.{LentPiece}, WrittenEntry.{WrittenEntry}, AppSide.{AppSide}}}
-use Rattle.board_face.proofs.{ListLemmas.{same_place-is, same_place-refl}, Tallies.{weight, tally, tally-push, tally-without}}
+use Rattle.board_face.proofs.{ListLemmas.{same_place-is, same_place-refl}, Tallies.{one_if, tally, tally-push, tally-without}}
 use Rattle.board_face.proofs.Parts.{count-tally, came_back_in, returned_in-count}
 
 pub zip-longer : {A B : Type 0} (xs : List A) (ys : List B) (x : A) → length ys ≤ length xs → zip (xs ++ x ∷ []) ys ≡ zip xs ys
@@ -25,7 +25,7 @@ pub returns-one : (layout : Shape) (b buffer : ℕ) (w : WrittenEntry) → IsOfL
 returns-one layout b buffer w of_loan judges = rw (of_loan, judges) refl
 
 pub returns-longer : (layout : Shape) (b : ℕ) (ws : List WrittenEntry) (w : WrittenEntry)
-    → count_by (returns layout b) (ws ++ w ∷ []) ≡ count_by (returns layout b) ws + weight (returns layout b w)
+    → count_by (returns layout b) (ws ++ w ∷ []) ≡ count_by (returns layout b) ws + one_if (returns layout b w)
 returns-longer layout b ws w = omega (
   arith,
   count-tally (returns layout b) (ws ++ w ∷ []),
@@ -47,24 +47,24 @@ IsClear-elsewhere layout b n m [] w less of_loan other clear = (λ raw named. ab
 IsClear-elsewhere layout b n m (v ∷ ws) w less of_loan other clear = (
   λ raw named. let were = clear.0 raw named in (
     let none = were.0 in omega arith,
-    let none = were.1 in omega (arith, returns-longer layout b ws w, ap weight other),
+    let none = were.1 in omega (arith, returns-longer layout b ws w, ap one_if other),
   ),
   IsClear-elsewhere layout b n m ws w less of_loan other clear.1,
 )
 
 pub IsClear-longer : (layout : Shape) (b buffer n m : ℕ) (ws : List WrittenEntry) (w : WrittenEntry) → IsOfLoan w → judged layout w.entry ≡ Some buffer
-    → m + weight (buffer == b) ≡ n → IsClear layout b n ws → IsClear layout b m (ws ++ w ∷ [])
+    → m + one_if (buffer == b) ≡ n → IsClear layout b n ws → IsClear layout b m (ws ++ w ∷ [])
 IsClear-longer layout b buffer n m ws w of_loan judges less clear = by (buffer == b) refl
   where
     by : (c : Bool) → (buffer == b) ≡ c → IsClear layout b m (ws ++ w ∷ [])
-    by true is = IsClear-live layout b n m ws w (omega (arith, less, ap weight is)) of_loan clear
+    by true is = IsClear-live layout b n m ws w (omega (arith, less, ap one_if is)) of_loan clear
     by false is = IsClear-elsewhere layout b n m ws w (omega arith) of_loan (returns-one layout b buffer w of_loan judges ∙ is) clear
 
 -- an entry that came from no loan gives none back
 pub returns-raw : (layout : Shape) (b : ℕ) (ws : List WrittenEntry) (w : WrittenEntry) → w.of_loan ≡ false
     → count_by (returns layout b) (ws ++ w ∷ []) ≡ count_by (returns layout b) ws
 returns-raw layout b ws w raw =
-    let none : weight (returns layout b w) ≡ 0 = rw raw refl in
+    let none : one_if (returns layout b w) ≡ 0 = rw raw refl in
     omega (arith, none, count-tally (returns layout b) (ws ++ w ∷ []), count-tally (returns layout b) ws, tally-push (returns layout b) ws w)
 
 -- an entry that came from no loan is clear where none is out, and leaves those before it clear
@@ -81,7 +81,7 @@ none-out b [] idle = refl
 none-out b (l ∷ ls) idle =
     ⊎_elim
     (λ t. absurd (idle (0, omega arith, t.1)))
-    (λ t. omega (arith, ap weight t.0, none-out b ls (λ live. idle (suc live.0, omega (arith, live.1), live.2))))
+    (λ t. omega (arith, ap one_if t.0, none-out b ls (λ live. idle (suc live.0, omega (arith, live.1), live.2))))
     (eqb_tells l.place.buffer b)
 
 pub idle-case : (o : Option ℕ) (x : AppSide) (b : ℕ) → IfSome o (λ buffer. IsLive x.view buffer → ⊥) → is_some_of o b ≡ true
@@ -97,7 +97,7 @@ idle-case (Some i) x b idle named =
 
 -- the loans out in a buffer are one fewer in the loan's own
 pub loans-fewer : (b : ℕ) (x : AppSide) (place : Place) → HasLoan x.view place
-    → loans_out b (app_at x (abandoned x.view place)) + weight (place.buffer == b) ≡ loans_out b x
+    → loans_out b (app_at x (abandoned x.view place)) + one_if (place.buffer == b) ≡ loans_out b x
 loans-fewer b x place out =
     omega (
       arith,
@@ -111,7 +111,7 @@ owed-many b nic x = length-drop (ended_in b nic x) (returned_in b x) ∙ ap (λ 
 
 -- those that were given back or abandoned one more
 pub returned-more : (b : ℕ) (x : AppSide) (place : Place) → length (returned_in b (app_at x (abandoned x.view place)))
-    ≡ length (returned_in b x) + weight (place.buffer == b)
+    ≡ length (returned_in b x) + one_if (place.buffer == b)
 returned-more b x place =
     omega (
       arith,
@@ -122,7 +122,7 @@ returned-more b x place =
 
 -- and those owed one more
 pub owed-more : (b : ℕ) (nic : NicSide) (x : AppSide) (place : Place) → EndedWereReturned b nic x
-    → length (owed_in b nic (app_at x (abandoned x.view place))) ≡ length (owed_in b nic x) + weight (place.buffer == b)
+    → length (owed_in b nic (app_at x (abandoned x.view place))) ≡ length (owed_in b nic x) + one_if (place.buffer == b)
 owed-more b nic x place ended =
     let now = app_at x (abandoned x.view place) in
     omega (
@@ -171,7 +171,7 @@ module _ (nic : NicSide) (app : AppSide) (few : length (dealt_entries app.view.a
           was.written b,
           returned-more b app place,
           returns-longer layout b app.view.written written,
-          ap weight (returns-one layout b place.buffer written refl names_own),
+          ap one_if (returns-one layout b place.buffer written refl names_own),
         );
         owed = λ b. omega (
           arith,
@@ -179,7 +179,7 @@ module _ (nic : NicSide) (app : AppSide) (few : length (dealt_entries app.view.a
           owed-more b nic app place (ended b),
           ap (count_by (returns layout b)) way,
           returns-longer layout b ws written,
-          ap weight (returns-one layout b place.buffer written refl names_own),
+          ap one_if (returns-one layout b place.buffer written refl names_own),
         );
         no_more = λ b. omega (
           arith,
@@ -190,7 +190,7 @@ module _ (nic : NicSide) (app : AppSide) (few : length (dealt_entries app.view.a
           ap (count_by (returns layout b)) way,
           returns-longer layout b ws written,
           returns-longer layout b app.view.written written,
-          ap weight (returns-one layout b place.buffer written refl names_own),
+          ap one_if (returns-one layout b place.buffer written refl names_own),
         );
         clear = λ b. subst (IsClear layout b (loans_out b now)) (sym way)
             (IsClear-longer layout b place.buffer (loans_out b app) (loans_out b now) ws written refl names_own (loans-fewer b app place out) (was.clear b));

@@ -9,19 +9,19 @@ abbrev pub pool_count : ℕ → NicSide → List AppSide → ℕ
 pool_count b nic apps = length (holders_of b nic apps)
 
 -- a loan of this application, or a loan that it gave back or abandoned and still owes
-abbrev pub is_user : ℕ → Kind → Bool
-is_user a own = false
-is_user a (piece p) = false
-is_user a (sent app p) = false
-is_user a (held app p) = false
-is_user a (spare app) = false
-is_user a (loan app p) = app == a
-is_user a (owed app p) = app == a
-is_user a (returning app p) = false
+abbrev pub is_user_kind : ℕ → Kind → Bool
+is_user_kind a own = false
+is_user_kind a (piece p) = false
+is_user_kind a (sent app p) = false
+is_user_kind a (held app p) = false
+is_user_kind a (spare app) = false
+is_user_kind a (loan app p) = app == a
+is_user_kind a (owed app p) = app == a
+is_user_kind a (returning app p) = false
 
 -- how many holders of a buffer are loans of an application, or owed by it
 abbrev pub user_count : ℕ → ℕ → NicSide → List AppSide → ℕ
-user_count a b nic apps = count_by (is_user a) (holders_of b nic apps)
+user_count a b nic apps = count_by (is_user_kind a) (holders_of b nic apps)
 
 -- Of the loans of a buffer that an application gave back or abandoned, no more were honoured or scrubbed than there are:
 -- it never owes less than nothing.

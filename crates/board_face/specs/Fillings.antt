@@ -1,7 +1,7 @@
 -- Buffers that are being filled: a buffer is filled by one at most, the card or an application. A filling begins only where
 -- nobody has the buffer, so a spare's buffer has no other holder.
 use Rattle.std.specs.Prelude.{◌≡◌, ℕ, ◌<◌, ◌≤◌, Bool, true, false, List, All, count_by}
-use Rattle.area_layout.specs.Layout.{pool_buffers, total, size_of}
+use Rattle.area_layout.specs.Layout.{pool_buffers, all_buffers, size_of}
 use Rattle.board_face.specs.{Tokens.{FitsBuffer}, Holders.{Kind, own, piece, sent, held, spare, loan, owed, returning, holders_of}, Counts.{pool_count}}
 use Rattle.board_face.specs.declared.views.{nic.NicSide.{NicSide}, app.AppSide.{AppSide}}
 
@@ -20,7 +20,7 @@ pub record IsFilledByOne (b : ℕ) (nic : NicSide) (apps : List AppSide) : Type 
   pub one : count_by is_filling (holders_of b nic apps) ≤ 1
   pub alone : All (λ app. All (λ s. s.own.buffer ≡ b → pool_count b nic apps ≡ 1) app.view.owns) apps
   -- no buffer behind the area has a holder
-  pub inside : total nic.view.setting.layout ≤ b → pool_count b nic apps ≡ 0
+  pub inside : all_buffers nic.view.setting.layout ≤ b → pool_count b nic apps ≡ 0
 
 -- What is being filled is what a token of it shows: the card's buffers are of the pool, and all have their layout's size.
 pub record FillingsFit (nic : NicSide) (apps : List AppSide) : Type 0 where

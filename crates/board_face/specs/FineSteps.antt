@@ -21,7 +21,7 @@ use Rattle.zr_kinds.specs.declared.{place.Place.{Place}, ring.Rqe.{Rqe}}
 use Rattle.board_face.specs.{Tokens.{filled_by, next_place}, NicEvents.{fresh, text_done}, NicCalls.{HasOwn}, AppCalls.{HasHeld}, Sides.{IsApp, side_in}}
 use Rattle.board_face.specs.{Holders.{returning_count, ended_in, owed_in, returning_in}}
 use Rattle.board_face.specs.Steps.{side_begun, side_shut, side_user_lowered, side_both_lowered, side_released, side_spare_begun, side_user_taken, side_owes_lowered}
-use Rattle.board_face.specs.{Laws.{AllSides, FitTogether, TookAll, scrubbed_by}, Holdings.{Hold, own, piece, held, spare, owed, returning, weight, weigh}}
+use Rattle.board_face.specs.{Laws.{AllSides, FitTogether, TookAll, scrubbed_by}, Holdings.{Hold, own, piece, held, spare, owed, returning, weight_in, weigh}}
 use Rattle.board_face.specs.declared.views.{parts.{Filling.{Filling}, Making.{Making}}, nic.{Judged.TheVariants.{Owed, UserLowered}, NicSide.{NicSide}}}
 use Rattle.board_face.specs.declared.views.app.AppSide.{AppSide}
 
@@ -121,13 +121,13 @@ fine_begins step s = []
 abbrev pub FineExchangeLaw : Type 0
 FineExchangeLaw =
     (step : FineStep) (s : AllSides) → FineCan step s → (w : Hold → ℕ) (b : ℕ)
-    → weigh w b (fine_apply step s) + weight w b (fine_ends step s b) ≡ weigh w b s + weight w b (fine_begins step s)
+    → weigh w b (fine_apply step s) + weight_in w b (fine_ends step s b) ≡ weigh w b s + weight_in w b (fine_begins step s)
 
 -- So the counts go by them too.
 pub record FineCounts (step : FineStep) (s : AllSides) : Type 0 where
-  pub pool : (b : ℕ) → pool_of (fine_apply step s) b + weight (λ h. 1) b (fine_ends step s b) ≡ pool_of s b + weight (λ h. 1) b (fine_begins step s)
-  pub users : (a b : ℕ) → user_of (fine_apply step s) a b + weight (used a) b (fine_ends step s b)
-      ≡ user_of s a b + weight (used a) b (fine_begins step s)
+  pub pool : (b : ℕ) → pool_of (fine_apply step s) b + weight_in (λ h. 1) b (fine_ends step s b) ≡ pool_of s b + weight_in (λ h. 1) b (fine_begins step s)
+  pub users : (a b : ℕ) → user_of (fine_apply step s) a b + weight_in (used a) b (fine_ends step s b)
+      ≡ user_of s a b + weight_in (used a) b (fine_begins step s)
 
 abbrev pub FineCountsLaw : Type 0
 FineCountsLaw = (step : FineStep) (s : AllSides) → FineCan step s → FineCounts step s

@@ -4,10 +4,10 @@ use Rattle.std.specs.Prelude.{nat_lt, ⊤, ◌≡◌, ℕ, ◌+◌, ◌==◌, �
 use Rattle.zr_kinds.specs.declared.place.Place.{Place}
 use Rattle.board_face.specs.{Tokens.{filled_by, next_place}, Texts.{front_place, rest_place}, Holders.{Kind, on_way, owed_in, returning_in, making_places}}
 use Rattle.board_face.specs.Holders as kind
-use Rattle.board_face.specs.{Counts.{is_user}, Fillings.{IsFilledByOne}, Sides.{side_in}, Laws.{AllSides, pool_of, user_of}, NicEvents.{fresh}}
-use Rattle.area_layout.specs.Layout.{total as total_buffers}
+use Rattle.board_face.specs.{Counts.{is_user_kind}, Fillings.{IsFilledByOne}, Sides.{side_in}, Laws.{AllSides, pool_of, user_of}, NicEvents.{fresh}}
+use Rattle.area_layout.specs.Layout.{all_buffers as total_buffers}
 use Rattle.board_face.specs.{AppEvents.{own_bytes, begin_place}, declared.views.{parts.Filling.{Filling}, nic.{NicView.{NicView}, NicSide.{NicSide}}}}
-use Rattle.board_face.specs.{declared.views.app.{AppView.{AppView}, AppSide.{AppSide}}, Lists.{total, weight as one}}
+use Rattle.board_face.specs.{declared.views.app.{AppView.{AppView}, AppSide.{AppSide}}, Lists.{total, one_if as one}}
 use Rattle.board_face.specs.BoardSteps.{CardStep, AppStep, Step, apply, Can, takes, places, sends, shuts, honours, polls, cuts, releases, lends, gives, abandons, spares, fills, lends_own, card, app}
 
 -- a holding, with all that a weight may look at
@@ -38,8 +38,8 @@ abbrev pub here : ℕ → ℕ → ℕ → ℕ
 here b buffer n = if buffer == b then n else 0
 
 -- what some holdings weigh in a buffer
-abbrev pub weight : (Hold → ℕ) → ℕ → List Hold → ℕ
-weight w b holds = total (λ h. here b (buffer_of h) (w h)) holds
+abbrev pub weight_in : (Hold → ℕ) → ℕ → List Hold → ℕ
+weight_in w b holds = total (λ h. here b (buffer_of h) (w h)) holds
 
 -- what the card's holdings of a buffer weigh
 abbrev pub card_weight : (Hold → ℕ) → ℕ → NicSide → ℕ
@@ -117,7 +117,7 @@ begins_by (app a step) s = app_begins a step (side_in s.apps a).view
 abbrev pub ExchangeLaw : Type 0
 ExchangeLaw =
     (step : Step) (s : AllSides) → Can step s → (w : Hold → ℕ) (b : ℕ)
-    → weigh w b (apply step s) + weight w b (ends_by step s) ≡ weigh w b s + weight w b (begins_by step s)
+    → weigh w b (apply step s) + weight_in w b (ends_by step s) ≡ weigh w b s + weight_in w b (begins_by step s)
 
 -- ---- counts
 
@@ -139,12 +139,12 @@ hold_place h = kind_place (kind_of h)
 
 -- what counts as a user of this application
 abbrev pub used : ℕ → Hold → ℕ
-used a h = one (is_user a (kind_of h))
+used a h = one (is_user_kind a (kind_of h))
 
 -- The pool count and every user count of each buffer go by the holdings that end and begin.
 pub record CountsBy (ends begins : List Hold) (old new : AllSides) : Type 0 where
-  pub pool : (b : ℕ) → pool_of new b + weight (λ h. 1) b ends ≡ pool_of old b + weight (λ h. 1) b begins
-  pub users : (a b : ℕ) → user_of new a b + weight (used a) b ends ≡ user_of old a b + weight (used a) b begins
+  pub pool : (b : ℕ) → pool_of new b + weight_in (λ h. 1) b ends ≡ pool_of old b + weight_in (λ h. 1) b begins
+  pub users : (a b : ℕ) → user_of new a b + weight_in (used a) b ends ≡ user_of old a b + weight_in (used a) b begins
 
 abbrev pub CountsLaw : Type 0
 CountsLaw = (step : Step) (s : AllSides) → Can step s → CountsBy (ends_by step s) (begins_by step s) s (apply step s)

@@ -1,6 +1,7 @@
 -- Lists of tokens, from which one is taken out.
 use Rattle.std.specs.Prelude.{ℕ, zero, suc, ◌+◌, Bool, if◌then◌else◌, List, [], ◌∷◌, ◌==◌, ◌&&◌}
 use Rattle.zr_kinds.specs.declared.place.Place.{Place}
+pub use Rattle.zr_kinds.specs.Counting.{one_if}
 
 -- the list without the first element that meets the test
 abbrev pub without : {A : Type 0} → (A → Bool) → List A → List A
@@ -25,7 +26,3 @@ same_place p q = (p.buffer == q.buffer) && (p.offset == q.offset) && (p.len == q
 abbrev pub total : {A : Type 0} → (A → ℕ) → List A → ℕ
 total f [] = 0
 total f (x ∷ xs) = f x + total f xs
-
--- 1 where the test is met
-abbrev pub weight : Bool → ℕ
-weight test = if test then 1 else 0

@@ -1,6 +1,6 @@
 -- The sides of a board that was just opened: nobody has done anything.
 use Rattle.std.specs.Prelude.{ℕ, zero, suc, true, false, List, [], ◌∷◌, None, replicate}
-use Rattle.area_layout.specs.Layout.{total}
+use Rattle.area_layout.specs.Layout.{all_buffers}
 use Rattle.board_face.specs.{NicCalls.{apps_of}, declared.views.{parts.{Setting.{Setting}, Slot.{Slot}}, nic.{NicView.{NicView}, NicSide.{NicSide}}}}
 use Rattle.board_face.specs.declared.views.app.{AppView.{AppView}, AppSide.{AppSide}}
 
@@ -71,8 +71,8 @@ new_app setting a = record {
     words_without = [];
     reserve_seen_free = false;
     scrub_mark = 0;
-    scrub_took = replicate (total setting.layout) 0;
-    scrub_owes = replicate (total setting.layout) 0;
+    scrub_took = replicate (all_buffers setting.layout) 0;
+    scrub_owes = replicate (all_buffers setting.layout) 0;
   };
 }
 

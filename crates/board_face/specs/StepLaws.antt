@@ -1,7 +1,7 @@
 -- The steps of a call together are the call's event.
 use Rattle.std.specs.Prelude.{◌≡◌, ℕ, ◌+◌, ◌<◌, ◌≤◌, Bool, true, false, List, length, Some}
 use Rattle.zr_kinds.specs.declared.{place.Place.{Place}, ring.Rqe.{Rqe}}
-use Rattle.area_layout.specs.Layout.{pool_buffers, total, judged}
+use Rattle.area_layout.specs.Layout.{pool_buffers, all_buffers, judged}
 use Rattle.board_face.specs.{NicEvents.{text_done, placed, shut, gave_up, dealt, honoured, passed_over}, AppEvents.{released, got_spare, scrubbed}}
 use Rattle.board_face.specs.Steps.{side_begun, side_shut, side_judged, side_user_lowered, side_both_lowered}
 use Rattle.board_face.specs.{Steps.{side_released, side_picked, side_spare_begun, side_user_taken, side_owes_lowered}, declared.views.parts.Filling.{Filling}}
@@ -27,7 +27,7 @@ pub record AppSteps : Type 0 where
   pub reserve : (app : AppSide) (buffer : ℕ) → pool_buffers app.view.setting.layout ≤ buffer
       → (side_spare_begun app buffer).view ≡ got_spare app.view buffer
   -- what a scrub takes of one buffer changes nothing that faces speak of, but for the last one, with which it is done
-  pub scrub : (app : AppSide) (b n : ℕ) (last : Bool) → b + 1 < total app.view.setting.layout → app.view.scrubbed ≡ false
+  pub scrub : (app : AppSide) (b n : ℕ) (last : Bool) → b + 1 < all_buffers app.view.setting.layout → app.view.scrubbed ≡ false
       → (side_owes_lowered (side_user_taken app b n) b last).view ≡ app.view
-  pub scrub_last : (app : AppSide) (b n : ℕ) (last : Bool) → b + 1 ≡ total app.view.setting.layout
+  pub scrub_last : (app : AppSide) (b n : ℕ) (last : Bool) → b + 1 ≡ all_buffers app.view.setting.layout
       → (side_owes_lowered (side_user_taken app b n) b last).view ≡ scrubbed app.view

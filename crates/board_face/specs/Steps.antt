@@ -2,7 +2,7 @@
 -- a call together are the call's event.
 use Rattle.std.specs.Prelude.{ℕ, ◌+◌, Bool, false, not, ◌&&◌, if◌then◌else◌, List, [], ◌∷◌, ◌++◌, length, nat_lt, nat_eq, ◌<◌, slice_index, slice_set, Some, Contains}
 use Rattle.zr_kinds.specs.declared.{place.Place.{Place}, ring.Rqe.{Rqe}}
-use Rattle.area_layout.specs.Layout.{pool_buffers, total}
+use Rattle.area_layout.specs.Layout.{pool_buffers, all_buffers}
 use Rattle.board_face.specs.{Lists.{without}, Tokens.{next_place}, NicCalls.{free_words_of}, NicEvents.{cache_room, begun, shut, gave_up, nic_saw}}
 use Rattle.board_face.specs.{AppEvents.{released, picked_one, spare_begun}, declared.views.parts.Filling.{Filling}}
 use Rattle.board_face.specs.declared.views.nic.Judged.TheVariants.{Stray as judged_stray, Owed as judged_owed, UserLowered, BothLowered}
@@ -86,7 +86,7 @@ side_spare_begun app buffer = record {
 -- A scrub, which goes through the buffers in order, took so many user references of this one. The last one ends it.
 abbrev pub side_user_taken : AppSide → ℕ → ℕ → AppSide
 side_user_taken app b n = record {
-  view = record app.view { scrubbed = nat_eq (b + 1) (total app.view.setting.layout) };
+  view = record app.view { scrubbed = nat_eq (b + 1) (all_buffers app.view.setting.layout) };
   inside = record app.inside {
     scrub_mark = b + 1;
     scrub_took = slice_set app.inside.scrub_took b (slice_index app.inside.scrub_took b + n);

@@ -1,5 +1,5 @@
 ghost use Rattle.std.specs.Prelude.{◌≡◌, ℕ, ◌+◌, ◌-◌, ◌<◌, ◌≤◌, ◌↔◌, true, false, length, IsTrue, IfErr, IfNone, IfSome, MatchOption, MatchResult, MatchBool};
-ghost use Rattle.area_layout.specs.Layout.{IsLayout, IsBufferSize, total, least_size, off_of};
+ghost use Rattle.area_layout.specs.Layout.{IsLayout, IsBufferSize, all_buffers, least_size, off_of};
 ghost use Rattle.board_face.specs.{declared.{views.app.{AppView.{AppView}, AppLook.{TheVariants.{RefillInUse, RawOnItsWay, NoSpare, NotQuiet}, AppLook}}, answers.Polled.TheVariants.{Empty as got_none}}, Looks.{AppTold}, NotNow.{HasWritten, HasWrittenRingful, HasPushedRaw, HasUsedReserve}, Tokens.{filled_by}, Texts.{front_place, rest_place}, AppEvents.{app_gist, cut, released, lent, loan_origin, has_read, abandoned, gave, pushed_raw, came_to_rest, reserve_of, filled, own_bytes, begin_place, lent_own, fell_quiet, scrubbed, left_board}, AppCalls.{IsHere, HasHeld, HasLoan, HasSpare, HasPlace, CanLend, IsLive, NamesNoLoan, MaySpare, IsFilled, CanScrub, CanLeave, AppOnlySaw, Looked, GotSpare, ShowsCopy}};
 
 use crate::{Held, Loan, Own, Polled};
@@ -41,7 +41,7 @@ pub trait AppFace {
     /// The number of this application's reserve buffer.
     fn reserve(&self) -> u32
         ensures value { result ≡ reserve_of (seen self.now) }
-        ensures within { result < total (seen self.now).setting.layout };
+        ensures within { result < all_buffers (seen self.now).setting.layout };
 
     /// The offset by which completions and refill entries name the place.
     fn off(&self, p: &Place) -> u64

@@ -3,7 +3,7 @@ use Rattle.std.proofs.Common.{◌≡◌, ℕ, zero, suc, ◌+◌, ◌<◌, ◌�
 use Rattle.std.proofs.Common.{get_or, refl, ap, sym, ◌∙◌, arith, ⊎_elim, subst, length-append}
 use Rattle.std.{specs.Prelude.{◌≢◌, ◌==◌, All, AllPairs, nat_eq, count_by, if◌then◌else◌}, proofs.lemmas.List.{append-nil, Elements.{All-nil, All-push, All-weaker}}}
 use Rattle.std.proofs.lemmas.{List.Quantifiers.{all_pairs_push}, Bool.{cases_lt, Decides.{eqb_tells}}}
-use Rattle.board_face.{specs.Ended.{IsEachOnce}, proofs.{Tallies.{weight}, Counting.{weight-same, count-append, count-cons}}}
+use Rattle.board_face.{specs.Ended.{IsEachOnce}, proofs.{Tallies.{one_if}, Counting.{weight-same, count-append, count-cons}}}
 use Rattle.board_parts.specs.Free.{listed_in, listed_below}
 pub use Rattle.board_face.proofs.Counting.{weight-other}
 use Rattle.zr_kinds.proofs.Booleans.{if-none, if-one}
@@ -32,16 +32,16 @@ sum-none zero = refl
 sum-none (suc n) = omega (arith, sum-none n)
 
 -- of the numbers below n one is x, where it is below n
-sum-past : (x n : ℕ) → n ≤ x → sum_below (λ b. weight (b == x)) n ≡ 0
+sum-past : (x n : ℕ) → n ≤ x → sum_below (λ b. one_if (b == x)) n ≡ 0
 sum-past x zero past = refl
 sum-past x (suc n) past = omega (arith, weight-other n x (λ e. absurd (omega (arith, e))), sum-past x n (omega arith))
 
-sum-one : (x n : ℕ) → x < n → sum_below (λ b. weight (b == x)) n ≡ 1
+sum-one : (x n : ℕ) → x < n → sum_below (λ b. one_if (b == x)) n ≡ 1
 sum-one x zero less = absurd (omega arith)
 sum-one x (suc n) less =
     ⊎_elim
-    (λ t. let e : n ≡ x = t.1 in omega (arith, ap weight t.0, sum-past x n (omega (arith, e))))
-    (λ t. let ne : n ≢ x = t.1 in omega (arith, ap weight t.0, sum-one x n (omega (arith, ne))))
+    (λ t. let e : n ≡ x = t.1 in omega (arith, ap one_if t.0, sum-past x n (omega (arith, e))))
+    (λ t. let ne : n ≢ x = t.1 in omega (arith, ap one_if t.0, sum-one x n (omega (arith, ne))))
     (eqb_tells n x)
 
 -- A list has as many numbers as are counted below n, where it has none from n on.
@@ -53,18 +53,18 @@ length-counts n (x ∷ xs) none =
     let rest : (b : ℕ) → n ≤ b → count_by (nat_eq b) xs ≡ 0 = λ b past. omega (arith, none b past, count-cons b x xs) in
     omega (
       arith,
-      sum-agree (λ b. count_by (nat_eq b) (x ∷ xs)) (λ b. weight (b == x) + count_by (nat_eq b) xs) n (λ b. count-cons b x xs),
-      sum-both (λ b. weight (b == x)) (λ b. count_by (nat_eq b) xs) n,
+      sum-agree (λ b. count_by (nat_eq b) (x ∷ xs)) (λ b. one_if (b == x) + count_by (nat_eq b) xs) n (λ b. count-cons b x xs),
+      sum-both (λ b. one_if (b == x)) (λ b. count_by (nat_eq b) xs) n,
       sum-one x n within,
       length-counts n xs rest,
     )
 
-listed-case : (c : Bool) (b n : ℕ) → count_by (nat_eq b) (if c then n ∷ [] else []) ≡ (if c then weight (b == n) else 0)
+listed-case : (c : Bool) (b n : ℕ) → count_by (nat_eq b) (if c then n ∷ [] else []) ≡ (if c then one_if (b == n) else 0)
 listed-case true b n = omega (arith, count-cons b n [])
 listed-case false b n = refl
 
 below-more : (b n : ℕ) (listed : List Bool) → count_by (nat_eq b) (listed_below listed (suc n))
-    ≡ count_by (nat_eq b) (listed_below listed n) + (if get_or listed n false then weight (b == n) else 0)
+    ≡ count_by (nat_eq b) (listed_below listed n) + (if get_or listed n false then one_if (b == n) else 0)
 below-more b n listed = omega (
   arith,
   count-append b (listed_below listed n) (if get_or listed n false then n ∷ [] else []),
@@ -76,24 +76,24 @@ below-past : (b n : ℕ) (listed : List Bool) → n ≤ b → count_by (nat_eq b
 below-past b zero listed past = refl
 below-past b (suc n) listed past =
     let other = weight-other b n (λ e. absurd (omega (arith, e))) in
-    omega (arith, below-more b n listed, if-none (get_or listed n false) (weight (b == n)) other, below-past b n listed (omega arith))
+    omega (arith, below-more b n listed, if-none (get_or listed n false) (one_if (b == n)) other, below-past b n listed (omega arith))
 
 -- and each stands there once.
-below-once : (b n : ℕ) (listed : List Bool) → b < n → count_by (nat_eq b) (listed_below listed n) ≡ weight (listed_in listed b)
+below-once : (b n : ℕ) (listed : List Bool) → b < n → count_by (nat_eq b) (listed_below listed n) ≡ one_if (listed_in listed b)
 below-once b zero listed within = absurd (omega arith)
 below-once b (suc n) listed within =
     ⊎_elim
     (λ t. let e : b ≡ n = t.1 in omega (
       arith,
       below-more b n listed,
-      if-one (get_or listed n false) (weight (b == n)) (ap weight t.0),
+      if-one (get_or listed n false) (one_if (b == n)) (ap one_if t.0),
       below-past b n listed (omega (arith, e)),
-      ap (λ k. weight (get_or listed k false)) e,
+      ap (λ k. one_if (get_or listed k false)) e,
     ))
     (λ t. let ne : b ≢ n = t.1 in omega (
       arith,
       below-more b n listed,
-      if-none (get_or listed n false) (weight (b == n)) (ap weight t.0),
+      if-none (get_or listed n false) (one_if (b == n)) (ap one_if t.0),
       below-once b n listed (omega (arith, ne)),
     ))
     (eqb_tells b n)
@@ -101,7 +101,7 @@ below-once b (suc n) listed within =
 -- ---- the free buffers
 
 module _ (n : ℕ) (cache : List ℕ) (listed : List Bool) (many : length listed ≡ n)
-    (one : (b : ℕ) → b < n → count_by (nat_eq b) cache + weight (listed_in listed b) ≡ 1)
+    (one : (b : ℕ) → b < n → count_by (nat_eq b) cache + one_if (listed_in listed b) ≡ 1)
     (none : (b : ℕ) → n ≤ b → count_by (nat_eq b) cache ≡ 0) where
   abbrev free : List ℕ
   free = cache ++ listed_below listed (length listed)

@@ -1,7 +1,7 @@
 -- The references of an application are taken back. Each buffer has its own counts, so its turn leaves the others as they are.
 use Rattle.std.{proofs.Common.{◌≡◌, ℕ, ◌+◌, ◌-◌, ◌<◌, ◌≤◌, Bool, true, false, List, length, get_or, set, refl, ◌∙◌, arith, ⊎_elim}, specs.Prelude.{◌≢◌, if◌then◌else◌}}
 use Rattle.std.proofs.lemmas.{List.{get_or-set_same, get_or-set_other, length-set}, Bool.{cases_eq, Decides.{nat_tests}}, Nat.{same_from_place}}
-use Rattle.area_layout.specs.Layout.{Shape, total, pool_buffers}
+use Rattle.area_layout.specs.Layout.{Shape, all_buffers, pool_buffers}
 use Rattle.board_parts.specs.{Counts.{user_at, came_back}, Free.{listed_in}}
 
 -- what a buffer has once it had its turn
@@ -21,7 +21,7 @@ pub record IsTakenBelow (layout : Shape) (app : ℕ) (users users' pool pool' : 
   pub users_len : length users' ≡ length users
   pub pool_len : length pool' ≡ length pool
   pub listed_len : length listed' ≡ length listed
-  pub others : (a b : ℕ) → a ≢ app → b < total layout → get_or users' (user_at layout a b) 0 ≡ get_or users (user_at layout a b) 0
+  pub others : (a b : ℕ) → a ≢ app → b < all_buffers layout → get_or users' (user_at layout a b) 0 ≡ get_or users (user_at layout a b) 0
   pub below : (b : ℕ) → b < n → IsTaken layout b (get_or users (user_at layout app b) 0) (get_or users' (user_at layout app b) 0) (get_or pool b 0)
       (get_or pool' b 0) (listed_in listed b) (listed_in listed' b)
   pub above : (b : ℕ) → n ≤ b → IsKept (get_or users (user_at layout app b) 0) (get_or users' (user_at layout app b) 0) (get_or pool b 0)
@@ -43,7 +43,7 @@ module _ (listed : List Bool) (n : ℕ) where
 
 -- the turn of the buffer n
 module _ (layout : Shape) (app : ℕ) (users users' pool pool' : List ℕ) (listed listed' : List Bool) (n : ℕ)
-    (h : IsTakenBelow layout app users users' pool pool' listed listed' n) (place : n < total layout)
+    (h : IsTakenBelow layout app users users' pool pool' listed listed' n) (place : n < all_buffers layout)
     (user_there : user_at layout app n < length users') (count_there : n < length pool') (len : length listed' ≡ pool_buffers layout) (came : Bool)
     (is : came ≡ came_back layout n (get_or users' (user_at layout app n) 0) (get_or pool' n 0 - get_or users' (user_at layout app n) 0)) where
   abbrev at_user : ℕ
@@ -88,7 +88,7 @@ module _ (layout : Shape) (app : ℕ) (users users' pool pool' : List ℕ) (list
     pool_len = length-set pool' n left ∙ h.pool_len;
     listed_len = listed-len listed' n came ∙ h.listed_len;
     others = λ a b ne within. get_or-set_other users' at_user (user_at layout a b) 0 0
-        (λ same. ne (same_from_place a b app n (total layout) within place same).0) ∙ h.others a b ne within;
+        (λ same. ne (same_from_place a b app n (all_buffers layout) within place same).0) ∙ h.others a b ne within;
     below = λ b lower. ⊎_elim
         (λ same. rw same taken-here)
         (λ ne. rw (user-apart b ne, get_or-set_other pool' n b left 0 ne, listed-apart listed' n came b ne) (h.below b (omega arith)))

@@ -25,8 +25,8 @@ abbrev pub word_end : List Bool → ℕ → ℕ
 word_end listed word = word_bits * word + word_len listed word
 
 -- the listed buffers of a word, the highest first
-abbrev pub found_in : List Bool → ℕ → List ℕ
-found_in listed word = listed_from listed (word_bits * word) (word_len listed word)
+abbrev pub listed_in_word : List Bool → ℕ → List ℕ
+listed_in_word listed word = listed_from listed (word_bits * word) (word_len listed word)
 
 -- the listed buffers below n, the lowest first
 abbrev pub listed_below : List Bool → ℕ → List ℕ

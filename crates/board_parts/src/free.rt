@@ -1,7 +1,7 @@
 ghost use Rattle.std.specs.Prelude.{◌≡◌, ℕ, ◌+◌, ◌*◌, ◌<◌, ◌≤◌, ◌++◌, ◌⊎◌, true, false, [], length, slice_index, slice_set, IsTrue, MatchOption, vec_capacity, ◌&&◌, nat_lt, if◌then◌else◌};
 ghost use Rattle.area_layout.specs.Layout.{pool_buffers};
 ghost use Rattle.board_face.specs.NicEvents.{cached, cache_room, word_bits};
-ghost use Rattle.board_parts.specs.Free.{listed_in, relisted, word_end, found_in, listed_below, HasNoneListed, IsLowest, IsPicked};
+ghost use Rattle.board_parts.specs.Free.{listed_in, relisted, word_end, listed_in_word, listed_below, HasNoneListed, IsLowest, IsPicked};
 
 use area_layout::Layout;
 use arrayvec::ArrayVec;
@@ -51,8 +51,8 @@ pub fn move_word(word: u32, cache: &mut Cache, listed: &mut Vec<bool>) -> u32
     requires word { word_bits * word < length listed.old.items }
     requires few { length listed.old.items ≤ 4096 }
     requires room { length cache.old.items + word_bits ≤ cache_room }
-    ensures cache { cache.new.items ≡ cache.old.items ++ found_in listed.old.items word }
-    ensures count { result ≡ length (found_in listed.old.items word) }
+    ensures cache { cache.new.items ≡ cache.old.items ++ listed_in_word listed.old.items word }
+    ensures count { result ≡ length (listed_in_word listed.old.items word) }
     ensures len { length listed.new.items ≡ length listed.old.items }
     ensures taken { (b : ℕ) → word_bits * word ≤ b → b < word_end listed.old.items word
         → listed_in listed.new.items b ≡ false }

@@ -1,5 +1,5 @@
 ghost use Rattle.std.specs.Prelude.{◌≡◌, ◌*◌, ◌<◌, length};
-ghost use Rattle.area_layout.specs.Layout.{pool_buffers, total};
+ghost use Rattle.area_layout.specs.Layout.{pool_buffers, all_buffers};
 ghost use Rattle.board_parts.specs.Counts.{HasFewUsers, TakesBack};
 
 use crate::counts::user_index;
@@ -15,8 +15,8 @@ pub fn take_back(
     app: u32,
 )
     requires app { app < layout.now.reserves }
-    requires users { length users.old.items ≡ layout.now.reserves * total layout.now }
-    requires pool { length pool.old.items ≡ total layout.now }
+    requires users { length users.old.items ≡ layout.now.reserves * all_buffers layout.now }
+    requires pool { length pool.old.items ≡ all_buffers layout.now }
     requires listed { length listed.old.items ≡ pool_buffers layout.now }
     requires few { HasFewUsers layout.now app users.old.items pool.old.items }
     ensures { TakesBack layout.now app users.old.items users.new.items pool.old.items pool.new.items

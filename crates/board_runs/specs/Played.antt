@@ -15,13 +15,13 @@ pub record IsOffering (pool : PoolState) (ended : Bool) (board : Board) : Type 0
   pub nothing : HasNothing (side_of board 0).view
 
 -- An application is there, has nothing out, and hasn't scrubbed.
-pub record IsIdle (v : AppView) : Type 0 where
+pub record IsIdleApp (v : AppView) : Type 0 where
   pub nothing : HasNothing v
   pub here : IsHere v
   pub counted : v.scrubbed ≡ false
 
 -- No role has a token out.
-pub record IsPlayed (board : Board) : Type 0 where
+pub record IsBoardPlayed (board : Board) : Type 0 where
   pub card : HasNoToken board.nic.view
   pub going : IsOpen board.nic.view
-  pub idle : (a : ℕ) → IsIdle (side_of board a).view
+  pub idle : (a : ℕ) → IsIdleApp (side_of board a).view

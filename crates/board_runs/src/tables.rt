@@ -1,7 +1,7 @@
 //! Tables of calls on both boards, just opened, each with a card and one application.
 
 ghost use Rattle.std.specs.Prelude.{◌≡◌, ◌<◌, ◌≤◌};
-ghost use Rattle.area_layout.specs.Layout.{total};
+ghost use Rattle.area_layout.specs.Layout.{all_buffers};
 ghost use Rattle.board_face.specs.NicCalls.{apps_of};
 ghost use Rattle.face_table.specs.{CardHand.{IsCardHand}, AppHand.{IsAppHand}};
 ghost use Rattle.plain_board.specs.Board.{side_of};
@@ -165,7 +165,7 @@ fn plain_free(
 /// Whether the first application's count and the pool's are 0 in the words that a board was closed with, for so many buffers.
 fn is_uncounted(words: &ClosedWords, buffers: u32) -> bool
     requires one { 0 < apps_of words.now.setting }
-    requires buffers { buffers ≤ total words.now.setting.layout }
+    requires buffers { buffers ≤ all_buffers words.now.setting.layout }
 {
     for buffer in 0..buffers {
         if words.pool(buffer) != 0 || words.user(0, buffer) != 0 {
@@ -180,7 +180,7 @@ fn closed_free(board: WordBoard, desk: Desk, buffers: u32) -> Result<Vec<u32>, F
     requires desk { desk.board ≡ board }
     requires back { AllAreBack board.setting desk.view }
     requires one { 0 < apps_of board.setting }
-    requires buffers { buffers ≤ total board.setting.layout }
+    requires buffers { buffers ≤ all_buffers board.setting.layout }
 {
     board.uncounted(&desk);
     let (ended, words) = board.close(desk);

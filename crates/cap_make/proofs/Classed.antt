@@ -5,7 +5,7 @@ use Rattle.std.specs.Prelude.{slice_range}
 use Rattle.byteorder.specs.Endian.{big_number}
 use Rattle.frame_headers.specs.declared.segment.Addr.{Addr, TheVariants.{V4}}
 use Rattle.frame_headers.specs.FrameClass.{FrameClass, Tcp, class_of, packet_class, ipv4_class, tcp_class, half_at, byte_at}
-use Rattle.cap_make.specs.{declared.piece.Piece.{Piece}, GeneratedCapture.{base, swapped, frame_of, payload_of, piece_of}, Carried.{segment_with}}
+use Rattle.cap_make.specs.{declared.piece.Piece.{Piece}, GeneratedCapture.{base, swapped, frame_of_piece, generated_payload, piece_of}, Carried.{segment_with}}
 use Rattle.cap_make.proofs.Payload.{length-bytes_from, length-frame_of}
 
 -- a TCP header of 20 bytes, and behind it payload up to the frame's end
@@ -64,15 +64,16 @@ same_parts : {a a' b b' c c' : ℕ} {d d' : List ℕ} → a ≡ a' → b ≡ b' 
 same_parts e f g h = cc
 
 pub class_of-frame_of : (seed : ℕ) (piece : Piece) → piece.flow < 4 → piece.count ≤ 1100
-    → class_of (frame_of seed piece) ≡ Tcp (segment_with seed piece)
+    → class_of (frame_of_piece seed piece) ≡ Tcp (segment_with seed piece)
 unfolding parts
 class_of-frame_of seed piece flow count =
-    let frame = frame_of seed piece in
+    let frame = frame_of_piece seed piece in
     let seq = (base + piece.first) % 2 ^ 32 in
     let long : length frame ≡ 54 + piece.count = length-frame_of seed piece in
     let total : half_at frame 16 ≡ 40 + piece.count = half (40 + piece.count) (omega arith) in
-    let payload : take (length frame - 54) (payload_of seed piece)
-    ≡ payload_of seed piece = take_all _ (payload_of seed piece) (omega (arith, length-bytes_from (31 * piece.flow + seed) piece.first piece.count)) in
+    let payload : take (length frame - 54) (generated_payload seed piece)
+    ≡ generated_payload seed piece = take_all _ (generated_payload seed piece)
+    (omega (arith, length-bytes_from (31 * piece.flow + seed) piece.first piece.count)) in
     plain_ethernet frame refl (omega arith)
     ∙ plain_ipv4 frame refl (omega arith) refl refl (omega arith)
     ∙ plain_tcp frame (V4 (slice_range frame 26 30)) (V4 (slice_range frame 30 34)) 34 refl (omega arith)

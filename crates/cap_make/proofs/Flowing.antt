@@ -3,7 +3,7 @@ use Rattle.std.proofs.{Common.{◌≡◌, ℕ, zero, suc, ◌+◌, ◌/◌, ◌%
 use Rattle.frame_headers.specs.{FrameClass.{TcpSegment, class_of}, Seen.{segment_of}, declared.segment.Addr.TheVariants.{V4}}
 use Rattle.flow_table.specs.{Steered.{SteeredTcp, segments_of, steered_of, steered_from}, Flows.{Flow, flows_of, flows_after, flows_with, number_of_flow}}
 use Rattle.flow_table.proofs.Laws.{steered_from-append, flows_after-append}
-use Rattle.cap_make.specs.{GeneratedCapture.{base, drawn, frame_of, payload_of, piece_of}, Carried.{frames_of, four_flows, ports}}
+use Rattle.cap_make.specs.{GeneratedCapture.{base, drawn, frame_of_piece, generated_payload, piece_of}, Carried.{generated_frames, four_flows, ports}}
 use Rattle.cap_make.proofs.Classed.{class_of-frame_of, few_flows, few_bytes}
 
 -- a segment of this flow, from this sequence number on, as the frames have them
@@ -67,7 +67,7 @@ abbrev seq_of : ℕ → ℕ → ℕ
 seq_of seed k = (base + (piece_of k (drawn seed (suc k))).first) % 2 ^ 32
 
 one_more : (seed k number : ℕ) (flows : List Flow) → flows ≡ take k four_flows
-    → flows_after flows (steered_from ports number (segments_of (frame_of seed (piece_of k (drawn seed (suc k))) ∷ []))) ≡ take (suc k) four_flows
+    → flows_after flows (steered_from ports number (segments_of (frame_of_piece seed (piece_of k (drawn seed (suc k))) ∷ []))) ≡ take (suc k) four_flows
 one_more seed k number flows is =
     let x = drawn seed (suc k) in
     let piece = piece_of k x in
@@ -75,18 +75,18 @@ one_more seed k number flows is =
     let class = ap segment_of (class_of-frame_of seed piece (few_flows k x) (few_bytes k x)) in
     let at_base : k < 4 → seq ≡ base = λ new. ap (λ p. (base + p) % 2 ^ 32) (first_piece k x new) in
     ap (λ s. flows_after flows (steered_from ports number (s ∷ []))) class
-    ∙ ap (flows_after flows) (to_its_port number piece.flow seq (payload_of seed piece) (few_flows k x))
-    ∙ ap (λ l. flows_with l (steered number piece.flow seq (payload_of seed piece))) is
-    ∙ with_next k number piece.flow seq (payload_of seed piece) refl at_base
+    ∙ ap (flows_after flows) (to_its_port number piece.flow seq (generated_payload seed piece) (few_flows k x))
+    ∙ ap (λ l. flows_with l (steered number piece.flow seq (generated_payload seed piece))) is
+    ∙ with_next k number piece.flow seq (generated_payload seed piece) refl at_base
 
-pub flows_of-frames : (seed n : ℕ) → flows_of (steered_of ports (segments_of (frames_of seed n))) ≡ take n four_flows
+pub flows_of-frames : (seed n : ℕ) → flows_of (steered_of ports (segments_of (generated_frames seed n))) ≡ take n four_flows
 unfolding steered_of
 flows_of-frames seed zero = refl
 flows_of-frames seed (suc n) =
-    let before = segments_of (frames_of seed n) in
-    let next = segments_of (frame_of seed (piece_of n (drawn seed (suc n))) ∷ []) in
-    ap (λ l. flows_after [] (steered_from ports 1 l)) (map-append (λ frame. segment_of (class_of frame)) (frames_of seed n)
-    (frame_of seed (piece_of n (drawn seed (suc n))) ∷ []))
+    let before = segments_of (generated_frames seed n) in
+    let next = segments_of (frame_of_piece seed (piece_of n (drawn seed (suc n))) ∷ []) in
+    ap (λ l. flows_after [] (steered_from ports 1 l)) (map-append (λ frame. segment_of (class_of frame)) (generated_frames seed n)
+    (frame_of_piece seed (piece_of n (drawn seed (suc n))) ∷ []))
     ∙ ap (flows_after []) (steered_from-append ports 1 before next)
     ∙ flows_after-append [] (steered_from ports 1 before) (steered_from ports (1 + length before) next)
     ∙ one_more seed n (1 + length before) (flows_after [] (steered_from ports 1 before)) (flows_of-frames seed n)

@@ -1,6 +1,6 @@
 -- The bytes of a flow from a position on, and a frame's length.
 use Rattle.std.proofs.Common.{◌≡◌, ℕ, zero, suc, ◌+◌, ◌*◌, ◌%◌, [], ◌∷◌, ◌++◌, length, refl, ap, ◌∙◌, add-one, arith}
-use Rattle.cap_make.specs.{declared.piece.Piece.{Piece}, GeneratedCapture.{bytes_from, frame_of}}
+use Rattle.cap_make.specs.{declared.piece.Piece.{Piece}, GeneratedCapture.{bytes_from, frame_of_piece}}
 
 pub length-bytes_from : (shift p n : ℕ) → length (bytes_from shift p n) ≡ n
 length-bytes_from shift p zero = refl
@@ -17,5 +17,5 @@ pub bytes_from-snoc : (shift p n : ℕ) → bytes_from shift p n ++ (p + n + shi
 bytes_from-snoc shift p n = rw (add-one n) (snoc shift p n)
 
 -- a frame has 54 bytes of headers
-pub length-frame_of : (seed : ℕ) (piece : Piece) → length (frame_of seed piece) ≡ 54 + piece.count
+pub length-frame_of : (seed : ℕ) (piece : Piece) → length (frame_of_piece seed piece) ≡ 54 + piece.count
 length-frame_of seed piece = omega (arith, length-bytes_from (31 * piece.flow + seed) piece.first piece.count)

@@ -2,7 +2,7 @@
 use Rattle.std.specs.Prelude.{ℕ, zero, suc, ◌+◌, ◌%◌, ◌^◌, List, [], ◌∷◌, ◌++◌}
 use Rattle.frame_headers.specs.{FrameClass.{TcpSegment}, declared.segment.Addr.TheVariants.{V4}}
 use Rattle.flow_table.specs.{CountedPart.{not_closed}, Flows.{Flow}}
-use Rattle.cap_make.specs.{declared.piece.Piece.{Piece}, GeneratedCapture.{base, drawn, frame_of, payload_of, piece_of}}
+use Rattle.cap_make.specs.{declared.piece.Piece.{Piece}, GeneratedCapture.{base, drawn, frame_of_piece, generated_payload, piece_of}}
 
 -- a segment with PSH and ACK from 10.0.0.1 to 10.0.0.2, to the port of the piece's flow, at the piece's place in the flow
 abbrev pub segment_with : ℕ → Piece → TcpSegment
@@ -13,15 +13,15 @@ segment_with seed piece = record {
   dport = 9000 + piece.flow;
   seq = (base + piece.first) % 2 ^ 32;
   flags = 24;
-  payload = payload_of seed piece;
+  payload = generated_payload seed piece;
 }
 
 -- ---- the flows of a whole capture
 
 -- the frames of the first so many records
-abbrev pub frames_of : ℕ → ℕ → List (List ℕ)
-frames_of seed zero = []
-frames_of seed (suc k) = frames_of seed k ++ frame_of seed (piece_of k (drawn seed (suc k))) ∷ []
+abbrev pub generated_frames : ℕ → ℕ → List (List ℕ)
+generated_frames seed zero = []
+generated_frames seed (suc k) = generated_frames seed k ++ frame_of_piece seed (piece_of k (drawn seed (suc k))) ∷ []
 
 abbrev pub ports : List ℕ
 ports = 9000 ∷ 9001 ∷ 9002 ∷ 9003 ∷ []

@@ -37,8 +37,8 @@ bytes_from shift p zero = []
 bytes_from shift p (suc n) = (p + shift) % 256 ∷ bytes_from shift (p + 1) n
 
 -- the byte of flow f at position p is (p + 31 f + seed) modulo 256
-abbrev pub payload_of : ℕ → Piece → List ℕ
-payload_of seed piece = bytes_from (31 * piece.flow + seed) piece.first piece.count
+abbrev pub generated_payload : ℕ → Piece → List ℕ
+generated_payload seed piece = bytes_from (31 * piece.flow + seed) piece.first piece.count
 
 -- ---- its frame
 
@@ -61,10 +61,10 @@ tcp_header sport dport seq =
 abbrev pub base : ℕ
 base = 4294960000
 
-abbrev pub frame_of : ℕ → Piece → List ℕ
-frame_of seed piece =
+abbrev pub frame_of_piece : ℕ → Piece → List ℕ
+frame_of_piece seed piece =
     ethernet_header ++ (ipv4_header piece.count
-    ++ (tcp_header (40000 + piece.flow) (9000 + piece.flow) ((base + piece.first) % 2 ^ 32) ++ payload_of seed piece))
+    ++ (tcp_header (40000 + piece.flow) (9000 + piece.flow) ((base + piece.first) % 2 ^ 32) ++ generated_payload seed piece))
 
 -- ---- the capture
 
@@ -74,12 +74,12 @@ record_header seconds len = little_bytes 4 seconds ++ (little_bytes 4 0 ++ (litt
 
 -- the record of frame k, for which x was drawn
 abbrev pub record_of : ℕ → ℕ → ℕ → List ℕ
-record_of seed k x = let frame = frame_of seed (piece_of k x) in record_header k (length frame) ++ frame
+record_of seed k x = let frame = frame_of_piece seed (piece_of k x) in record_header k (length frame) ++ frame
 
 -- the first so many records
-abbrev pub records_of : ℕ → ℕ → List ℕ
-records_of seed zero = []
-records_of seed (suc k) = records_of seed k ++ record_of seed k (drawn seed (suc k))
+abbrev pub generated_records : ℕ → ℕ → List ℕ
+generated_records seed zero = []
+generated_records seed (suc k) = generated_records seed k ++ record_of seed k (drawn seed (suc k))
 
 -- little-endian, microseconds, version 2.4, snaplen 262,144, Ethernet
 abbrev pub file_header : List ℕ
@@ -87,4 +87,4 @@ file_header = 0xd4 ∷ 0xc3 ∷ 0xb2 ∷ 0xa1 ∷ 2 ∷ 0 ∷ 4 ∷ 0 ∷ 0 ∷ 
     ∷ 0 ∷ []
 
 abbrev pub generated_capture : ℕ → ℕ → List ℕ
-generated_capture seed frames = file_header ++ records_of seed frames
+generated_capture seed frames = file_header ++ generated_records seed frames

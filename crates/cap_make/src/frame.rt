@@ -1,6 +1,6 @@
 //! A frame as bytes, and its record.
 ghost use Rattle.std.specs.Prelude.{◌≡◌, ◌+◌, ◌*◌, ◌^◌, ◌<◌, ◌≤◌, [], ◌++◌, length};
-ghost use Rattle.cap_make.specs.GeneratedCapture.{ipv4_header, tcp_header, record_header, payload_of, frame_of};
+ghost use Rattle.cap_make.specs.GeneratedCapture.{ipv4_header, tcp_header, record_header, generated_payload, frame_of_piece};
 
 use crate::piece::Piece;
 use arrayvec::ArrayVec;
@@ -62,7 +62,7 @@ fn put_payload(block: &mut Block, seed: u32, piece: Piece)
     requires room { length block.old.items + piece.count ≤ 1170 }
     requires flow { piece.flow < 4 }
     requires first { piece.first < 2 ^ 42 }
-    ensures { block.new.items ≡ block.old.items ++ payload_of seed piece }
+    ensures { block.new.items ≡ block.old.items ++ generated_payload seed piece }
 {
     let shift = 31 * u64::from(piece.flow) + u64::from(seed);
     let first = piece.first;
@@ -77,7 +77,8 @@ pub(crate) fn put_record(block: &mut Block, seed: u32, seconds: u32, piece: Piec
     requires flow { piece.flow < 4 }
     requires first { piece.first < 2 ^ 42 }
     requires count { piece.count ≤ 1100 }
-    ensures { block.new.items ≡ record_header seconds (54 + piece.count) ++ frame_of seed piece }
+    ensures { block.new.items ≡ record_header seconds (54 + piece.count)
+        ++ frame_of_piece seed piece }
 {
     put_record_header(block, seconds, u32::from(HEADERS + piece.count));
     put(block, &[2, 0, 0, 0, 0, 2, 2, 0, 0, 0, 0, 1, 8, 0]);

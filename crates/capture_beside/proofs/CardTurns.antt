@@ -1,8 +1,8 @@
 -- The card goes on: looks for leaves change nothing that it stands by, and turns come behind turns.
 use Rattle.std.{proofs.Common.{◌≡◌, ◌∷◌, ◌++◌, [], ◌⊎◌, ⊎_elim, inl, inr, ℕ, ◌+◌, ◌<◌, ◌≤◌, List, length, true, false, refl, sym, ap, subst, ◌∙◌}, specs.{Global.{Vec}, Prelude.{Bool, IsTrue, MatchBool}}}
 use Rattle.board_face.specs.{NicCalls.{NicOnlySaw}, NicEvents.{nic_saw, saw_leave}, declared.views.nic.{NicLook.{NicLook, TheVariants.{NotLeft}}, NicView.{NicView}}}
-use Rattle.card_feed.specs.{Coming.{is_over}, Feed.{FeedState, FeedKnows, IsReady, feed_steps}}
-use Rattle.card_feed.specs.{Turns.{FeedSteps, MayArrive, Receives}, declared.{arrived.Arrived.{Arrived}, intake.Stage.{Stage}}}
+use Rattle.card_feed.specs.{Coming.{is_over}, Feed.{FeedState, FeedKnows, IsFeedReady, feed_steps}}
+use Rattle.card_feed.specs.{Turns.{FeedSteps, MayArrive, ReceivesArrived}, declared.{arrived.Arrived.{Arrived}, intake.Stage.{Stage}}}
 use Rattle.card_feed.specs.declared.arrived.Arrived.TheVariants as arrived
 use Rattle.card_feed.specs.declared.intake.Stage.TheVariants as stage
 use Rattle.page_pool.specs.Searching.{LooksAhead}
@@ -45,8 +45,8 @@ looked-for was now seen =
     (λ (left : (now.gone ≡ was.gone + 1) × (now.seat.side.view ≡ saw_leave v was.gone)). inr (was.gone, inl left.1))
     seen
 
-ready-looked : (feed : FeedState) (v : NicView) (gone : List ℕ) (looks : List NicLook) → IsReady feed v
-    → IsReady feed (record v { gone = gone; looks = looks })
+ready-looked : (feed : FeedState) (v : NicView) (gone : List ℕ) (looks : List NicLook) → IsFeedReady feed v
+    → IsFeedReady feed (record v { gone = gone; looks = looks })
 ready-looked feed v gone looks ready = record {
   fits = record {
     stands = record {
@@ -113,7 +113,7 @@ frame-is (carried.Over end) r bytes is = absurd (cc)
 
 module _ (split : ℕ) (ports : List ℕ) (old new : List Carried) (was taken : FeedState) (frames more : List (List ℕ))
     (stood : Brought split ports old frames was.stage) where
-  brought-more : (came : Arrived) → MayArrive was came → Came old new came → Receives split ports was taken frames more came
+  brought-more : (came : Arrived) → MayArrive was came → Came old new came → ReceivesArrived split ports was taken frames more came
       → Brought split ports new more taken.stage
   brought-more (arrived.Frame found bytes) may (m, new_is, follows, is) (inl takes) =
       let on = still-on split ports old frames was.stage may.goes stood in
@@ -128,7 +128,7 @@ module _ (split : ℕ) (ports : List ℕ) (old new : List Carried) (was taken : 
 
 -- ---- a turn
 
-pub goes_same : (card : CardLane) → IsReady card.feed card.seat.side.view → CardGoes card card
+pub goes_same : (card : CardLane) → IsFeedReady card.feed card.seat.side.view → CardGoes card card
 goes_same card ready = record { board = refl; ready = ready; ports = refl; ring = consumer-same card.frames; stands = λ ports split so. so }
 
 pub goes_more : (u v w : CardLane) → CardGoes u v → CardGoes v w → CardGoes u w
@@ -141,7 +141,7 @@ goes_more u v w before after = record {
 }
 
 step-stands : (ports : List ℕ) (split : ℕ) (messages_old messages_new : List Carried) (came : Arrived) (was now : FeedState) (old new : NicView)
-    → IsReady was old → MayArrive was came → Came messages_old messages_new came
+    → IsFeedReady was old → MayArrive was came → Came messages_old messages_new came
     → ((frames : List (List ℕ)) → FeedKnows ports split frames was old → FeedSteps ports split frames came was now old new)
     → CardStands ports split messages_old was old → CardStands ports split messages_new now new
 step-stands ports split messages_old messages_new came was now old new ready may came_is gives so =
@@ -157,9 +157,9 @@ step-stands ports split messages_old messages_new came was now old new ready may
           (λ keeps. dealt-up (length ports) step.taken now old new keeps.1 many so.dealt) step.done;
     }
 
-module _ (was came_by mid now : CardLane) (came : Arrived) (ready : IsReady was.feed was.seat.side.view)
+module _ (was came_by mid now : CardLane) (came : Arrived) (ready : IsFeedReady was.feed was.seat.side.view)
     (takes : CardTakes was came_by came) (may : MayArrive came_by.feed came)
-    (ready_mid : IsReady mid.feed mid.seat.side.view) (board : mid.seat.board ≡ came_by.seat.board) (ports_are : mid.feed.ports ≡ came_by.feed.ports)
+    (ready_mid : IsFeedReady mid.feed mid.seat.side.view) (board : mid.seat.board ≡ came_by.seat.board) (ports_are : mid.feed.ports ≡ came_by.feed.ports)
     (same_ring : mid.frames ≡ came_by.frames)
     (gives : (ports : List ℕ) (split : ℕ) (frames : List (List ℕ)) → FeedKnows ports split frames came_by.feed came_by.seat.side.view
     → FeedSteps ports split frames came came_by.feed mid.feed came_by.seat.side.view mid.seat.side.view)
@@ -172,7 +172,8 @@ module _ (was came_by mid now : CardLane) (came : Arrived) (ready : IsReady was.
       let seen = now.seat.side.view.looks in
       record {
         board = looks.board ∙ (board ∙ ap (λ seat. seat.board) takes.seat);
-        ready = subst (λ f. IsReady f now.seat.side.view) feed (subst (IsReady mid.feed) view (ready-looked mid.feed mid.seat.side.view gone seen ready_mid));
+        ready = subst (λ f. IsFeedReady f now.seat.side.view) feed (subst (IsFeedReady mid.feed) view
+            (ready-looked mid.feed mid.seat.side.view gone seen ready_mid));
         ports = ap (λ (f : FeedState). f.ports) looks.feed ∙ (ports_are ∙ ap (λ (f : FeedState). f.ports) takes.feed);
         ring = rw (looks.frames, same_ring) takes.ring;
         stands = λ ports split so.
@@ -198,7 +199,7 @@ went-on was came_by mid now seat feed looks less = rw (looks.feed, looked-view m
 
 -- ---- a look for buffers, and one at the ring
 
-pub goes_prepared : (need : ℕ) (was now : CardLane) → need ≤ 64 → IsReady was.feed was.seat.side.view → IsReady now.feed now.seat.side.view
+pub goes_prepared : (need : ℕ) (was now : CardLane) → need ≤ 64 → IsFeedReady was.feed was.seat.side.view → IsFeedReady now.feed now.seat.side.view
     → now.seat.board ≡ was.seat.board → now.frames ≡ was.frames
     → LooksAhead need was.feed.pool now.feed.pool was.seat.side.view now.seat.side.view → now.feed ≡ record was.feed { pool = now.feed.pool }
     → ((ports : List ℕ) (split : ℕ) (frames : List (List ℕ)) → FeedKnows ports split frames was.feed was.seat.side.view
@@ -227,7 +228,7 @@ drop-brought split ports before frames m stage.Unopened ended was follows = absu
 drop-brought split ports before frames m (stage.Open capture) ended was follows = absurd (cc)
 drop-brought split ports before frames m (stage.Over end) ended was follows = dropped before frames m end was follows
 
-pub goes_drop : (was now : CardLane) → IsReady was.feed was.seat.side.view → is_over was.feed.stage ≡ true → CardDrops was now → CardGoes was now
+pub goes_drop : (was now : CardLane) → IsFeedReady was.feed was.seat.side.view → is_over was.feed.stage ≡ true → CardDrops was now → CardGoes was now
 goes_drop was now ready ended drops = record {
   board = ap (λ seat. seat.board) drops.seat;
   ready = rw (drops.feed, drops.seat) ready;

@@ -7,8 +7,8 @@ use Rattle.zr_kinds.specs.{declared.fault.Fault.TheVariants.{TooManyFrames, BadB
 use Rattle.flow_table.specs.{Flows.{Flow, flows_of, number_of_flow}, Steered.{SteeredTcp}}
 use Rattle.frames_read.{specs.{Ending.{ending_at, flow_ending, steered_in, steered_next}, Reading.{EndsAt, HasEnded}}, proofs.Framing.{ending-flow}}
 use Rattle.board_face.specs.declared.views.nic.NicView.{NicView}
-use Rattle.card_feed.specs.{Coming.{Arrives, ComesTo, TookBytes, is_over}, Feed.{FeedState, FeedStands, end_of}, Offered.{WantsRoom}, declared.intake.Stage.{Stage}}
-use Rattle.card_feed.proofs.Further.{took-then}
+use Rattle.card_feed.specs.{Coming.{Arrives, ComesTo, TookBytes, is_over}, Feed.{FeedState, FeedStands, fault_of_stage}, Offered.{WantsRoom}}
+use Rattle.card_feed.{specs.declared.intake.Stage.{Stage}, proofs.Further.{took-then}}
 use Rattle.card_feed.specs.declared.arrived.Arrived.TheVariants as arrived
 use Rattle.card_feed.specs.declared.intake.Stage.TheVariants as stage
 use Rattle.run_account.{specs.{CardTurns.{CardTurns}, Ran.{HasReadOn}, Views.{source_seen}}, proofs.ReadOn.{HasReadOn-refl}}
@@ -161,7 +161,7 @@ module _ (split : ℕ) (ports : List ℕ) where
 pub record HasReadAll {S : Type 0} (left : S → Option (List ℕ)) (faults : S → ℕ) (source source_now : S) (ports : List ℕ) (split : ℕ)
     (feed : FeedState) (v : NicView) : Type 0 where
   pub at : S
-  pub ahead : HasReadOn (source_seen left faults) at source_now (end_of feed.stage)
+  pub ahead : HasReadOn (source_seen left faults) at source_now (fault_of_stage feed.stage)
   pub frames : List (List ℕ)
   pub stands : FeedStands left faults source at ports split frames feed v
   pub turns : CardTurns ports split frames feed v

@@ -3,7 +3,7 @@ use Rattle.std.specs.Prelude.{◌≡◌, ◌≢◌, ◌⊎◌, ℕ, ◌+◌, ◌
 use Rattle.zr_kinds.specs.declared.fault.Fault.{Fault}
 use Rattle.board_face.specs.{NicCalls.{NicOnlySaw}, NicEvents.{saw_leave}, declared.views.nic.{NicLook.TheVariants.{NotLeft}, NicView.{NicView}}}
 use Rattle.frames_read.specs.{Ending.{ending_at}, Reading.{EndsAt}}
-use Rattle.card_feed.specs.{Coming.{is_over}, Feed.{FeedState, IsReady, FeedKnows, feed_steps}, Offered.{WantsRoom}}
+use Rattle.card_feed.specs.{Coming.{is_over}, Feed.{FeedState, IsFeedReady, FeedKnows, feed_steps}, Offered.{WantsRoom}}
 use Rattle.card_feed.specs.declared.{arrived.Arrived.{Arrived}, intake.Stage.{Stage}}
 use Rattle.card_feed.specs.declared.arrived.Arrived.TheVariants as arrived
 use Rattle.card_feed.specs.declared.intake.Stage.TheVariants as stage
@@ -30,8 +30,8 @@ Came old new arrived.Nothing = new ≡ old
 Came old new came = (m : Carried) × (new ≡ old ++ m ∷ []) × MayFollow old m × (arrived_of m ≡ came)
 
 -- No frame is taken now: one is at hand, notes are pending, or the reading has ended.
-abbrev pub Waits : FeedState → Type 0
-Waits feed = (feed.at_hand ≢ None) ⊎ ((0 < pending_count feed.pool) ⊎ (is_over feed.stage ≡ true))
+abbrev pub FeedWaits : FeedState → Type 0
+FeedWaits feed = (feed.at_hand ≢ None) ⊎ ((0 < pending_count feed.pool) ⊎ (is_over feed.stage ≡ true))
 
 pub record CardTakes (was now : CardLane) (came : Arrived) : Type 0 where
   pub seat : now.seat ≡ was.seat
@@ -78,7 +78,7 @@ pub record CardStands (ports : List ℕ) (split : ℕ) (messages : List Carried)
 -- Some turns: it is ready for the next, at the same board and the same ring, and stands by all that was sent to it.
 pub record CardGoes (was now : CardLane) : Type 0 where
   pub board : now.seat.board ≡ was.seat.board
-  pub ready : IsReady now.feed now.seat.side.view
+  pub ready : IsFeedReady now.feed now.seat.side.view
   pub ports : now.feed.ports ≡ was.feed.ports
   pub ring : SameConsumer was.frames now.frames
   pub stands : (ports : List ℕ) (split : ℕ) → CardStands ports split (received was.frames) was.feed was.seat.side.view

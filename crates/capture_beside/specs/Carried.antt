@@ -15,14 +15,14 @@ abbrev pub has_end : List Carried → Bool
 has_end messages = list_any is_end messages
 
 -- the number of the record, if it is one
-abbrev pub number_or : ℕ → Carried → ℕ
-number_or other (Frame number found bytes) = number
-number_or other (Over end) = other
+abbrev pub record_number_or : ℕ → Carried → ℕ
+record_number_or other (Frame number found bytes) = number
+record_number_or other (Over end) = other
 
 -- how many bytes its frame has, and how many the record states
-abbrev pub len_of : Carried → ℕ
-len_of (Frame number found bytes) = length bytes.items
-len_of (Over end) = 0
+abbrev pub frame_len_of : Carried → ℕ
+frame_len_of (Frame number found bytes) = length bytes.items
+frame_len_of (Over end) = 0
 
 abbrev pub captured_of : Carried → ℕ
 captured_of (Frame number found bytes) = found.captured
@@ -32,9 +32,9 @@ captured_of (Over end) = 0
 -- that are read at most, and its frame as many bytes as it states, which are no more than a record may have.
 pub record MayFollow (before : List Carried) (message : Carried) : Type 0 where
   pub goes : has_end before ≡ false
-  pub numbered : number_or (length before + 1) message ≡ length before + 1
-  pub limit : number_or 0 message ≤ most_records
-  pub whole : len_of message ≡ captured_of message
+  pub numbered : record_number_or (length before + 1) message ≡ length before + 1
+  pub limit : record_number_or 0 message ≤ most_records
+  pub whole : frame_len_of message ≡ captured_of message
   pub most : captured_of message ≤ longest_record
 
 -- what a message brings

@@ -10,7 +10,7 @@ abbrev pub messages_of : Reader → List Carried
 messages_of reader = sent reader.ring ++ option_to_list reader.held
 
 -- all was read and sent
-pub record IsDone (reader : Reader) : Type 0 where
+pub record IsReaderDone (reader : Reader) : Type 0 where
   pub none : reader.held ≡ None
   pub over : is_over reader.stage ≡ true
 
@@ -20,10 +20,10 @@ pub record ReaderGoes {S : Type 0} (left : S → Option (List ℕ)) (faults : S 
   pub made : messages_of now ≡ messages_of was ++ more
   pub is_made : IsMade left faults (length (messages_of was)) source was.stage more source_now now.stage
   pub ring : SameProducer was.ring now.ring
-  pub done : IsDone was → IsDone now
+  pub done : IsReaderDone was → IsReaderDone now
 
 -- Nothing was read or sent.
-pub record IsOpened (opened : Opened) : Type 0 where
+pub record IsReaderOpened (opened : Opened) : Type 0 where
   pub none : messages_of opened.reader ≡ []
   pub stage_is : opened.reader.stage ≡ stage.Unopened
   pub untaken : received opened.frames ≡ []

@@ -1,8 +1,8 @@
 //! The card at its seat: its turns, and the loop of its thread.
 ghost use Rattle.std.specs.Prelude.{◌≡◌, ◌<◌, ◌≤◌, ◌⊎◌, [], true, None, IfSome, IsTrue, MatchBool};
-ghost use Rattle.card_feed.specs.{Feed.{IsReady, WantsRecord}, declared.arrived.Arrived.TheVariants.{Nothing}, Turns.{MayArrive}};
+ghost use Rattle.card_feed.specs.{Feed.{IsFeedReady, WantsRecord}, declared.arrived.Arrived.TheVariants.{Nothing}, Turns.{MayArrive}};
 ghost use Rattle.rtrb.specs.Ring.{known_items};
-ghost use Rattle.capture_beside.specs.Cards.{CardDid, CardGoes, CardLooks, CardTakes, Waits};
+ghost use Rattle.capture_beside.specs.Cards.{CardDid, CardGoes, CardLooks, CardTakes, FeedWaits};
 
 use crate::carried::{Carried, InOrder};
 use crate::pace::Pace;
@@ -52,7 +52,7 @@ fn see_leave(card: &mut CardLane<'_>) -> bool
 
 /// Whether no frame is taken now: one is at hand, notes are pending, or the reading has ended.
 fn waits(card: &CardLane<'_>) -> bool
-    ensures { MatchBool result (Waits card.now.feed) (WantsRecord card.now.feed) }
+    ensures { MatchBool result (FeedWaits card.now.feed) (WantsRecord card.now.feed) }
 {
     card.feed.at_hand() || card.feed.ended() || card.feed.pending() > 0
 }
@@ -61,7 +61,8 @@ fn waits(card: &CardLane<'_>) -> bool
 fn arrive(card: &mut CardLane<'_>) -> Arrived
     ensures may { MayArrive card.new.feed result }
     ensures takes { CardTakes card.old card.new result }
-    ensures cause { result ≡ Nothing → Waits card.old.feed ⊎ (known_items card.new.frames ≡ []) }
+    ensures cause { result ≡ Nothing → FeedWaits card.old.feed
+        ⊎ (known_items card.new.frames ≡ []) }
 {
     if waits(card) {
         return Arrived::Nothing;
@@ -78,7 +79,7 @@ fn arrive(card: &mut CardLane<'_>) -> Arrived
 
 /// A turn of the card, unless it is over. `false` says that nothing was done.
 pub fn card_turn<G: Gate>(gate: &G, card: &mut CardLane<'_>) -> bool
-    requires ready { IsReady card.old.feed card.old.seat.side.view }
+    requires ready { IsFeedReady card.old.feed card.old.seat.side.view }
     ensures goes { CardGoes card.old card.new }
     ensures did { IsTrue result → CardDid card.old card.new }
 {
@@ -94,7 +95,7 @@ pub fn card_turn<G: Gate>(gate: &G, card: &mut CardLane<'_>) -> bool
 
 /// A turn of the card for which nothing has come.
 fn quiet_turn<G: Gate>(gate: &G, pace: &mut Pace, card: &mut CardLane<'_>) -> bool
-    requires ready { IsReady card.old.feed card.old.seat.side.view }
+    requires ready { IsFeedReady card.old.feed card.old.seat.side.view }
     ensures goes { CardGoes card.old card.new }
     ensures did { IsTrue result → CardDid card.old card.new }
 {
@@ -108,7 +109,7 @@ fn quiet_turn<G: Gate>(gate: &G, pace: &mut Pace, card: &mut CardLane<'_>) -> bo
 
 /// How many fresh buffers the next frame needs, where one is there.
 fn next_needs(card: &mut CardLane<'_>) -> Option<u32>
-    requires ready { IsReady card.old.feed card.old.seat.side.view }
+    requires ready { IsFeedReady card.old.feed card.old.seat.side.view }
     ensures goes { CardGoes card.old card.new }
     ensures few { IfSome result (λ needed. needed ≤ 64) }
 {
@@ -138,7 +139,7 @@ fn went_by(did: bool) -> Went {
 /// Looks for so many buffers. `false` says that they aren't there, and that an application may have some on their way back: since
 /// the card asked it hasn't had a turn with nothing to do.
 fn look_for(beside: &Loops, pace: &mut Pace, needed: u32, card: &mut CardLane<'_>) -> bool
-    requires ready { IsReady card.old.feed card.old.seat.side.view }
+    requires ready { IsFeedReady card.old.feed card.old.seat.side.view }
     requires few { needed ≤ 64 }
     ensures goes { CardGoes card.old card.new }
 {
@@ -152,7 +153,7 @@ fn look_for(beside: &Loops, pace: &mut Pace, needed: u32, card: &mut CardLane<'_
 
 /// Whether a frame that needs so many buffers may be offered. Where they may not be free the card looks for them first.
 fn may_offer(beside: &Loops, pace: &mut Pace, needed: u32, card: &mut CardLane<'_>) -> bool
-    requires ready { IsReady card.old.feed card.old.seat.side.view }
+    requires ready { IsFeedReady card.old.feed card.old.seat.side.view }
     requires few { needed ≤ 64 }
     ensures goes { CardGoes card.old card.new }
 {
@@ -170,7 +171,7 @@ fn offering_turn<G: Gate>(
     needed: u32,
     card: &mut CardLane<'_>,
 ) -> Went
-    requires ready { IsReady card.old.feed card.old.seat.side.view }
+    requires ready { IsFeedReady card.old.feed card.old.seat.side.view }
     requires few { needed ≤ 64 }
     ensures goes { CardGoes card.old card.new }
 {
@@ -196,7 +197,7 @@ pub fn paced_turn<G: Gate>(
     pace: &mut Pace,
     card: &mut CardLane<'_>,
 ) -> Went
-    requires ready { IsReady card.old.feed card.old.seat.side.view }
+    requires ready { IsFeedReady card.old.feed card.old.seat.side.view }
     ensures goes { CardGoes card.old card.new }
 {
     if card.feed.ended() || card.feed.at_hand() {
@@ -220,7 +221,7 @@ fn card_turns<G: Gate, R: Wait>(
     pace: &mut Pace,
     card: &mut CardLane<'_>,
 ) -> bool
-    requires ready { IsReady card.old.feed card.old.seat.side.view }
+    requires ready { IsFeedReady card.old.feed card.old.seat.side.view }
     ensures goes { CardGoes card.old card.new }
 {
     let backoff = Backoff::new();
@@ -243,7 +244,7 @@ fn card_turns<G: Gate, R: Wait>(
 
 /// The turns of the card, until it is over, nothing is done in many, or all loops end.
 fn card_loop<G: Gate, R: Wait>(rt: &R, gate: &G, beside: &Loops, free: u32, card: &mut CardLane<'_>)
-    requires ready { IsReady card.old.feed card.old.seat.side.view }
+    requires ready { IsFeedReady card.old.feed card.old.seat.side.view }
     ensures goes { CardGoes card.old card.new }
 {
     let mut pace = Pace::new(free);
@@ -267,7 +268,7 @@ pub fn run_card<G: Gate, R: Wait>(
     free: u32,
     card: &mut CardLane<'_>,
 )
-    requires ready { IsReady card.old.feed card.old.seat.side.view }
+    requires ready { IsFeedReady card.old.feed card.old.seat.side.view }
     ensures goes { CardGoes card.old card.new }
 {
     if !beside.all_begin(rt, card.seat.apps()) {

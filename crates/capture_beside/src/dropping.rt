@@ -1,7 +1,7 @@
 //! What was sent and not taken.
 ghost use Rattle.std.specs.Prelude.{◌≡◌, ◌+◌, ◌<◌, true, ◌++◌, length};
 ghost use Rattle.rtrb.specs.Ring.{IsPair, known_items, received, sent};
-ghost use Rattle.card_feed.specs.{Coming.{is_over}, Feed.{IsReady}};
+ghost use Rattle.card_feed.specs.{Coming.{is_over}, Feed.{IsFeedReady}};
 ghost use Rattle.capture_beside.specs.{Cards.{CardDrops, CardGoes}, Reader.{messages_of}};
 
 use crate::card::CardLane;
@@ -23,7 +23,7 @@ fn drop_next(card: &mut CardLane<'_>)
 pub fn drop_rest(reader: &mut Reader, card: &mut CardLane<'_>)
     requires pair { IsPair reader.old.ring card.old.frames }
     requires over { is_over card.old.feed.stage ≡ true }
-    requires ready { IsReady card.old.feed card.old.seat.side.view }
+    requires ready { IsFeedReady card.old.feed card.old.seat.side.view }
     ensures made { messages_of reader.new ≡ messages_of reader.old }
     ensures all { received card.new.frames ≡ sent reader.new.ring }
     ensures feed { card.new.feed ≡ card.old.feed }

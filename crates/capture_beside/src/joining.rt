@@ -1,5 +1,5 @@
 //! The loops of the reading and of the card, side by side.
-ghost use Rattle.card_feed.specs.Feed.{IsReady};
+ghost use Rattle.card_feed.specs.Feed.{IsFeedReady};
 ghost use Rattle.capture_beside.specs.{Cards.{CardGoes}, Reader.{ReaderGoes}};
 
 use crate::card::{CardLane, run_card};
@@ -20,7 +20,7 @@ pub fn join_reading<S: Source + Send, G: Gate + Sync, R: Threads + Wait + Sync>(
     reader: &mut Reader,
     card: &mut CardLane<'_>,
 )
-    requires ready { IsReady card.old.feed card.old.seat.side.view }
+    requires ready { IsFeedReady card.old.feed card.old.seat.side.view }
     ensures reader { ReaderGoes S.left S.faults source.old source.new reader.old reader.new }
     ensures card { CardGoes card.old card.new }
 {
@@ -28,7 +28,7 @@ pub fn join_reading<S: Source + Send, G: Gate + Sync, R: Threads + Wait + Sync>(
         rt,
         &mut || run_reader(rt, beside, source, reader),
         &mut ||
-            requires { IsReady card.now.feed card.now.seat.side.view }
+            requires { IsFeedReady card.now.feed card.now.seat.side.view }
         { run_card(rt, gate, beside, free, card) },
     );
 }

@@ -30,11 +30,11 @@ pub struct Reader {
 
 impl Reader {
     ghost use Rattle.std.specs.Prelude.{◌↔◌, IsTrue};
-    ghost use Rattle.capture_beside.specs.Reader.{IsDone};
+    ghost use Rattle.capture_beside.specs.Reader.{IsReaderDone};
 
     /// Whether all was read and sent.
     pub fn is_over(&self) -> bool
-        ensures { IsTrue result ↔ IsDone self.now }
+        ensures { IsTrue result ↔ IsReaderDone self.now }
     {
         self.held.is_none() && self.stage.is_over()
     }

@@ -3,7 +3,8 @@ ghost use Rattle.std.specs.Prelude.{◌≡◌, ◌+◌, ◌≤◌, false, List, 
 ghost use Rattle.zr_kinds.specs.Limits.{most_records};
 ghost use Rattle.rtrb.specs.Ring.{sent, SameProducer};
 ghost use Rattle.card_feed.specs.{Coming.{is_over}, Feed.{one_if}};
-ghost use Rattle.capture_beside.specs.{Carried.{MayFollow, is_end, has_end}, Made.{MakesMessage}, Reader.{IsOpened, ReaderGoes}, declared.carried.Carried.{Carried}};
+ghost use Rattle.capture_beside.specs.{Carried.{MayFollow, is_end, has_end}, Made.{MakesMessage}, Reader.{IsReaderOpened, ReaderGoes}};
+ghost use Rattle.capture_beside.specs.declared.carried.Carried.{Carried};
 
 use crate::carried::{Carried, InOrder};
 use crate::reader::Reader;
@@ -31,7 +32,7 @@ pub struct Opened {
 
 /// Makes the rings of a reading.
 pub fn open_reading(alloc: Global) -> Result<Opened, AllocError>
-    ensures { IfOk result IsOpened }
+    ensures { IfOk result IsReaderOpened }
 {
     let (ring, frames) = RingBuffer::with_protocol::<Global, InOrder>(alloc, RINGS)?;
     let (spares, empties) = RingBuffer::new(alloc, RINGS)?;

@@ -2,7 +2,7 @@
 use Rattle.std.proofs.Common.{◌≡◌, ℕ, suc, ◌+◌, ◌^◌, List, [], ◌∷◌, ◌++◌, length, map, filter, append_assoc, length-append, refl}
 use Rattle.std.proofs.Common.{sym, ap, subst, ◌∙◌, ⊎_elim, arith, Bool, true, false, not, nat_lt, if◌then◌else◌, ◌==◌, Option, Some, None, option_map}
 use Rattle.std.{proofs.lemmas.{List.{map-id}, Bool.{eqb-true, eqb-false, ne_eqb, cases_Bool, true≢false}}, specs.{Prelude.{All}, List.{list_any, slice_get}}}
-use Rattle.zr_kinds.specs.CopyingReceiver.{Placed, nothing_placed, next_missing, lead, accepts, brought, first_of, filled, received, front_of}
+use Rattle.zr_kinds.specs.CopyingReceiver.{Placed, nothing_placed, next_missing, lead, accepts, brought, first_of, filled_by_values, received, front_of}
 use Rattle.zr_kinds.proofs.{InOrder.{first_of-nothing}, LeastMissing.{IsBounded-nothing}, Mapped.{MapsPlaced, received-map, front_of-map}}
 use Rattle.board_face.specs.{declared.views.{nic.SentNote.{SentNote}, app.AppView.{AppView}}, Relay.{as_taken, IsAsSent}}
 use Rattle.flow_table.specs.{Steered.{SteeredTcp, first_byte}, CountedPart.{FlowClose, not_closed, closed_by, counted_part}}
@@ -11,7 +11,7 @@ use Rattle.flow_table.proofs.Closes.{close_or, flows_with-close}
 use Rattle.app_worker.specs.Marks.{base_of, marks_of}
 use Rattle.page_pool.specs.Frames.{Offered, ShowFrames}
 use Rattle.flow_queues.specs.Streams.{IsFront}
-use Rattle.card_feed.specs.Offered.{close_of, offered_one, offered_after, has_payload, without}
+use Rattle.card_feed.specs.Offered.{close_of, offered_one, offered_after, has_payload, offers_without}
 use Rattle.card_feed.proofs.NotesShown.{AreOf, IsShownBy, is_shown, passed, of_flow-mine, flow_notes, HaveBytes, Ascend}
 use Rattle.card_feed.proofs.MarksStreamed.{received_offered, front_streamed}
 
@@ -30,7 +30,7 @@ nothing_brought from p = ⊎_elim
     (cases_Bool (nat_lt (p + 2 ^ 31) from))
 
 -- a frame without payload changes nothing that stands
-nothing_if : (b : Bool) (one other : Placed ℕ) (from : ℕ) → IsLike one other → IsLike (if b then filled one from [] else one) other
+nothing_if : (b : Bool) (one other : Placed ℕ) (from : ℕ) → IsLike one other → IsLike (if b then filled_by_values one from [] else one) other
 nothing_if true one other from like = record {
   at = λ p. like.at p ∙ ap (option_map (λ (x : ℕ). x)) (sym (ap (first_of (one.at p)) (nothing_brought from p) ∙ first_of-nothing (one.at p)));
   bounded = record {
@@ -52,7 +52,7 @@ no_bytes (b ∷ bs) is = let some : (length (b ∷ bs) == 0) ≡ false = ne_eqb 
 
 -- the frames of a flow among those that are offered and not left out
 abbrev pub mine_of : ℕ → List ℕ → List Offered → List Offered
-mine_of number left_out offered = filter (λ o. o.flow == number) (without left_out (filter has_payload offered))
+mine_of number left_out offered = filter (λ o. o.flow == number) (offers_without left_out (filter has_payload offered))
 
 -- ---- how a flow was closed, so far
 

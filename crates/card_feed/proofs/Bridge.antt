@@ -6,7 +6,8 @@ use Rattle.flow_table.specs.Stream.{stream_of}
 use Rattle.frames_read.specs.Ending.{steered_in}
 use Rattle.board_face.specs.Holders.{sent_to}
 use Rattle.page_pool.specs.Frames.{Offered}
-use Rattle.card_feed.specs.{Offered.{offered_after, offers_of, has_payload, without}, Account.{offered_to, IsFlowRead, IsStreamedTo, AccountsGiveStreams, kept_in}}
+use Rattle.card_feed.specs.{Offered.{offered_after, offers_of, has_payload, offers_without}, Account.{offered_to, IsFlowRead, IsStreamedTo, AccountsGiveStreams}}
+use Rattle.card_feed.specs.Account.{kept_in}
 use Rattle.card_feed.proofs.{OffersRise.{RiseFrom, rise-filter, offers-rise}, NotesShown.{AreAbove, Ascend, HaveBytes}, Accounted.{stream_accounted}}
 use Rattle.card_feed.proofs.OfFlow.{AreOfFlow, AreOfFlow-filter, flow-frames, app-filter, first-base}
 
@@ -40,7 +41,7 @@ pub give_streams : {T : Type 0} (kept : T → ℕ → Option (List ℕ)) → Acc
 give_streams kept shelves shelves_now plan frames left_out nic apps lines strays accounts number flow app line known here told reads =
     let ports : List ℕ = plan.ports.items in
     let own = accounts.app flow.app app line here told in
-    let all : List Offered = without left_out (offers_of (steered_in ports frames)) in
+    let all : List Offered = offers_without left_out (offers_of (steered_in ports frames)) in
     let os : List Offered = offered_to flow.app left_out (steered_in ports frames) in
     let rises : RiseFrom 1 os = rise-filter _ 1 all (rise-filter _ 1 _ (offers-rise ports frames)) in
     let bytes : HaveBytes os = HaveBytes-filter _ all (HaveBytes-filter _ _ (payloads (offered_after [] (steered_in ports frames)))) in

@@ -8,7 +8,7 @@ use Rattle.page_pool.specs.{declared.offer.Offer.{Offer}, Frames.{Offered, offer
 use Rattle.page_pool.specs.{Searching.{CountsEnd, LooksAhead, joint_end}, Pool.{PoolState, Closes}}
 use Rattle.page_pool.specs.declared.search_end.SearchEnd.{SearchEnd, TheVariants.{Fast, Refill, Slow, Empty}}
 use Rattle.page_pool.specs.Offer.{payload_of, needed_for, LooksFor, not_needed, searched, Accepts, Refuses}
-use Rattle.card_feed.{specs.Counts.{capped, is_long, long_in, searches_in, AreCounted}, proofs.PlayLemmas.{closed-dealt}}
+use Rattle.card_feed.{specs.Counts.{capped, is_long, long_in, searches_in, AreOffersCounted}, proofs.PlayLemmas.{closed-dealt}}
 
 -- each count fits its type
 pub record AreInType (stats : PoolStats) : Type 0 where
@@ -141,8 +141,8 @@ needs-long split was old o split_is some = ⊎_elim
 -- ---- the counts, after each part of a turn
 
 module _ (split : ℕ) (offers : List Offered) (refused : List ℕ) where
-  pub counted-read : (next : Option Offered) (dealt : List Dealt) (stats : PoolStats) → AreCounted split offers refused None dealt stats
-      → AreCounted split (offers ++ option_to_list next) refused next dealt stats
+  pub counted-read : (next : Option Offered) (dealt : List Dealt) (stats : PoolStats) → AreOffersCounted split offers refused None dealt stats
+      → AreOffersCounted split (offers ++ option_to_list next) refused next dealt stats
   counted-read next dealt stats counted = record {
     searches = omega (arith, counted.searches, long-append split offers (option_to_list next));
     empty = counted.empty;
@@ -150,11 +150,11 @@ module _ (split : ℕ) (offers : List Offered) (refused : List ℕ) where
   }
 
   pub counted-same : (hand : Option Offered) (was now : PoolStats) (before after : List Dealt) → now ≡ was → after ≡ before
-      → AreCounted split offers refused hand before was → AreCounted split offers refused hand after now
+      → AreOffersCounted split offers refused hand before was → AreOffersCounted split offers refused hand after now
   counted-same hand was now before after same dealt counted = rw (same, dealt) counted
 
   pub counted-drained : (hand : Option Offered) (was now : PoolStats) (old new : NicView) (count : ℕ) → AreInType now
-      → DrainsRings was now old new count → AreCounted split offers refused hand old.dealt was → AreCounted split offers refused hand new.dealt now
+      → DrainsRings was now old new count → AreOffersCounted split offers refused hand old.dealt was → AreOffersCounted split offers refused hand new.dealt now
   counted-drained hand was now old new count fits drains counted =
       let others = drains.strays.others in
       record {
@@ -166,8 +166,8 @@ module _ (split : ℕ) (offers : List Offered) (refused : List ℕ) where
 
   -- of a search ahead, which isn't counted yet
   pub counted-looked : (hand : Option Offered) (need : ℕ) (was now : PoolState) (old new : NicView) → AreInType now.stats
-      → LooksAhead need was now old new → AreCounted split offers refused hand old.dealt was.stats
-      → AreCounted split offers refused hand new.dealt now.stats
+      → LooksAhead need was now old new → AreOffersCounted split offers refused hand old.dealt was.stats
+      → AreOffersCounted split offers refused hand new.dealt now.stats
   counted-looked hand need was now old new fits looks counted =
       let others = looks.searches.strays.others in
       record {
@@ -178,8 +178,8 @@ module _ (split : ℕ) (offers : List Offered) (refused : List ℕ) where
       }
 
   module _ (was now : PoolState) (old new : NicView) (o : Offer) (split_is : was.split ≡ split) (fits : AreInType now.stats)
-      (counted : AreCounted split offers refused (Some (offered o)) old.dealt was.stats) where
-    pub counted-accepted : Accepts was now old new o → AreCounted split offers refused None new.dealt now.stats
+      (counted : AreOffersCounted split offers refused (Some (offered o)) old.dealt was.stats) where
+    pub counted-accepted : Accepts was now old new o → AreOffersCounted split offers refused None new.dealt now.stats
     counted-accepted accepts =
         let look = looked (needed_for was old o) (long_in split (offered o ∷ [])) (needs-long split was old o split_is) was.current was.ahead
         was.stats now.stats accepts.flushed accepts.found accepts.how fits accepts.search in
@@ -193,7 +193,7 @@ module _ (split : ℕ) (offers : List Offered) (refused : List ℕ) where
         }
 
     pub counted-refused : (cached need : ℕ) → Refuses was now old new o cached need
-        → AreCounted split offers (refused ++ o.frame ∷ []) None new.dealt now.stats
+        → AreOffersCounted split offers (refused ++ o.frame ∷ []) None new.dealt now.stats
     counted-refused cached need refuses =
         let wants : 0 < need → 1 ≤ long_in split (offered o ∷ []) = λ some. needs-long split was old o split_is (omega (arith, some, refuses.need_is)) in
         let look = looked need (long_in split (offered o ∷ [])) wants was.current was.ahead was.stats now.stats refuses.flushed new

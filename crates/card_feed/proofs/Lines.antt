@@ -5,7 +5,7 @@ use Rattle.std.proofs.lemmas.List.Quantifiers.{position-Some}
 use Rattle.zr_kinds.specs.declared.behaviour.Stopped.TheVariants as stop
 use Rattle.zr_kinds.specs.declared.outcome.{AppLine.{AppLine}, FlowLine.{FlowLine}}
 use Rattle.flow_table.specs.{Flows.{Flow}, Placing.{info_of}, declared.placed.FlowInfo.{FlowInfo}}
-use Rattle.card_feed.specs.{Hand.{HaveApps}, Outcomes.{HavePorts, line_of, AreLinesOf}}
+use Rattle.card_feed.specs.{Hand.{HaveApps}, Outcomes.{HavePorts, line_of_flow, AreLinesOf}}
 
 -- stands where there is no line
 abbrev pub none_line : AppLine
@@ -15,7 +15,7 @@ none_line = record { port = 0; written = 0; loans = 0; copied = 0; stopped = sto
 pub record AreLinesBelow (n : ℕ) (flows : List Flow) (bytes : List ℕ) (lines : List FlowLine) : Type 0 where
   pub many : length lines ≡ n
   pub each : (number : ℕ) (flow : Flow) (count : ℕ) → number < n → slice_get flows number ≡ Some flow → slice_get bytes number ≡ Some count
-      → slice_get lines number ≡ Some (line_of flow count)
+      → slice_get lines number ≡ Some (line_of_flow flow count)
 
 pub told_of : (found : Option Flow) (info : FlowInfo) → option_map info_of found ≡ Some info → (flow : Flow) × (found ≡ Some flow) ×
     (info_of flow ≡ info)
@@ -59,7 +59,7 @@ lines-none flows bytes = record { many = refl; each = λ number flow count below
 
 pub lines-more : (n : ℕ) (flows : List Flow) (bytes : List ℕ) (lines : List FlowLine) (flow : Flow) (count : ℕ) (line : FlowLine)
     → AreLinesBelow n flows bytes lines
-    → slice_get flows n ≡ Some flow → slice_get bytes n ≡ Some count → line ≡ line_of flow count → AreLinesBelow (n + 1) flows bytes
+    → slice_get flows n ≡ Some flow → slice_get bytes n ≡ Some count → line ≡ line_of_flow flow count → AreLinesBelow (n + 1) flows bytes
     (lines ++ line ∷ [])
 lines-more n flows bytes lines flow count line so_far here counted is = record {
   many = length-append lines (line ∷ []) ∙ omega (arith, so_far.many);
@@ -73,7 +73,7 @@ lines-more n flows bytes lines flow count line so_far here counted is = record {
       (cases_lt number n);
 }
   where
-    by : {f : Flow} {k : ℕ} → Some flow ≡ Some f → Some count ≡ Some k → line_of flow count ≡ line_of f k
+    by : {f : Flow} {k : ℕ} → Some flow ≡ Some f → Some count ≡ Some k → line_of_flow flow count ≡ line_of_flow f k
     by same_flow same_count = cc
 
 pub lines-all : (n : ℕ) (flows : List Flow) (bytes : List ℕ) (lines : List FlowLine) → AreLinesBelow n flows bytes lines → length flows ≤ n

@@ -9,8 +9,8 @@ use Rattle.zr_kinds.specs.declared.place.Place.{Place}
 use Rattle.page_pool.specs.{declared.offer.{Offer.{Offer}, Verdict.{Verdict, TheVariants.{NoRoom}}}, Frames.{Offered, offered}, Dealing.{DrainsRings}}
 use Rattle.page_pool.specs.{Packing.{Current, buffers_for, fits, needed}, Pool.{PoolState, all_notes, OnlySends, Closes}}
 use Rattle.page_pool.{specs.Offer.{payload_of, frame_notes, split_notes, packed, needed_for, places_for, Accepts, Refuses, Offers}, proofs.Accepting.{Offers-keep}}
-use Rattle.card_feed.specs.{Offered.{without}, declared.plan.Plan.{Plan}, Need.{need_for, need_of, need_with, bytes_in, AreNeeded, RefusesByNeed}, Plan.{layout_of}}
-use Rattle.card_feed.proofs.Settling.{without-last, without-refused}
+use Rattle.card_feed.specs.{Offered.{offers_without}, declared.plan.Plan.{Plan}, Need.{need_for, need_of, need_with, bytes_in_notes, AreNeeded, RefusesByNeed}}
+use Rattle.card_feed.{specs.Plan.{layout_of}, proofs.Settling.{without-last, without-refused}}
 
 -- ---- what nothing was used by
 
@@ -43,10 +43,10 @@ keeps-setting was now old new o verdict offers = ap (λ (v : NicView). v.setting
 
 -- ---- bytes that travel in notes
 
-bytes-append : (xs ys : List SentNote) → bytes_in (xs ++ ys) ≡ bytes_in xs + bytes_in ys
+bytes-append : (xs ys : List SentNote) → bytes_in_notes (xs ++ ys) ≡ bytes_in_notes xs + bytes_in_notes ys
 bytes-append xs ys = ap unsplit_bytes (map-append (λ (s : SentNote). s.note) xs ys) ∙ sum_by-append _ (map (λ (s : SentNote). s.note) xs) (map (λ (s : SentNote). s.note) ys)
 
-split-bytes : (o : Offer) (at : ℕ) (places : List Place) → bytes_in (split_notes o at places) ≡ 0
+split-bytes : (o : Offer) (at : ℕ) (places : List Place) → bytes_in_notes (split_notes o at places) ≡ 0
 split-bytes o at [] = refl
 split-bytes o at (p ∷ ps) = split-bytes o (at + p.len) ps
 
@@ -58,7 +58,7 @@ needed-most least current len = ⊎_elim
 
 -- what a frame takes and may have copied is within its need
 pub used-most : (was : PoolState) (old : NicView) (o : Offer) (places : List Place)
-    → needed_for was old o + bytes_in (frame_notes was.split o places) ≤ need_for (least_size old.setting.layout) was.split (offered o)
+    → needed_for was old o + bytes_in_notes (frame_notes was.split o places) ≤ need_for (least_size old.setting.layout) was.split (offered o)
 used-most was old o places = ⊎_elim
     (λ (short : nat_le (length (payload_of o)) was.split ≡ true).
     let not_long : nat_lt was.split (length (payload_of o)) ≡ false = le-ltb _ _ (leb-true _ _ short) in
@@ -119,7 +119,7 @@ module _ (layout : Shape) (split : ℕ) (offers : List Offered) (refused : List 
           arith,
           are.spent,
           ap (need_of (least_size layout) split) stays,
-          need-append (least_size layout) split (without refused offers) (o ∷ []),
+          need-append (least_size layout) split (offers_without refused offers) (o ∷ []),
         );
         lacked = both (λ n. pool_buffers layout < need_with (least_size layout) split offers refused n) (λ m. m < o.frame)
             (λ n. pool_buffers layout < need_with (least_size layout) split (offers ++ o ∷ []) refused n)
@@ -127,7 +127,7 @@ module _ (layout : Shape) (split : ℕ) (offers : List Offered) (refused : List 
               arith,
               lacks,
               ap (λ (os : List Offered). need_of (least_size layout) split (filter (λ (p : Offered). nat_lt p.frame n) os)) stays,
-              need-filter (least_size layout) split (λ (p : Offered). nat_lt p.frame n) (without refused offers) (o ∷ []),
+              need-filter (least_size layout) split (λ (p : Offered). nat_lt p.frame n) (offers_without refused offers) (o ∷ []),
               need-filter (least_size layout) split (λ (p : Offered). p.frame == n) offers (o ∷ []),
             ))
             refused are.lacked (below o refl);
@@ -135,9 +135,9 @@ module _ (layout : Shape) (split : ℕ) (offers : List Offered) (refused : List 
 
   module _ (was now : PoolState) (old new : NicView) (o : Offer) (split_is : was.split ≡ split) (layout_is : old.setting.layout ≡ layout)
       (are : AreNeeded layout split offers refused (Some (offered o)) (all_notes was old) old.used) where
-    own-most : (places : List Place) → needed_for was old o + bytes_in (frame_notes was.split o places) ≤ need_for (least_size layout) split (offered o)
-    own-most places = subst (λ s. needed_for was old o + bytes_in (frame_notes was.split o places) ≤ need_for (least_size layout) s (offered o)) split_is
-        (subst (λ l. needed_for was old o + bytes_in (frame_notes was.split o places) ≤ need_for (least_size l) was.split (offered o)) layout_is
+    own-most : (places : List Place) → needed_for was old o + bytes_in_notes (frame_notes was.split o places) ≤ need_for (least_size layout) split (offered o)
+    own-most places = subst (λ s. needed_for was old o + bytes_in_notes (frame_notes was.split o places) ≤ need_for (least_size layout) s (offered o)) split_is
+        (subst (λ l. needed_for was old o + bytes_in_notes (frame_notes was.split o places) ≤ need_for (least_size l) was.split (offered o)) layout_is
         (used-most was old o places))
 
     -- it was accepted
@@ -152,7 +152,7 @@ module _ (layout : Shape) (split : ℕ) (offers : List Offered) (refused : List 
             ap length accepts.used,
             length-append old.used accepts.buffers,
             accepts.few,
-            ap bytes_in accepts.notes,
+            ap bytes_in_notes accepts.notes,
             bytes-append (all_notes was old) (frame_notes was.split o places),
           );
           lacked = are.lacked;
@@ -164,24 +164,27 @@ module _ (layout : Shape) (split : ℕ) (offers : List Offered) (refused : List 
         → AreNeeded layout split offers (refused ++ o.frame ∷ []) None (all_notes now new) new.used
     needed-refused cached need settled offers_are below below_refused refuses =
         let least : ℕ = least_size layout in
-        let gone : without (refused ++ o.frame ∷ []) offers ≡ without refused settled =
-        subst (λ os. without (refused ++ o.frame ∷ []) os ≡ without refused settled) offers_are (without-refused refused settled (offered o) below) in
-        let stays : without refused offers ≡ without refused settled ++ offered o ∷ [] =
-        subst (λ os. without refused os ≡ without refused settled ++ offered o ∷ []) offers_are (without-last refused settled (offered o) below_refused) in
-        let before : need_of least split (without refused offers) ≡ need_of least split (without refused settled) + need_for least split (offered o) =
-        omega (arith, ap (need_of least split) stays, need-append least split (without refused settled) (offered o ∷ [])) in
+        let gone : offers_without (refused ++ o.frame ∷ []) offers ≡ offers_without refused settled =
+        subst (λ os. offers_without (refused ++ o.frame ∷ []) os ≡ offers_without refused settled) offers_are
+        (without-refused refused settled (offered o) below) in
+        let stays : offers_without refused offers ≡ offers_without refused settled ++ offered o ∷ [] =
+        subst (λ os. offers_without refused os ≡ offers_without refused settled ++ offered o ∷ []) offers_are
+        (without-last refused settled (offered o) below_refused) in
+        let before : need_of least split (offers_without refused offers)
+        ≡ need_of least split (offers_without refused settled) + need_for least split (offered o) =
+        omega (arith, ap (need_of least split) stays, need-append least split (offers_without refused settled) (offered o ∷ [])) in
         let used : new.used ≡ old.used = refuses.used in
         let notes : all_notes now new ≡ all_notes was old = refuses.notes in
         let layout_now : new.setting.layout ≡ layout =
         ap (λ (s : Setting). s.layout) (keeps-setting was now old new o (NoRoom cached need) refuses) ∙ layout_is in
         let sent : all_notes now new ≡ new.sent = rw refuses.pool (append-nil new.sent) in
-        let within : pool_buffers layout ≤ cached + length old.used + bytes_in (all_notes was old) =
-        omega (arith, refuses.within, ap pool_buffers layout_now, ap length used, ap bytes_in sent, ap bytes_in notes) in
-        let spent_before : length old.used + bytes_in (all_notes was old) ≤ need_of least split (without refused settled) =
+        let within : pool_buffers layout ≤ cached + length old.used + bytes_in_notes (all_notes was old) =
+        omega (arith, refuses.within, ap pool_buffers layout_now, ap length used, ap bytes_in_notes sent, ap bytes_in_notes notes) in
+        let spent_before : length old.used + bytes_in_notes (all_notes was old) ≤ need_of least split (offers_without refused settled) =
         omega (arith, are.spent, before) in
         let own : need ≤ need_for least split (offered o) = omega (arith, own-most [], refuses.need_is) in
         record {
-          spent = omega (arith, spent_before, ap length used, ap bytes_in notes, ap (need_of least split) gone);
+          spent = omega (arith, spent_before, ap length used, ap bytes_in_notes notes, ap (need_of least split) gone);
           lacked = All-push (λ n. pool_buffers layout < need_with least split offers (refused ++ o.frame ∷ []) n) refused o.frame
               (both (λ n. pool_buffers layout < need_with least split offers refused n) (λ m. m < o.frame)
               (λ n. pool_buffers layout < need_with least split offers (refused ++ o.frame ∷ []) n)
@@ -190,7 +193,7 @@ module _ (layout : Shape) (split : ℕ) (offers : List Offered) (refused : List 
                 lacks,
                 ap (λ (os : List Offered). need_of least split (filter (λ (p : Offered). nat_lt p.frame n) os)) gone,
                 ap (λ (os : List Offered). need_of least split (filter (λ (p : Offered). nat_lt p.frame n) os)) stays,
-                need-filter least split (λ (p : Offered). nat_lt p.frame n) (without refused settled) (offered o ∷ []),
+                need-filter least split (λ (p : Offered). nat_lt p.frame n) (offers_without refused settled) (offered o ∷ []),
                 need-behind least split n (offered o) less,
               ))
               refused are.lacked below_refused)
@@ -201,7 +204,7 @@ module _ (layout : Shape) (split : ℕ) (offers : List Offered) (refused : List 
                 own,
                 refuses.too_few,
                 ap (λ (os : List Offered). need_of least split (filter (λ (p : Offered). nat_lt p.frame o.frame) os)) gone,
-                need-before least split o.frame (without refused settled) (All-filter _ (λ (p : Offered). p.frame < o.frame) settled below),
+                need-before least split o.frame (offers_without refused settled) (All-filter _ (λ (p : Offered). p.frame < o.frame) settled below),
                 ap (λ (os : List Offered). need_of least split (filter (λ (p : Offered). p.frame == o.frame) os)) (sym offers_are),
                 need-filter least split (λ (p : Offered). p.frame == o.frame) settled (offered o ∷ []),
                 need-own least split (offered o),
@@ -225,7 +228,7 @@ need-with-most least split refused n [] = omega arith
 need-with-most least split refused n (o ∷ os) =
     let rest = need-with-most least split refused n os in
     let all = need-cons least split o os in
-    let earlier : List Offered = filter (λ (p : Offered). nat_lt p.frame n) (without refused os) in
+    let earlier : List Offered = filter (λ (p : Offered). nat_lt p.frame n) (offers_without refused os) in
     let own : List Offered = filter (λ (p : Offered). p.frame == n) os in
     ⊎_elim
     (λ (gone : list_any (λ m. m == o.frame) refused ≡ true). rw gone (⊎_elim

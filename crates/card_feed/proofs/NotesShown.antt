@@ -5,7 +5,7 @@ use Rattle.std.proofs.lemmas.Bool.{eq-eqb, ne_eqb, eqb-true, eqb-false, cases_Bo
 use Rattle.std.proofs.{lemmas.List.{append-nil, map-append, take-append-drop, length-take, length-drop}, Math.Seq.{drop-nil, drop-length}}
 use Rattle.board_face.specs.{Shown.{bytes_sent}, Relay.{as_taken}, declared.views.nic.SentNote.{SentNote}}
 use Rattle.zr_kinds.specs.CopyingReceiver.{value_at}
-use Rattle.app_worker.specs.Marks.{Mark, Frame, Numbered, marks_from, numbered, of_flow, with_note, frames_of}
+use Rattle.app_worker.specs.Marks.{Mark, Frame, NumberedNote, marks_from, numbered_notes, notes_of_flow, frames_with_note, frames_of_notes}
 use Rattle.page_pool.specs.Frames.{Offered, IsNoteOf, ShowRest, ShowsWhole, ShowsFrame, ShowFrames}
 
 -- the byte at a mark, of the notes that were sent
@@ -85,35 +85,36 @@ abbrev pub frame_of : Offered → List Mark → Frame
 frame_of o marks = record { number = o.frame; seq = o.seq; total = length o.payload; marks = marks }
 
 begins : (o : Offered) (s : SentNote) (k : ℕ) (fs : List Frame) → IsNoteOf o s → IsNotFirst o.frame fs
-    → with_note (record { number = k; note = s.note }) fs ≡ frame_of o (marks_from k 0 s.note.place.len) ∷ fs
+    → frames_with_note (record { number = k; note = s.note }) fs ≡ frame_of o (marks_from k 0 s.note.place.len) ∷ fs
 begins o s k [] of_o none = rw (of_o.frame, of_o.seq, of_o.total) refl
 begins o s k (f ∷ fs) of_o other = let test = ne_eqb f.number o.frame other in rw (of_o.frame, test, of_o.seq, of_o.total) refl
 
 goes_on : (o : Offered) (s : SentNote) (k : ℕ) (marks : List Mark) (fs : List Frame) → IsNoteOf o s
-    → with_note (record { number = k; note = s.note }) (frame_of o marks ∷ fs) ≡ frame_of o (marks_from k 0 s.note.place.len ++ marks) ∷ fs
+    → frames_with_note (record { number = k; note = s.note }) (frame_of o marks ∷ fs) ≡ frame_of o (marks_from k 0 s.note.place.len ++ marks) ∷ fs
 goes_on o s k marks fs of_o = let test = eq-eqb o.frame o.frame refl in rw (of_o.frame, test) refl
 
 -- the notes of a flow among those that were sent, the first of which is the k-th
-abbrev pub flow_notes : ℕ → ℕ → List SentNote → List Numbered
-flow_notes flow k notes = of_flow flow (numbered k (map as_taken notes))
+abbrev pub flow_notes : ℕ → ℕ → List SentNote → List NumberedNote
+flow_notes flow k notes = notes_of_flow flow (numbered_notes k (map as_taken notes))
 
 pub of_flow-mine : (o : Offered) (s : SentNote) (k : ℕ) (notes : List SentNote) → IsNoteOf o s → flow_notes o.flow k
     (s ∷ notes) ≡ record { number = k; note = s.note } ∷ flow_notes o.flow (suc k) notes
 of_flow-mine o s k notes of_o = let mine = eq-eqb s.note.flow o.flow of_o.flow in rw mine refl
 
 merged : (o : Offered) (s : SentNote) (ss rest : List SentNote) (k : ℕ) → AreOf o (s ∷ ss) → IsNotFirst o.frame
-    (frames_of (flow_notes o.flow (k + length (s ∷ ss)) rest))
-    → frames_of (flow_notes o.flow k ((s ∷ ss) ++ rest)) ≡ frame_of o (marks_in k (s ∷ ss)) ∷ frames_of
+    (frames_of_notes (flow_notes o.flow (k + length (s ∷ ss)) rest))
+    → frames_of_notes (flow_notes o.flow k ((s ∷ ss) ++ rest)) ≡ frame_of o (marks_in k (s ∷ ss)) ∷ frames_of_notes
     (flow_notes o.flow (k + length (s ∷ ss)) rest)
 merged o s [] rest k of_o other =
     let next : k + 1 ≡ suc k = omega arith in
-    let none : IsNotFirst o.frame (frames_of (flow_notes o.flow (suc k) rest)) = rw next at other in
-    ap frames_of (of_flow-mine o s k rest of_o.0) ∙ begins o s k (frames_of (flow_notes o.flow (suc k) rest)) of_o.0 none ∙ rw (next, append-nil) refl
+    let none : IsNotFirst o.frame (frames_of_notes (flow_notes o.flow (suc k) rest)) = rw next at other in
+    ap frames_of_notes (of_flow-mine o s k rest of_o.0) ∙ begins o s k (frames_of_notes (flow_notes o.flow (suc k) rest)) of_o.0 none
+    ∙ rw (next, append-nil) refl
 merged o s (t ∷ ts) rest k of_o other =
     let next : k + suc (suc (length ts)) ≡ suc k + suc (length ts) = omega arith in
     let later = merged o t ts rest (suc k) of_o.1 (rw next at other) in
-    ap frames_of (of_flow-mine o s k ((t ∷ ts) ++ rest) of_o.0) ∙ ap (with_note (record { number = k; note = s.note })) later
-    ∙ goes_on o s k (marks_in (suc k) (t ∷ ts)) (frames_of (flow_notes o.flow (suc k + length (t ∷ ts)) rest)) of_o.0 ∙ rw next refl
+    ap frames_of_notes (of_flow-mine o s k ((t ∷ ts) ++ rest) of_o.0) ∙ ap (frames_with_note (record { number = k; note = s.note })) later
+    ∙ goes_on o s k (marks_in (suc k) (t ∷ ts)) (frames_of_notes (flow_notes o.flow (suc k + length (t ∷ ts)) rest)) of_o.0 ∙ rw next refl
 
 -- the notes of another flow don't count
 pub passed : (o : Offered) (flow : ℕ) (mine rest : List SentNote) (k : ℕ) → AreOf o mine → o.flow ≢ flow → flow_notes flow k
@@ -210,8 +211,8 @@ not-first all n (f ∷ fs) (o ∷ os) above same = λ first.
 
 -- a frame of this flow comes first
 frame_first : (o : Offered) (os : List Offered) (all mine rest : List SentNote) (k : ℕ) → IsShownBy o k mine all → AreAbove o.frame os
-    → map (shown_by all) (frames_of (flow_notes o.flow (k + length mine) rest)) ≡ map shown_of (filter (λ p. p.flow == o.flow) os)
-    → map (shown_by all) (frames_of (flow_notes o.flow k (mine ++ rest))) ≡ shown_of o ∷ map shown_of (filter (λ p. p.flow == o.flow) os)
+    → map (shown_by all) (frames_of_notes (flow_notes o.flow (k + length mine) rest)) ≡ map shown_of (filter (λ p. p.flow == o.flow) os)
+    → map (shown_by all) (frames_of_notes (flow_notes o.flow k (mine ++ rest))) ≡ shown_of o ∷ map shown_of (filter (λ p. p.flow == o.flow) os)
 frame_first o os all mine rest k shown above later =
     let s : SentNote = shown.first in
     let ss : List SentNote = shown.others in
@@ -219,18 +220,18 @@ frame_first o os all mine rest k shown above later =
     let of_frame : AreOf o (s ∷ ss) = rw are at shown.of_frame in
     let bytes : map (byte_at all) (marks_in k (s ∷ ss)) ≡ o.payload = rw are at shown.bytes in
     let there = rw are at later in
-    let other : IsNotFirst o.frame (frames_of (flow_notes o.flow (k + length (s ∷ ss)) rest)) =
+    let other : IsNotFirst o.frame (frames_of_notes (flow_notes o.flow (k + length (s ∷ ss)) rest)) =
     not-first all o.frame _ (filter (λ p. p.flow == o.flow) os) (above-filter (λ p. p.flow == o.flow) o.frame os above) there in
     rw are
     (ap (λ fs. map (shown_by all) fs) (merged o s ss rest k of_frame other)
     ∙ ap (λ bs. record { number = o.frame; seq = o.seq; total = length o.payload; bytes = bs } ∷ map (shown_by all)
-    (frames_of (flow_notes o.flow (k + length (s ∷ ss)) rest))) bytes
+    (frames_of_notes (flow_notes o.flow (k + length (s ∷ ss)) rest))) bytes
     ∙ ap (λ others. shown_of o ∷ others) there)
 
 -- Notes that show frames have, of each flow, the frames of that flow, with their bytes.
 pub frames_shown : (split flow : ℕ) (os : List Offered) (all before notes : List SentNote) → all ≡ before ++ notes → ShowFrames split os notes
     → Ascend os → HaveBytes os
-    → map (shown_by all) (frames_of (flow_notes flow (length before) notes)) ≡ map shown_of (filter (λ o. o.flow == flow) os)
+    → map (shown_by all) (frames_of_notes (flow_notes flow (length before) notes)) ≡ map shown_of (filter (λ o. o.flow == flow) os)
 frames_shown split flow [] all before notes is shows ascend some = rw shows refl
 frames_shown split flow (o ∷ os) all before notes is shows ascend some =
     let mine : List SentNote = shows.0 in
@@ -243,8 +244,8 @@ frames_shown split flow (o ∷ os) all before notes is shows ascend some =
     rw parts (⊎_elim
     (λ (is_mine : (o.flow == flow) ≡ true).
     let same : flow ≡ o.flow = sym (eqb-true o.flow flow is_mine) in
-    rw is_mine (subst (λ f. map (shown_by all) (frames_of (flow_notes f (length before + length mine) rest)) ≡ map shown_of (filter (λ p. p.flow == f) os)
-    → map (shown_by all) (frames_of (flow_notes f (length before) (mine ++ rest))) ≡ shown_of o ∷ map shown_of (filter (λ p. p.flow == f) os))
+    rw is_mine (subst (λ f. map (shown_by all) (frames_of_notes (flow_notes f (length before + length mine) rest)) ≡ map shown_of (filter (λ p. p.flow == f) os)
+    → map (shown_by all) (frames_of_notes (flow_notes f (length before) (mine ++ rest))) ≡ shown_of o ∷ map shown_of (filter (λ p. p.flow == f) os))
     (sym same) (frame_first o os all mine rest (length before) shown ascend.0) later))
     (λ (not_mine : (o.flow == flow) ≡ false).
     rw (not_mine, passed o flow mine rest (length before) shown.of_frame (λ same. eqb-false o.flow flow not_mine same)) later)

@@ -7,7 +7,7 @@ use Rattle.flow_table.specs.Flows.{Flow, flows_of, flows_with, flows_after, numb
 use Rattle.flow_table.proofs.FlowLaws.{HaveApps, flows_with-keeps, flows_with-grow, flows_with-app, flows_with-apps}
 use Rattle.page_pool.specs.Frames.{Offered}
 use Rattle.frames_read.specs.Ending.{steered_in}
-use Rattle.card_feed.specs.Offered.{base_of, offered_after}
+use Rattle.card_feed.specs.Offered.{flow_base, offered_after}
 
 -- ---- steered segments go to the application of their port
 
@@ -78,7 +78,7 @@ of_flow ports flows (s ∷ ss) number flow have are last =
       λ same.
           let kept = stays after ss mine own flow own_is (rw (sym same) at last) in
           let app : own.app ≡ s.app = flows_with-app ports flows s own are.0 have own_is in
-          let base : base_of (slice_get after mine) ≡ own.base = rw own_is refl in
+          let base : flow_base (slice_get after mine) ≡ own.base = rw own_is refl in
           (sym (kept.app_is ∙ app), base ∙ sym kept.base_is),
       of_flow ports after ss number flow (flows_with-apps ports flows s are.0 have) are.1 last,
     )

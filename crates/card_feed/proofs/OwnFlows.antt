@@ -6,7 +6,7 @@ use Rattle.zr_kinds.specs.CopyingReceiver.{nothing_placed, next_missing, front_o
 use Rattle.board_face.specs.{Relay.{as_taken}, declared.views.nic.SentNote.{SentNote}}
 use Rattle.flow_table.specs.{Steered.{SteeredTcp}, Flows.{Flow, flows_with, flows_after, number_of_flow}}
 use Rattle.flow_table.proofs.FlowLaws.{HaveApps, flows_with-keeps, flows_with-grow, flows_with-app, flows_with-apps}
-use Rattle.app_worker.specs.Marks.{Mark, Numbered, numbered, of_flow, frames_of, received_frames, base_of}
+use Rattle.app_worker.specs.Marks.{Mark, NumberedNote, numbered_notes, notes_of_flow, frames_of_notes, received_frames, base_of}
 use Rattle.page_pool.specs.Frames.{Offered, ShowsFrame, ShowFrames}
 use Rattle.card_feed.{specs.{Offered.{offered_after}, Sent.{IsOfOwnFlow, OwnNotesMarkNoOther}}, proofs.{NotesShown.{AreOf, rest-of}, OfFlow.{AreSteered, there}}}
 
@@ -87,7 +87,7 @@ shown-own flows a split (o ∷ os) notes have shows = subst (All (IsOfOwnFlow fl
 -- ---- no mark of another flow
 
 other-none : (flows : List Flow) (a number k : ℕ) (notes : List SentNote) → ((flow : Flow) → slice_get flows number ≡ Some flow → flow.app ≢ a)
-    → All (IsOfOwnFlow flows a) notes → of_flow number (numbered k (map as_taken notes)) ≡ []
+    → All (IsOfOwnFlow flows a) notes → notes_of_flow number (numbered_notes k (map as_taken notes)) ≡ []
 other-none flows a number k [] other own = refl
 other-none flows a number k (s ∷ notes) other own =
     let mine = All-head (IsOfOwnFlow flows a) s notes own in
@@ -101,7 +101,7 @@ no-front = refl
 
 pub own-marks : OwnNotesMarkNoOther
 own-marks flows a notes own number other =
-    ap (λ (ns : List Numbered). front_of (received_frames (base_of ns) nothing_placed (frames_of ns))) (other-none flows a number 0 notes other own)
+    ap (λ (ns : List NumberedNote). front_of (received_frames (base_of ns) nothing_placed (frames_of_notes ns))) (other-none flows a number 0 notes other own)
     ∙ no-front
 
 -- ---- applications

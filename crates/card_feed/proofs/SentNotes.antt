@@ -5,8 +5,8 @@ use Rattle.board_face.specs.{Holders.{sent_to}, Relay.{as_taken, IsProper}, decl
 use Rattle.flow_table.specs.Flows.{Flow, flows_of}
 use Rattle.frames_read.specs.Ending.{steered_in}
 use Rattle.page_pool.specs.{Frames.{Offered, ShowFrames}, Pool.{PoolState, short_note, piece_notes, all_notes}}
-use Rattle.app_worker.specs.Marks.{numbered}
-use Rattle.card_feed.specs.{Offered.{offered_after, offers_of, has_payload, without, Awaits, AreSettled}, Account.{offered_to}}
+use Rattle.app_worker.specs.Marks.{numbered_notes}
+use Rattle.card_feed.specs.{Offered.{offered_after, offers_of, has_payload, offers_without, Awaits, AreSettled}, Account.{offered_to}}
 use Rattle.card_feed.specs.Sent.{IsOfOwnFlow, ShownNotesAreWhole, FeedsSendWhole, ShownNotesAreOwn, FeedsSendOwn, OffersHaveApps}
 use Rattle.card_feed.proofs.{OffersRise.{RiseFrom, rise-filter, offers-rise}, NotesShown.{Ascend, HaveBytes}, OfFlow.{are-steered, no_apps}}
 use Rattle.card_feed.proofs.{Bridge.{ascends, HaveBytes-filter, payloads}, Sharing.{shown-to}, WholeNotes.{LinkTogether, shown-linked, first-linked, proper-whole}}
@@ -42,10 +42,10 @@ module _ (ports : List ℕ) (frames : List (List ℕ)) (a : ℕ) where
     own : HaveOwn (flows_of (steered_in ports frames)) a os
 
   are-good : (left_out : List ℕ) (first more : List Offered) → offers_of (steered_in ports frames) ≡ first ++ more
-      → AreGood (filter (λ o. o.app == a) (without left_out first))
+      → AreGood (filter (λ o. o.app == a) (offers_without left_out first))
   are-good left_out first more is =
       let flows : List Flow = flows_of (steered_in ports frames) in
-      let rest : List Offered = without left_out first in
+      let rest : List Offered = offers_without left_out first in
       let mine : List Offered = filter (λ (o : Offered). o.app == a) rest in
       let rises : RiseFrom 1 mine = rise-filter _ 1 rest (rise-filter _ 1 first (rise-first 1 first more (subst (RiseFrom 1) is (offers-rise ports frames)))) in
       let some : HaveBytes mine = HaveBytes-filter _ rest (HaveBytes-filter _ first (bytes-first first more
@@ -74,17 +74,17 @@ module _ (ports : List ℕ) (frames : List (List ℕ)) (a : ℕ) where
       let first = settled-first hand (offers_of (steered_in ports frames)) settled.settled settled.awaits in
       let pending : List SentNote = short_note pool.short ++ piece_notes pool.pieces nic.view.pieces in
       record {
-        os = filter (λ o. o.app == a) (without refused settled.settled);
+        os = filter (λ o. o.app == a) (offers_without refused settled.settled);
         good = are-good refused settled.settled first.0 first.1;
         pending = filter (λ s. s.app == a) pending;
-        shown = subst (ShowFrames split (filter (λ o. o.app == a) (without refused settled.settled)))
+        shown = subst (ShowFrames split (filter (λ o. o.app == a) (offers_without refused settled.settled)))
             (filter-append (λ (s : SentNote). s.app == a) nic.view.sent pending)
-            (shown-to split a (without refused settled.settled) (all_notes pool nic.view) settled.shown);
+            (shown-to split a (offers_without refused settled.settled) (all_notes pool nic.view) settled.shown);
       }
 
-  sent-linked : (split : ℕ) (sent : List SentNote) → HasSent split sent → LinkTogether (numbered 0 (map as_taken sent))
+  sent-linked : (split : ℕ) (sent : List SentNote) → HasSent split sent → LinkTogether (numbered_notes 0 (map as_taken sent))
   sent-linked split sent has = first-linked (map as_taken sent) (map as_taken has.pending)
-      (subst (λ ns. LinkTogether (numbered 0 ns)) (map-append as_taken sent has.pending)
+      (subst (λ ns. LinkTogether (numbered_notes 0 ns)) (map-append as_taken sent has.pending)
       (shown-linked split has.os (sent ++ has.pending) has.shown has.good.ascend has.good.bytes))
 
 -- ---- the laws

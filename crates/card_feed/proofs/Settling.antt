@@ -7,7 +7,7 @@ use Rattle.std.proofs.lemmas.List.Quantifiers.{all_pairs_push}
 use Rattle.board_face.specs.declared.views.nic.{SentNote.{SentNote}, NicView.{NicView}}
 use Rattle.page_pool.specs.{declared.offer.{Offer.{Offer}, Verdict.TheVariants.{Accepted}}, Frames.{Offered, offered, ShowFrames}, Pool.{PoolState, all_notes}}
 use Rattle.page_pool.{specs.Offer.{payload_of, Accepts, Refuses}, proofs.OffersShown.{offer_shown}}
-use Rattle.card_feed.{specs.Offered.{without, IsLongIn, AreRefused, AreSettled}, proofs.OffersRise.{RiseFrom, below-last}}
+use Rattle.card_feed.{specs.Offered.{offers_without, IsLongIn, AreRefused, AreSettled}, proofs.OffersRise.{RiseFrom, below-last}}
 
 -- ---- numbers that are left out
 
@@ -31,14 +31,14 @@ any-other n k (m ∷ left_out) other = ap (λ b. (m == n) || b) (any-other n k l
 
 -- a frame above all that are left out stays
 pub without-last : (left_out : List ℕ) (settled : List Offered) (o : Offered) → All (λ m. m < o.frame) left_out
-    → without left_out (settled ++ o ∷ []) ≡ without left_out settled ++ o ∷ []
+    → offers_without left_out (settled ++ o ∷ []) ≡ offers_without left_out settled ++ o ∷ []
 without-last left_out settled o below =
     let stays : list_any (λ m. m == o.frame) left_out ≡ false = any-none o.frame left_out below in
     filter-append (λ (p : Offered). not (list_any (λ m. m == p.frame) left_out)) settled (o ∷ [])
-    ∙ ap (λ more. without left_out settled ++ more) (rw stays refl)
+    ∙ ap (λ more. offers_without left_out settled ++ more) (rw stays refl)
 
 without-longer : (left_out : List ℕ) (settled : List Offered) (k : ℕ) → All (λ (p : Offered). p.frame < k) settled
-    → without (left_out ++ k ∷ []) settled ≡ without left_out settled
+    → offers_without (left_out ++ k ∷ []) settled ≡ offers_without left_out settled
 without-longer left_out [] k below = refl
 without-longer left_out (p ∷ settled) k below =
     let less : p.frame < k = All-head (λ (q : Offered). q.frame < k) p settled below in
@@ -48,12 +48,12 @@ without-longer left_out (p ∷ settled) k below =
 
 -- one that is left out goes
 pub without-refused : (left_out : List ℕ) (settled : List Offered) (o : Offered) → All (λ (p : Offered). p.frame < o.frame) settled
-    → without (left_out ++ o.frame ∷ []) (settled ++ o ∷ []) ≡ without left_out settled
+    → offers_without (left_out ++ o.frame ∷ []) (settled ++ o ∷ []) ≡ offers_without left_out settled
 without-refused left_out settled o below =
     let goes : list_any (λ m. m == o.frame) (left_out ++ o.frame ∷ []) ≡ true = any-last o.frame left_out in
     filter-append (λ (p : Offered). not (list_any (λ m. m == p.frame) (left_out ++ o.frame ∷ []))) settled (o ∷ [])
-    ∙ ap (λ more. without (left_out ++ o.frame ∷ []) settled ++ more) (rw goes refl)
-    ∙ append-nil (without (left_out ++ o.frame ∷ []) settled)
+    ∙ ap (λ more. offers_without (left_out ++ o.frame ∷ []) settled ++ more) (rw goes refl)
+    ∙ append-nil (offers_without (left_out ++ o.frame ∷ []) settled)
     ∙ without-longer left_out settled o.frame below
 
 -- ---- the frames that were refused
@@ -135,9 +135,9 @@ module _ (split : ℕ) (offers : List Offered) (refused : List ℕ) where
       refused_are = AreRefused-more split settled.settled refused (offered o) settled.refused_are;
       shown = subst (λ os. ShowFrames split os (all_notes now new))
           (sym (without-last refused settled.settled (offered o) (refused-below split settled.settled refused o.frame below settled.refused_are.each)))
-          (subst (λ s. ShowFrames s (without refused settled.settled ++ offered o ∷ []) (all_notes now new)) (accepts.split ∙ split_is)
-          (offer_shown (without refused settled.settled) was now old new o Accepted accepts
-          (subst (λ s. ShowFrames s (without refused settled.settled) (all_notes was old)) (sym split_is) settled.shown)));
+          (subst (λ s. ShowFrames s (offers_without refused settled.settled ++ offered o ∷ []) (all_notes now new)) (accepts.split ∙ split_is)
+          (offer_shown (offers_without refused settled.settled) was now old new o Accepted accepts
+          (subst (λ s. ShowFrames s (offers_without refused settled.settled) (all_notes was old)) (sym split_is) settled.shown)));
     }
 
     too_long : (cached need : ℕ) → Refuses was now old new o cached need → split < length (payload_of o)

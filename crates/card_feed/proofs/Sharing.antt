@@ -4,7 +4,7 @@ use Rattle.std.proofs.lemmas.{Bool.{cases_Bool, cases_lt, eq-eqb, ne_eqb, eqb-tr
 use Rattle.board_face.specs.declared.views.nic.SentNote.{SentNote}
 use Rattle.page_pool.specs.{Frames.{Offered, ShowRest, ShowsFrame, ShowFrames}, Pool.{all_notes}}
 use Rattle.frames_read.specs.Ending.{steered_in}
-use Rattle.card_feed.specs.{Offered.{without, offers_of, AreSettled}, Account.{ClosedFeedsShow}}
+use Rattle.card_feed.specs.{Offered.{offers_without, offers_of, AreSettled}, Account.{ClosedFeedsShow}}
 
 -- all of these go to the frame's application
 abbrev AreFor : ℕ → List SentNote → Type 0
@@ -58,6 +58,6 @@ closed_show left faults first source ports split frames feed nic stands ready cl
     let settled : AreSettled split (offers_of (steered_in ports frames)) feed.refused None (all_notes feed.pool nic.view) =
     rw (ready.fits.none closed) at stands.knows.settled in
     let notes : all_notes feed.pool nic.view ≡ nic.view.sent = rw (none.short, none.pieces) (append-nil nic.view.sent) in
-    shown-to split a (without feed.refused (offers_of (steered_in ports frames))) nic.view.sent
-    (subst (λ os. ShowFrames split (without feed.refused os) nic.view.sent) settled.awaits
-    (subst (λ ns. ShowFrames split (without feed.refused settled.settled) ns) notes settled.shown))
+    shown-to split a (offers_without feed.refused (offers_of (steered_in ports frames))) nic.view.sent
+    (subst (λ os. ShowFrames split (offers_without feed.refused os) nic.view.sent) settled.awaits
+    (subst (λ ns. ShowFrames split (offers_without feed.refused settled.settled) ns) notes settled.shown))

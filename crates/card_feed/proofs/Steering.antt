@@ -9,7 +9,7 @@ use Rattle.flow_table.specs.{Steered.{SteeredTcp, app_of, steer_to, first_byte},
 use Rattle.flow_table.specs.{Flows.{Flow, number_of_flow, flows_with}, KnownFlows.{KnownFlows}, Placing.{steered_to, number_for, counted_at, counted_for, IsPlaced}}
 use Rattle.flow_table.proofs.FlowLaws.{HaveApps, flows_with-apps}
 use Rattle.frames_read.specs.Ending.{flow_ending}
-use Rattle.card_feed.specs.{Offered.{base_of, close_of, offered_one, has_payload, IsLong}, declared.intake.Route.{Route}, Intake.{Steers}}
+use Rattle.card_feed.specs.{Offered.{flow_base, close_of, offered_one, has_payload, IsLong}, declared.intake.Route.{Route}, Intake.{Steers}}
 
 -- ---- how many bytes count
 
@@ -105,7 +105,7 @@ module _ (old : KnownFlows) (segment : TcpSegment) (number : ℕ) where
       → k ≡ record { ports = ports; flows = flows }
   known_is k ports flows same_ports same_flows = rw (sym same_ports, sym same_flows) refl
 
-  base_there : (found : Option Flow) (base : ℕ) → option_map (λ (f : Flow). f.base) found ≡ Some base → base_of found ≡ base
+  base_there : (found : Option Flow) (base : ℕ) → option_map (λ (f : Flow). f.base) found ≡ Some base → flow_base found ≡ base
   base_there None base is = absurd (cc)
   base_there (Some flow) base is = cc
 
@@ -117,7 +117,7 @@ module _ (old : KnownFlows) (segment : TcpSegment) (number : ℕ) where
       let s : SteeredTcp = steered_to r.app segment number in
       let flows : new.flows ≡ flows_with old.flows s = placed.flows_are number in
       let flow : r.flow ≡ number_of_flow old.flows s = placed.flow_is number in
-      let base : base_of (slice_get (flows_with old.flows s) (number_of_flow old.flows s)) ≡ r.base =
+      let base : flow_base (slice_get (flows_with old.flows s) (number_of_flow old.flows s)) ≡ r.base =
       base_there _ r.base (rw (flows, flow) at placed.base_is) in
       let found : Option Flow = slice_get (flows_with old.flows s) (number_of_flow old.flows s) in
       let counts : counted_at (flows_with old.flows s) (number_of_flow old.flows s) segment ≡ Some r.len = rw (flows, flow) at placed.len_is in

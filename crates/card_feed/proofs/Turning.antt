@@ -9,8 +9,8 @@ use Rattle.frames_read.specs.{Ending.{steered_in}, Reading.{EndsAt}}
 use Rattle.card_feed.specs.{declared.{intake.Intake.{Intake}, arrived.Arrived.{Arrived}}, Coming.{Arrives, ComesTo, is_over}}
 use Rattle.card_feed.specs.{Offered.{offers_of, offer_next, AreSettled, WantsRoom}, Hand.{at_hand}, declared.intake.Route.{Route}}
 use Rattle.card_feed.specs.{Intake.{Knows, OnlyOpens, TakesIn, IsReadable, IsTimely, counts_as}, Feed.{FeedState, FeedKnows, FeedStands, WantsRecord}}
-use Rattle.card_feed.specs.Turns.{ReadsOne, OnlyReads, MayArrive, Receives, Settles, FeedPlays, drains, offers, finishes, rests, KeepsUp, IsAwaiting}
-use Rattle.card_feed.specs.{Turns.{FeedSteps, FeedTurns, HasLooked}, Parts.{feed_of}, Counts.{AreCounted, AreFound, HaveSwept, found_in}, Need.{AreNeeded}}
+use Rattle.card_feed.specs.Turns.{ReadsOne, OnlyReadsFrames, MayArrive, ReceivesArrived, Settles, FeedPlays, drains, offers, finishes, rests, KeepsUp, IsAwaiting}
+use Rattle.card_feed.specs.{Turns.{FeedSteps, FeedTurns, HasLooked}, Parts.{feed_of}, Counts.{AreOffersCounted, AreFound, HaveSwept, found_in}, Need.{AreNeeded}}
 use Rattle.card_feed.proofs.OffersRise.{RiseFrom, offers-rise, offers-more}
 use Rattle.card_feed.proofs.Needing.{AreUnused, unused-trans, sends-unused, drains-unused, closes-unused, needed-read, needed-accepted}
 use Rattle.card_feed.proofs.{Needing.{needed-refused, needed-same, keeps-setting}, Settling.{hand-last, next-last, settled-read, settled-accepted, settled-refused}}
@@ -48,7 +48,7 @@ module _ (ports : List ℕ) (split : ℕ) where
       → FeedKnows ports split frames was old
       → now.ports ≡ was.ports → now.tally ≡ was.tally → now.flows ≡ was.flows → now.pool.split ≡ was.pool.split
       → AreSettled split (offers_of (steered_in ports frames)) now.refused now.at_hand (all_notes now.pool new)
-      → AreCounted split (offers_of (steered_in ports frames)) now.refused now.at_hand new.dealt now.pool.stats
+      → AreOffersCounted split (offers_of (steered_in ports frames)) now.refused now.at_hand new.dealt now.pool.stats
       → AreNeeded new.setting.layout split (offers_of (steered_in ports frames)) now.refused now.at_hand (all_notes now.pool new) new.used
       → AreFound (all_notes now.pool new) now.pool → HaveSwept now.pool new
       → FeedKnows ports split frames now new
@@ -68,7 +68,7 @@ module _ (ports : List ℕ) (split : ℕ) where
       → FeedKnows ports split frames was old
       → now ≡ record was { pool = now.pool } → now.pool.split ≡ was.pool.split → all_notes now.pool new ≡ all_notes was.pool old
       → now.pool.current ≡ was.pool.current → found_in now.pool.stats ≡ found_in was.pool.stats → AreUnused old new
-      → AreCounted split (offers_of (steered_in ports frames)) was.refused was.at_hand new.dealt now.pool.stats → HaveSwept now.pool new
+      → AreOffersCounted split (offers_of (steered_in ports frames)) was.refused was.at_hand new.dealt now.pool.stats → HaveSwept now.pool new
       → FeedKnows ports split frames now new
   same-settled frames was now old new stands same split_same notes current_same found_same unused counted swept =
       settles-feed frames was now old new stands (ap (λ (f : FeedState). f.ports) same)
@@ -82,8 +82,8 @@ module _ (ports : List ℕ) (split : ℕ) where
   -- notes were sent, and the rings drained
   drained-counted : (frames : List (List ℕ)) (was now : FeedState) (pool : PoolState) (old mid new : NicView) (count : ℕ)
       → AreInType now.pool.stats → OnlySends was.pool pool old mid → DrainsRings pool.stats now.pool.stats mid new count
-      → AreCounted split (offers_of (steered_in ports frames)) was.refused was.at_hand old.dealt was.pool.stats
-      → AreCounted split (offers_of (steered_in ports frames)) was.refused was.at_hand new.dealt now.pool.stats
+      → AreOffersCounted split (offers_of (steered_in ports frames)) was.refused was.at_hand old.dealt was.pool.stats
+      → AreOffersCounted split (offers_of (steered_in ports frames)) was.refused was.at_hand new.dealt now.pool.stats
   drained-counted frames was now pool old mid new count fits sends drained counted =
       counted-drained split (offers_of (steered_in ports frames)) was.refused was.at_hand pool.stats now.pool.stats mid new count fits drained
       (counted-same split (offers_of (steered_in ports frames)) was.refused was.at_hand was.pool.stats pool.stats old.dealt mid.dealt
@@ -246,8 +246,8 @@ module _ (ports : List ℕ) (split : ℕ) (frames : List (List ℕ)) (was : Inta
   -- what is known once it was taken
   pub record HasReceived (now : Intake) (came : Arrived) : Type 0 where
     pub more : List (List ℕ)
-    pub receives : Receives split ports (feed_of was pool closed) (feed_of now pool closed) frames more came
-    pub only : OnlyReads (feed_of was pool closed) (feed_of now pool closed)
+    pub receives : ReceivesArrived split ports (feed_of was pool closed) (feed_of now pool closed) frames more came
+    pub only : OnlyReadsFrames (feed_of was pool closed) (feed_of now pool closed)
     pub stands : FeedKnows ports split more (feed_of now pool closed) old
 
   -- nothing more is known but how the reading ended
@@ -396,11 +396,11 @@ module _ {S : Type 0} (left : S → Option (List ℕ)) (faults : S → ℕ) (fir
     opened-goes : is_over opened.stage ≡ false
     opened-goes = on ∙ readable.goes
 
-    read-only : OnlyReads (feed_of was pool closed) steps.taken
+    read-only : OnlyReadsFrames (feed_of was pool closed) steps.taken
     read-only = steps.only ∙ rw (opens.table, opens.refused) refl
 
     reads-one : (came_here : Arrived) → came_here ≢ arrived.Nothing
-        → Receives split ports (feed_of opened pool closed) steps.taken frames steps.more came_here → ReadsOne ports steps.taken frames steps.more
+        → ReceivesArrived split ports (feed_of opened pool closed) steps.taken frames steps.more came_here → ReadsOne ports steps.taken frames steps.more
     reads-one (arrived.Frame r bytes) there (inl takes) =
         inl (bytes.items, takes.more_are, takes.hand, ap is_over takes.stage_is ∙ opened-goes)
     reads-one (arrived.Frame r bytes) there (inr ends) = inr (ends.more_are, ends.hand, ap is_over ends.stage_is)
@@ -408,7 +408,7 @@ module _ {S : Type 0} (left : S → Option (List ℕ)) (faults : S → ℕ) (fir
     reads-one (arrived.Over end) there (more_are, hand, stage_is) = inr (more_are, hand, ap is_over stage_is)
 
     comes-to : (came_here : Arrived) → came_here ≢ arrived.Nothing
-        → Receives split ports (feed_of opened pool closed) steps.taken frames steps.more came_here
+        → ReceivesArrived split ports (feed_of opened pool closed) steps.taken frames steps.more came_here
         → Arrives (WantsRoom split ports) left faults first later ports opened.stage frames came_here
         → ComesTo (WantsRoom split ports) left faults first later ports steps.taken.stage steps.more
     comes-to (arrived.Frame r bytes) there (inl takes) arrives = rw (takes.more_are, takes.stage_is) (arrives.goes takes.goes)
@@ -438,7 +438,7 @@ module _ {S : Type 0} (left : S → Option (List ℕ)) (faults : S → ℕ) (fir
       → FeedTurns left faults first later ports split frames (feed_of was pool closed) end old new
   rest-turns not_readable nothing same stands =
       let received : (steps.taken ≡ feed_of was pool closed) × (steps.more ≡ frames) =
-      (let got : Receives split ports (feed_of opened pool closed) steps.taken frames steps.more arrived.Nothing = rw nothing at steps.receives in
+      (let got : ReceivesArrived split ports (feed_of opened pool closed) steps.taken frames steps.more arrived.Nothing = rw nothing at steps.receives in
       (got.0 ∙ ap (λ i. feed_of i pool closed) same, got.1)) in
       record {
         read = steps.taken;

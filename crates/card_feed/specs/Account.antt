@@ -12,14 +12,14 @@ use Rattle.board_face.specs.declared.views.{nic.NicSide.{NicSide}, app.AppSide.{
 use Rattle.page_pool.specs.{Frames.{Offered, ShowFrames}, Dealing.{strays_in}}
 use Rattle.app_worker.specs.{Core.{total}, Marks.{marks_of}}
 use Rattle.flow_queues.specs.{Totals.{lent_len}, Streams.{IsFront}, Returned.{HasReturned}}
-use Rattle.card_feed.specs.{Offered.{offers_of, without}, Feed.{FeedState, FeedStands, IsReady}, declared.plan.Plan.{Plan}, Plan.{layout_of, how_of}}
+use Rattle.card_feed.specs.{Offered.{offers_of, offers_without}, Feed.{FeedState, FeedStands, IsFeedReady}, declared.plan.Plan.{Plan}, Plan.{layout_of, how_of}}
 pub use Rattle.card_feed.specs.Counts.{capped}
 
 -- ---- the account
 
 -- the frames that are offered to an application, but those that are left out
 abbrev pub offered_to : ℕ → List ℕ → List SteeredTcp → List Offered
-offered_to a left_out steered = filter (λ o. o.app == a) (without left_out (offers_of steered))
+offered_to a left_out steered = filter (λ o. o.app == a) (offers_without left_out (offers_of steered))
 
 -- what the shelf of an application keeps of a flow
 abbrev pub kept_in : {T : Type 0} → (T → ℕ → Option (List ℕ)) → List T → ℕ → ℕ → Option (List ℕ)
@@ -73,7 +73,7 @@ pub record AccountsFor {T : Type 0} (kept : T → ℕ → Option (List ℕ)) (sh
 abbrev pub ClosedFeedsShow : {S : Type 0} → (S → Option (List ℕ)) → (S → ℕ) → Type 0
 ClosedFeedsShow {S} left faults =
     (first source : S) (ports : List ℕ) (split : ℕ) (frames : List (List ℕ)) (feed : FeedState) (nic : NicSide)
-    → FeedStands left faults first source ports split frames feed nic.view → IsReady feed nic.view → feed.closed ≡ true
+    → FeedStands left faults first source ports split frames feed nic.view → IsFeedReady feed nic.view → feed.closed ≡ true
     → (a : ℕ) → ShowFrames split (offered_to a feed.refused (steered_in ports frames)) (sent_to a nic)
 
 -- ---- the bridge

@@ -19,7 +19,8 @@ searches_in stats = stats.fast + stats.refill + stats.slow + stats.empty
 
 -- No more searches were counted than one for each frame with a payload longer than `split`, but for the one at hand. Those
 -- that found too few are the refused frames, and the strays are those among the entries.
-pub record AreCounted (split : ℕ) (offers : List Offered) (refused : List ℕ) (hand : Option Offered) (dealt : List Dealt) (stats : PoolStats) : Type 0 where
+pub record AreOffersCounted (split : ℕ) (offers : List Offered) (refused : List ℕ) (hand : Option Offered) (dealt : List Dealt) (stats : PoolStats) :
+    Type 0 where
   pub searches : searches_in stats + long_in split (option_to_list hand) ≤ long_in split offers
   pub empty : stats.empty ≡ capped (length refused)
   pub strays : stats.strays ≡ capped (strays_in dealt)

@@ -6,7 +6,7 @@ use Rattle.flow_table.specs.Flows.{Flow, flows_of}
 use Rattle.board_face.specs.{NicCalls.{apps_of, IsOpen}, declared.views.nic.NicView.{NicView}}
 use Rattle.page_pool.specs.{Frames.{Offered}, Pool.{PoolState, PoolStands, HasNonePending, pending_count, all_notes, new_pool}}
 use Rattle.frames_read.specs.{Ending.{steered_in}, Tally.{tally_of, no_tally}}
-use Rattle.card_feed.specs.{declared.intake.Stage.{Stage}, Coming.{ComesTo, is_over}, Offered.{offers_of, AreSettled, WantsRoom}, Counts.{AreCounted, AreFound, HaveSwept}}
+use Rattle.card_feed.specs.{declared.intake.Stage.{Stage}, Coming.{ComesTo, is_over}, Offered.{offers_of, AreSettled, WantsRoom}, Counts.{AreOffersCounted, AreFound, HaveSwept}}
 use Rattle.card_feed.specs.Need.{AreNeeded}
 use Rattle.card_feed.specs.declared.intake.Stage.TheVariants as stage
 
@@ -37,10 +37,10 @@ new_feed ports split = record {
 }
 
 -- what ended the reading, if it wasn't the end of the bytes
-abbrev pub end_of : Stage → Option Fault
-end_of stage.Unopened = None
-end_of (stage.Open capture) = None
-end_of (stage.Over end) = end
+abbrev pub fault_of_stage : Stage → Option Fault
+fault_of_stage stage.Unopened = None
+fault_of_stage (stage.Open capture) = None
+fault_of_stage (stage.Over end) = end
 
 -- a turn begins with a record
 pub record WantsRecord (feed : FeedState) : Type 0 where
@@ -59,7 +59,7 @@ pub record FeedFits (feed : FeedState) (v : NicView) : Type 0 where
   pub sent : feed.closed ≡ true → HasNonePending feed.pool
 
 -- and between two turns a frame is at hand only behind pending notes
-pub record IsReady (feed : FeedState) (v : NicView) : Type 0 where
+pub record IsFeedReady (feed : FeedState) (v : NicView) : Type 0 where
   pub fits : FeedFits feed v
   pub waits : feed.at_hand ≢ None → 0 < pending_count feed.pool
 
@@ -71,7 +71,7 @@ pub record FeedKnows (ports : List ℕ) (split : ℕ) (frames : List (List ℕ))
   pub tally_is : feed.tally ≡ tally_of ports frames
   pub flows_are : feed.flows ≡ flows_of (steered_in ports frames)
   pub settled : AreSettled split (offers_of (steered_in ports frames)) feed.refused feed.at_hand (all_notes feed.pool v)
-  pub counted : AreCounted split (offers_of (steered_in ports frames)) feed.refused feed.at_hand v.dealt feed.pool.stats
+  pub counted : AreOffersCounted split (offers_of (steered_in ports frames)) feed.refused feed.at_hand v.dealt feed.pool.stats
   pub needed : AreNeeded v.setting.layout split (offers_of (steered_in ports frames)) feed.refused feed.at_hand (all_notes feed.pool v) v.used
   pub found : AreFound (all_notes feed.pool v) feed.pool
   pub swept : HaveSwept feed.pool v

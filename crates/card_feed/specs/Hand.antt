@@ -30,8 +30,8 @@ with_payload None = None
 with_payload (Some r) = if nat_lt 0 r.len then Some r else None
 
 -- there is room to note that it was refused, if it may be
-abbrev pub HasRoom : ℕ → List ℕ → ℕ → Route → Type 0
-HasRoom split refused capacity route = split < route.len → length refused < capacity
+abbrev pub HasRoomToRefuse : ℕ → List ℕ → ℕ → Route → Type 0
+HasRoomToRefuse split refused capacity route = split < route.len → length refused < capacity
 
 -- ---- where a frame goes
 

@@ -10,9 +10,9 @@ use Rattle.frames_read.specs.{Ending.{steered_in, steered_next}, Reading.{Begins
 
 -- ---- one frame
 
-abbrev pub base_of : Option Flow → ℕ
-base_of None = 0
-base_of (Some flow) = flow.base
+abbrev pub flow_base : Option Flow → ℕ
+flow_base None = 0
+flow_base (Some flow) = flow.base
 
 -- how it was closed, so far
 abbrev pub close_of : Option Flow → FlowClose
@@ -25,7 +25,7 @@ offered_one flows s = record {
   app = s.app;
   frame = s.record_number;
   flow = number_of_flow flows s;
-  base = base_of (slice_get (flows_with flows s) (number_of_flow flows s));
+  base = flow_base (slice_get (flows_with flows s) (number_of_flow flows s));
   seq = first_byte s.segment;
   fin = has_fin s.segment;
   payload = counted_part (close_of (slice_get (flows_with flows s) (number_of_flow flows s))) s.segment;
@@ -44,13 +44,13 @@ abbrev pub offer_next : List ℕ → List (List ℕ) → List ℕ → Option Off
 offer_next ports before frame = offer_one (flows_of (steered_in ports before)) (steered_next ports before frame)
 
 -- the payload of a segment, or none
-abbrev pub payload_of : Option TcpSegment → List ℕ
-payload_of None = []
-payload_of (Some segment) = segment.payload
+abbrev pub payload_of_segment : Option TcpSegment → List ℕ
+payload_of_segment None = []
+payload_of_segment (Some segment) = segment.payload
 
 -- the payload in a frame, or none
 abbrev pub payload_in : List ℕ → List ℕ
-payload_in frame = payload_of (segment_of (class_of frame))
+payload_in frame = payload_of_segment (segment_of (class_of frame))
 
 -- ---- all frames
 
@@ -63,8 +63,8 @@ abbrev pub offers_of : List SteeredTcp → List Offered
 offers_of steered = filter has_payload (offered_after [] steered)
 
 -- those whose numbers aren't among these
-abbrev pub without : List ℕ → List Offered → List Offered
-without left_out offers = filter (λ o. not (list_any (λ number. number == o.frame) left_out)) offers
+abbrev pub offers_without : List ℕ → List Offered → List Offered
+offers_without left_out offers = filter (λ o. not (list_any (λ number. number == o.frame) left_out)) offers
 
 -- ---- frames that were refused
 
@@ -89,7 +89,7 @@ pub record AreSettled (split : ℕ) (offers : List Offered) (refused : List ℕ)
   pub settled : List Offered
   pub awaits : Awaits hand offers settled
   pub refused_are : AreRefused split settled refused
-  pub shown : ShowFrames split (without refused settled) notes
+  pub shown : ShowFrames split (offers_without refused settled) notes
 
 -- ---- memory
 

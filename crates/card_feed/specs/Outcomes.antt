@@ -3,7 +3,7 @@ use Rattle.std.specs.{Prelude.{◌≡◌, ℕ, ◌%◌, ◌^◌, ◌==◌, if◌
 use Rattle.zr_kinds.specs.declared.outcome.{AppLine.{AppLine}, FlowLine.{FlowLine}, FlowEnd.{FlowEnd, TheVariants.{Going, Whole, Short, Reset}}}
 use Rattle.zr_kinds.specs.ReceiverLaws.{distance}
 use Rattle.flow_table.specs.Flows.{Flow}
-use Rattle.card_feed.specs.{declared.outcome.Outcome.{Outcome}, Feed.{FeedState, end_of}}
+use Rattle.card_feed.specs.{declared.outcome.Outcome.{Outcome}, Feed.{FeedState, fault_of_stage}}
 
 -- there is one application for each port, in their order
 abbrev pub HavePorts : List ℕ → List AppLine → Type 0
@@ -19,8 +19,8 @@ abbrev pub flow_end : Flow → ℕ → FlowEnd
 flow_end flow bytes = if flow.close.reset then Reset else end_by flow.close.fin flow.base bytes
 
 -- the line of a flow, of which so many bytes were written
-abbrev pub line_of : Flow → ℕ → FlowLine
-line_of flow bytes = record {
+abbrev pub line_of_flow : Flow → ℕ → FlowLine
+line_of_flow flow bytes = record {
   port = flow.key.dport;
   base = flow.base;
   bytes = bytes;
@@ -32,7 +32,7 @@ line_of flow bytes = record {
 pub record AreLinesOf (flows : List Flow) (bytes : List ℕ) (lines : List FlowLine) : Type 0 where
   pub many : length lines ≡ length flows
   pub each : (number : ℕ) (flow : Flow) (count : ℕ) → slice_get flows number ≡ Some flow → slice_get bytes number ≡ Some count
-      → slice_get lines number ≡ Some (line_of flow count)
+      → slice_get lines number ≡ Some (line_of_flow flow count)
 
 -- The lines of the flows have the ports of the lines of their applications.
 pub record IsOutcomeOf (feed : FeedState) (apps : List AppLine) (bytes : List ℕ) (outcome : Outcome) : Type 0 where
@@ -41,4 +41,4 @@ pub record IsOutcomeOf (feed : FeedState) (apps : List AppLine) (bytes : List �
   pub flows : HavePorts feed.ports apps → AreLinesOf feed.flows bytes outcome.flows.items
   pub refused : outcome.refused.items ≡ feed.refused
   pub pool : outcome.pool ≡ feed.pool.stats
-  pub end : outcome.end ≡ end_of feed.stage
+  pub end : outcome.end ≡ fault_of_stage feed.stage

@@ -20,8 +20,8 @@ ReadsOne ports now frames more =
     ⊎ ((more ≡ frames) × (now.at_hand ≡ None) × (is_over now.stage ≡ true))
 
 -- and nothing else of the feed changed
-abbrev pub OnlyReads : FeedState → FeedState → Type 0
-OnlyReads was now = now ≡ record was { stage = now.stage; tally = now.tally; flows = now.flows; at_hand = now.at_hand }
+abbrev pub OnlyReadsFrames : FeedState → FeedState → Type 0
+OnlyReadsFrames was now = now ≡ record was { stage = now.stage; tally = now.tally; flows = now.flows; at_hand = now.at_hand }
 
 -- ---- what arrives
 
@@ -32,7 +32,7 @@ MayArrive feed arrived.Nothing = Unit {0}
 MayArrive feed (arrived.Over end) = WantsRecord feed
 
 -- One more frame came, and is at hand where it is offered.
-pub record TakesOne (ports : List ℕ) (was now : FeedState) (frames : List (List ℕ)) (frame : List ℕ) (more : List (List ℕ)) : Type 0 where
+pub record TakesOneFrame (ports : List ℕ) (was now : FeedState) (frames : List (List ℕ)) (frame : List ℕ) (more : List (List ℕ)) : Type 0 where
   pub more_are : more ≡ frames ++ frame ∷ []
   pub goes : ending_at ports frames frame ≡ None
   pub hand : now.at_hand ≡ offer_next ports frames frame
@@ -47,11 +47,11 @@ pub record EndsOn (split : ℕ) (ports : List ℕ) (now : FeedState) (frames : L
   pub stage_is : now.stage ≡ stage.Over (Some fault)
 
 -- What arrived was taken.
-abbrev pub Receives : ℕ → List ℕ → FeedState → FeedState → List (List ℕ) → List (List ℕ) → Arrived → Type 0
-Receives split ports was now frames more (arrived.Frame found bytes) =
-    TakesOne ports was now frames bytes.items more ⊎ EndsOn split ports now frames bytes.items more
-Receives split ports was now frames more arrived.Nothing = (now ≡ was) × (more ≡ frames)
-Receives split ports was now frames more (arrived.Over end) =
+abbrev pub ReceivesArrived : ℕ → List ℕ → FeedState → FeedState → List (List ℕ) → List (List ℕ) → Arrived → Type 0
+ReceivesArrived split ports was now frames more (arrived.Frame found bytes) =
+    TakesOneFrame ports was now frames bytes.items more ⊎ EndsOn split ports now frames bytes.items more
+ReceivesArrived split ports was now frames more arrived.Nothing = (now ≡ was) × (more ≡ frames)
+ReceivesArrived split ports was now frames more (arrived.Over end) =
     (more ≡ frames) × (now.at_hand ≡ None) × (now.stage ≡ stage.Over end)
 
 -- ---- what a turn leaves alone
@@ -81,8 +81,8 @@ pub record OffersHand (was now : FeedState) (old new : NicView) (o : Offered) : 
 -- ---- the end of the reading
 
 -- What was pending is sent and the card closed; or a slot is in use, and the rings are drained.
-abbrev pub Finishes : FeedState → FeedState → NicView → NicView → Type 0
-Finishes was now old new =
+abbrev pub FinishesCard : FeedState → FeedState → NicView → NicView → Type 0
+FinishesCard was now old new =
     (pool : PoolState) × (mid : NicView) × OnlySends was.pool pool old mid
     × ((HasNonePending pool × Closes pool.current mid new × (now ≡ record was { pool = record pool { current = None }; closed = true }))
     ⊎ (((app : ℕ) × IsNextApp pool app × NicRose (NoteInUse app) old mid) × ((count : ℕ) × DrainsRings pool.stats now.pool.stats mid new count
@@ -94,7 +94,7 @@ pub data FeedPlays (was now : FeedState) (old new : NicView) : Type 0 where
   drains : was.closed ≡ true → (count : ℕ) → DrainsRings was.pool.stats now.pool.stats old new count
       → now ≡ record was { pool = record was.pool { stats = now.pool.stats } } → FeedPlays was now old new
   offers : was.closed ≡ false → (o : Offered) → was.at_hand ≡ Some o → OffersHand was now old new o → FeedPlays was now old new
-  finishes : was.closed ≡ false → was.at_hand ≡ None → is_over was.stage ≡ true → Finishes was now old new → FeedPlays was now old new
+  finishes : was.closed ≡ false → was.at_hand ≡ None → is_over was.stage ≡ true → FinishesCard was now old new → FeedPlays was now old new
   -- what was searched ahead was for a frame that isn't offered
   rests : was.closed ≡ false → was.at_hand ≡ None → is_over was.stage ≡ false → now ≡ record was { pool = record was.pool { ahead = Fast } }
       → new ≡ old → FeedPlays was now old new
@@ -104,7 +104,7 @@ pub record FeedTurns {S : Type 0} (left : S → Option (List ℕ)) (faults : S �
     (frames : List (List ℕ)) (was now : FeedState) (old new : NicView) : Type 0 where
   pub read : FeedState
   pub more : List (List ℕ)
-  pub only : OnlyReads was read
+  pub only : OnlyReadsFrames was read
   pub reads : WantsRecord was → ReadsOne ports read frames more
   pub waits : ¬ WantsRecord was → (read ≡ was) × (more ≡ frames)
   pub plays : FeedPlays read now old new
@@ -129,8 +129,8 @@ KeepsUp was now old new =
 pub record FeedSteps (ports : List ℕ) (split : ℕ) (frames : List (List ℕ)) (came : Arrived) (was now : FeedState) (old new : NicView) : Type 0 where
   pub taken : FeedState
   pub more : List (List ℕ)
-  pub only : OnlyReads was taken
-  pub receives : Receives split ports was taken frames more came
+  pub only : OnlyReadsFrames was taken
+  pub receives : ReceivesArrived split ports was taken frames more came
   pub done : (¬ IsAwaiting was came × FeedPlays taken now old new) ⊎ (IsAwaiting was came × KeepsUp taken now old new)
   pub stage_is : now.stage ≡ taken.stage
   pub knows : FeedKnows ports split more now new

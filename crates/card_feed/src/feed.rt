@@ -3,7 +3,7 @@
 ghost use Rattle.std.specs.{Prelude.{◌≡◌, ◌<◌, ◌≤◌, true, length, get_or, is_some, IfOk, None, Some, option_map, vec_len}, List.{slice_get}};
 ghost use Rattle.zr_kinds.specs.Limits.{most_flows, most_records};
 ghost use Rattle.flow_table.specs.{Flows.{Flow}, Placing.{info_of}};
-ghost use Rattle.card_feed.specs.{Plan.{IsPlan}, Feed.{IsReady, new_feed, end_of}, Coming.{is_over}, Hand.{HaveApps}, Outcomes.{AreLinesOf, HavePorts, IsOutcomeOf, flow_end, line_of}};
+ghost use Rattle.card_feed.specs.{Plan.{IsPlan}, Feed.{IsFeedReady, new_feed, fault_of_stage}, Coming.{is_over}, Hand.{HaveApps}, Outcomes.{AreLinesOf, HavePorts, IsOutcomeOf, flow_end, line_of_flow}};
 ghost use Rattle.board_face.specs.{NicCalls.{apps_of, IsOpen, HasNoToken}, declared.views.nic.NicView.{NicView}};
 
 use crate::intake::{Intake, Stage};
@@ -46,7 +46,7 @@ impl Feed {
         ensures ready { IfOk result
             (λ feed. (v : NicView) → IsOpen v → HasNoToken v
             → length plan.now.ports.items ≡ apps_of v.setting
-            → IsReady feed v) }
+            → IsFeedReady feed v) }
     {
         Ok(Feed {
             intake: Intake {
@@ -147,7 +147,7 @@ impl Feed {
 
 /// What ended the reading, if not the end of the bytes.
 fn end_of(stage: Stage) -> Option<Fault>
-    ensures { result ≡ end_of stage }
+    ensures { result ≡ fault_of_stage stage }
 {
     match stage {
         Stage::Over(end) => end,
@@ -177,7 +177,7 @@ fn flow_end(flow: &FlowInfo, bytes: u64) -> FlowEnd
 fn flow_line(flow: &FlowInfo, apps: &[AppLine], bytes: u64) -> FlowLine
     requires { flow.now.app < length apps.now }
     ensures { (f : Flow) (none : AppLine) → info_of f ≡ flow.now
-        → (get_or apps.now f.app none).port ≡ f.key.dport → result ≡ line_of f bytes }
+        → (get_or apps.now f.app none).port ≡ f.key.dport → result ≡ line_of_flow f bytes }
 {
     FlowLine {
         port: apps[flow.app as usize].port,

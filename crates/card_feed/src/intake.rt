@@ -1,7 +1,7 @@
 //! What the card keeps of what it reads.
 
 ghost use Rattle.std.specs.{Prelude.{length, vec_capacity}, Option.{ForSome}};
-ghost use Rattle.card_feed.specs.Hand.{HaveApps, HandFits, HasRoom};
+ghost use Rattle.card_feed.specs.Hand.{HaveApps, HandFits, HasRoomToRefuse};
 
 use flow_table::FlowTable;
 use frames_read::Counting;
@@ -53,5 +53,5 @@ pub struct Intake {
     pub alloc: Global,
     ghost apps: { HaveApps table.ports table.flows },
     ghost hand_fits: { ForSome hand (HandFits (length table.ports) bytes.items) },
-    ghost room: { ForSome hand (HasRoom split refused.items (vec_capacity refused)) },
+    ghost room: { ForSome hand (HasRoomToRefuse split refused.items (vec_capacity refused)) },
 }

@@ -4,7 +4,7 @@ ghost use Rattle.std.specs.Prelude.{◌≡◌, ◌≢◌, ◌⊎◌, ℕ, ◌<�
 ghost use Rattle.zr_kinds.specs.Limits.{longest_payload};
 ghost use Rattle.board_face.specs.{Looks.{NicRose}, NicCalls.{apps_of, IsOpen}, NicEvents.{nic_gist}, declared.views.nic.NicLook.TheVariants.{NoteInUse}};
 ghost use Rattle.page_pool.specs.{declared.offer.Offer.{Offer as TheOffer}, Frames.{offered}, Offer.{Offers, KeepsRest}, Pool.{PoolStands, HasNonePending, IsNextApp, pending_count}};
-ghost use Rattle.card_feed.specs.{Offered.{payload_in}, Hand.{HandFits, offered_by}, Intake.{ReadsNothing}, Coming.{is_over}, Feed.{FeedFits, IsReady, card_steps}, Turns.{KeepsSetting, OffersHand, Finishes, KeepsUp, FeedPlays, HasLooked, IsIdle}, Parts.{feed_of}, declared.intake.Intake.{Intake as TheIntake}};
+ghost use Rattle.card_feed.specs.{Offered.{payload_in}, Hand.{HandFits, offered_by}, Intake.{ReadsNothing}, Coming.{is_over}, Feed.{FeedFits, IsFeedReady, card_steps}, Turns.{KeepsSetting, OffersHand, FinishesCard, KeepsUp, FeedPlays, HasLooked, IsIdle}, Parts.{feed_of}, declared.intake.Intake.{Intake as TheIntake}};
 
 use crate::intake::{Intake, Route};
 use board_face::NicFace;
@@ -59,7 +59,7 @@ pub fn offer_hand<F: NicFace>(
     requires hand { intake.old.hand ≡ Some route }
     requires fits { FeedFits (feed_of intake.old pool.old false) (F.seen face.old) }
     requires split { pool.old.split ≡ intake.old.split }
-    ensures ready { IsReady (feed_of intake.new pool.new false) (F.seen face.new) }
+    ensures ready { IsFeedReady (feed_of intake.new pool.new false) (F.seen face.new) }
     ensures offers { OffersHand (feed_of intake.old pool.old false)
         (feed_of intake.new pool.new false) (F.seen face.old) (F.seen face.new)
         (offered_by route (take route.len (payload_in intake.old.bytes.items))) }
@@ -98,7 +98,7 @@ pub fn finish<F: NicFace>(pool: &mut Pool, closed: &mut bool, face: &mut F) -> b
     requires stands { PoolStands pool.old (F.seen face.old) }
     ensures stands { PoolStands pool.new (F.seen face.new) }
     ensures finishes { (intake : TheIntake) → intake.hand ≡ None
-        → Finishes (feed_of intake pool.old closed.old) (feed_of intake pool.new closed.new)
+        → FinishesCard (feed_of intake pool.old closed.old) (feed_of intake pool.new closed.new)
         (F.seen face.old) (F.seen face.new) }
     ensures keeps { KeepsSetting pool.old pool.new (F.seen face.old) (F.seen face.new) }
     ensures closed { MatchBool closed.new
@@ -153,7 +153,7 @@ pub fn play<F: NicFace>(
 ) -> bool
     requires fits { FeedFits (feed_of intake.old pool.old closed.old) (F.seen face.old) }
     requires split { pool.old.split ≡ intake.old.split }
-    ensures ready { IsReady (feed_of intake.new pool.new closed.new) (F.seen face.new) }
+    ensures ready { IsFeedReady (feed_of intake.new pool.new closed.new) (F.seen face.new) }
     ensures split { pool.new.split ≡ intake.new.split }
     ensures plays { FeedPlays (feed_of intake.old pool.old closed.old)
         (feed_of intake.new pool.new closed.new) (F.seen face.old) (F.seen face.new) }

@@ -3,7 +3,7 @@
 ghost use Rattle.std.specs.Prelude.{◌≡◌, ℕ, ◌<◌, ◌≤◌, List, length, MatchBool};
 ghost use Rattle.area_layout.specs.Layout.{least_size};
 ghost use Rattle.page_pool.specs.{Offer.{fresh_for}, Pool.{pending_count}, Searching.{LooksAhead}};
-ghost use Rattle.card_feed.specs.{Feed.{IsReady, FeedKnows}, Offered.{payload_in}};
+ghost use Rattle.card_feed.specs.{Feed.{IsFeedReady, FeedKnows}, Offered.{payload_in}};
 
 use crate::Feed;
 use crate::playing::payload_in;
@@ -40,9 +40,9 @@ impl Feed {
 /// Looks for so many fresh buffers, for the frame that comes next, and answers whether so many are cached. Nothing is offered or
 /// sent. The search is that frame's: it is counted as one with the frame's own where it is offered and needs fresh buffers.
 pub fn nic_prepare<F: NicFace>(feed: &mut Feed, face: &mut F, needed: u32) -> bool
-    requires ready { IsReady feed.old (F.seen face.old) }
+    requires ready { IsFeedReady feed.old (F.seen face.old) }
     requires few { needed ≤ 64 }
-    ensures ready { IsReady feed.new (F.seen face.new) }
+    ensures ready { IsFeedReady feed.new (F.seen face.new) }
     ensures looks { LooksAhead needed feed.old.pool feed.new.pool (F.seen face.old)
         (F.seen face.new) × (feed.new ≡ record feed.old { pool = feed.new.pool }) }
     ensures knows { (ports : List ℕ) (split : ℕ) (frames : List (List ℕ))

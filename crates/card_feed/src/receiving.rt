@@ -4,7 +4,7 @@ ghost use Rattle.std.specs.Prelude.{◌≡◌, ◌≢◌, ℕ, ◌+◌, ◌<◌,
 ghost use Rattle.zr_kinds.specs.{Limits.{longest_payload, most_flows}, declared.fault.Fault.TheVariants.{Memory}};
 ghost use Rattle.frame_headers.specs.Seen.{shown, segment_seen};
 ghost use Rattle.flow_table.specs.{Steered.{steer as steered}, Placing.{number_for, counted_for}};
-ghost use Rattle.card_feed.specs.{Hand.{HaveApps, HasRoom, RouteFits, with_payload}, Offered.{WantsRoom, payload_of}, Coming.{Arrives, ComesTo, is_over}, Feed.{one_if}, Intake.{OnlyOpens, Steers, TakesFrame, TakesIn, IsReadable, IsTimely, Knows, counts_as}, declared.arrived.Arrived.TheVariants.{Nothing}};
+ghost use Rattle.card_feed.specs.{Hand.{HaveApps, HasRoomToRefuse, RouteFits, with_payload}, Offered.{WantsRoom, payload_of_segment}, Coming.{Arrives, ComesTo, is_over}, Feed.{one_if}, Intake.{OnlyOpens, Steers, TakesFrame, TakesIn, IsReadable, IsTimely, Knows, counts_as}, declared.arrived.Arrived.TheVariants.{Nothing}};
 
 use crate::arrived::Arrived;
 use crate::intake::{Intake, Route, Stage};
@@ -44,7 +44,8 @@ fn steer(
     ensures steers { Steers split table.old table.new
         (steered table.old.ports frame (Some (shown segment.now))) result }
     ensures room { IfOk result
-        (λ found. IfSome found (HasRoom split refused.new.items (vec_capacity refused.new))) }
+        (λ found. IfSome found (HasRoomToRefuse split refused.new.items
+        (vec_capacity refused.new))) }
     ensures fits { IfOk result
         (λ found. IfSome found (RouteFits table.old.ports segment.now.payload.now)) }
 {
@@ -94,9 +95,11 @@ fn steer_seen(
     ensures steers { Steers split table.old table.new
         (steered table.old.ports frame (segment_seen seen.now)) result }
     ensures room { IfOk result
-        (λ found. IfSome found (HasRoom split refused.new.items (vec_capacity refused.new))) }
+        (λ found. IfSome found (HasRoomToRefuse split refused.new.items
+        (vec_capacity refused.new))) }
     ensures fits { IfOk result
-        (λ found. IfSome found (RouteFits table.old.ports (payload_of (segment_seen seen.now)))) }
+        (λ found. IfSome found (RouteFits table.old.ports
+        (payload_of_segment (segment_seen seen.now)))) }
 {
     match seen {
         Seen::Tcp(segment) => steer(table, refused, split, frame, segment),

@@ -1,7 +1,7 @@
 //! A turn of the card.
 
 ghost use Rattle.std.specs.Prelude.{◌≡◌, ◌≢◌, ℕ, ◌<◌, List, MatchBool, true};
-ghost use Rattle.card_feed.specs.{Feed.{IsReady, FeedKnows, FeedStands, WantsRecord, feed_steps}, declared.arrived.Arrived.TheVariants.{Nothing}, Turns.{FeedSteps, FeedTurns, HasLooked, HasRested, IsIdle, MayArrive}};
+ghost use Rattle.card_feed.specs.{Feed.{IsFeedReady, FeedKnows, FeedStands, WantsRecord, feed_steps}, declared.arrived.Arrived.TheVariants.{Nothing}, Turns.{FeedSteps, FeedTurns, HasLooked, HasRested, IsIdle, MayArrive}};
 
 use crate::playing::{keep_up, play};
 use crate::{Arrived, Feed};
@@ -14,9 +14,9 @@ use zr_io::Source;
 ///
 /// `false` says that it did nothing but look.
 pub fn nic_step<F: NicFace>(feed: &mut Feed, arrived: Arrived, face: &mut F) -> bool
-    requires ready { IsReady feed.old (F.seen face.old) }
+    requires ready { IsFeedReady feed.old (F.seen face.old) }
     requires arrived { MayArrive feed.old arrived }
-    ensures ready { IsReady feed.new (F.seen face.new) }
+    ensures ready { IsFeedReady feed.new (F.seen face.new) }
     ensures steps { (ports : List ℕ) (split : ℕ) (frames : List (List ℕ))
         → FeedKnows ports split frames feed.old (F.seen face.old)
         → FeedSteps ports split frames arrived feed.old feed.new (F.seen face.old)
@@ -45,8 +45,8 @@ pub fn nic_step<F: NicFace>(feed: &mut Feed, arrived: Arrived, face: &mut F) -> 
 ///
 /// `false` says that it did nothing but look.
 pub fn nic_turn<S: Source, F: NicFace>(feed: &mut Feed, source: &mut S, face: &mut F) -> bool
-    requires ready { IsReady feed.old (F.seen face.old) }
-    ensures ready { IsReady feed.new (F.seen face.new) }
+    requires ready { IsFeedReady feed.old (F.seen face.old) }
+    ensures ready { IsFeedReady feed.new (F.seen face.new) }
     ensures turns { (first : S) (ports : List ℕ) (split : ℕ) (frames : List (List ℕ))
         → FeedStands S.left S.faults first source.old ports split frames feed.old (F.seen face.old)
         → FeedTurns S.left S.faults first source.new ports split frames feed.old feed.new

@@ -4,7 +4,8 @@ use Rattle.std.{specs.{Prelude.{option_and_then, slice_get}, Borrow.{Bor}, Str.{
 use Rattle.clap.specs.{Matches.{found_of, first_value}, Walk.{Row, rows_of}, Kinds.{HasKind, IsAmong, Kinds}, Values.{kind_of}, Simple.{App, HasMatchesOf, matches_of}}
 use Rattle.clap.specs.{Faults.{fault_of, is_simple_and_free}, declared.error.{Error.{Error}, kind.ErrorKind.{TheVariants.{OutOfMemory}, ErrorKind}}}
 use Rattle.clap.{specs.declared.parser.matches.ArgMatches.{ArgMatches}, proofs.WalkLemmas.{first_value-rows, raw_values-rows}}
-use Rattle.command_words.{specs.{Assigned.{Text, Said, is_among, sorted, value_said}, Asking.{Answers, AreApart, app_for, is_true, port_id}}, proofs.Adding.{texts}}
+use Rattle.command_words.specs.{Assigned.{Text, Said, is_among, sorted, value_said}, Asking.{AreMatched, AreNamesApart, app_for, is_true, port_id}}
+use Rattle.command_words.proofs.Adding.{texts}
 use Rattle.command_words.proofs.{Lookups.{simple_app}, Matching.{first_of-all_of}, Asked.{Comes, parsed}, Defaults.{flag_value}, Walking.{AllText, nothing_refused}}
 
 pub texts_are_text : (words : List (Bor Text)) → All (λ word. IsUtf8 word.now) words → AllText (texts words)
@@ -26,7 +27,7 @@ value_is false = refl
 module _ (names flags : List Text) (rows : List Row) (faults : Kinds) where
   -- clap took the words
   pub taken : (m : ArgMatches) (o : Option Said) → faults ≡ [] → rows_of (found_of m) ≡ rows → Comes names flags faults rows o
-      → Answers names flags (Some m) o
+      → AreMatched names flags (Some m) o
   taken m None none same comes = absurd (nothing_refused faults comes none)
   taken m (Some said) none same comes = record {
     options = λ name among.
@@ -43,18 +44,18 @@ module _ (names flags : List Text) (rows : List Row) (faults : Kinds) where
           ∙ ap (option_and_then (λ vs. slice_get vs 0)) (ap (Rattle.clap.specs.Walk.all_of name) same)
 
   -- clap refused the words
-  pub refused : (kind : ErrorKind) (o : Option Said) → IsAmong kind faults → Comes names flags faults rows o → Answers names flags None o
+  pub refused : (kind : ErrorKind) (o : Option Said) → IsAmong kind faults → Comes names flags faults rows o → AreMatched names flags None o
   refused kind None among comes = tt
   refused kind (Some said) among comes = let bad : IsAmong kind [] = subst (IsAmong kind) comes.0 among in absurd bad
 
 -- the answers to a command with these options and flags
-module _ (names flags : List Text) (apart : AreApart names flags) (app : App) (is : app ≡ app_for names flags) (words : List Text)
+module _ (names flags : List Text) (apart : AreNamesApart names flags) (app : App) (is : app ≡ app_for names flags) (words : List Text)
     (text : AllText (drop 1 words)) where
   simple : is_simple_and_free app ≡ true
   simple = ap is_simple_and_free is ∙ simple_app names flags
 
   pub accepted : (m : ArgMatches) → (is_simple_and_free app ≡ true → fault_of app words ≡ []) → HasMatchesOf app words m
-      → Answers names flags (Some m) (sorted names flags (drop 1 words))
+      → AreMatched names flags (Some m) (sorted names flags (drop 1 words))
   accepted m kinds matches =
       let none : fault_of (app_for names flags) words ≡ [] = subst (λ (a : App). fault_of a words ≡ []) is (kinds simple) in
       let same : rows_of (found_of m) ≡ matches_of (app_for names flags) words = (matches (and_parts _ _ simple).0).0
@@ -63,7 +64,7 @@ module _ (names flags : List Text) (apart : AreApart names flags) (app : App) (i
       (parsed names flags apart words text)
 
   pub rejected : (e : Error) → (is_simple_and_free app ≡ true → HasKind (fault_of app words) e) → (kind_of e ≡ OutOfMemory → ⊥)
-      → Answers names flags None (sorted names flags (drop 1 words))
+      → AreMatched names flags None (sorted names flags (drop 1 words))
   rejected e kinds memory =
       let has : HasKind (fault_of (app_for names flags) words) e = subst (λ (a : App). HasKind (fault_of a words) e) is (kinds simple) in
       elim has [

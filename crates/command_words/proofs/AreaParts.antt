@@ -3,7 +3,7 @@ use Rattle.std.proofs.Common.{◌≡◌, ◌≢◌, ◌<◌, ◌≤◌, ◌++◌
 use Rattle.std.{proofs.Common.{Option, Some, None, option_map, All, append_assoc, append-nil}, specs.Prelude.{option_and_then, nat_le, if◌then◌else◌}}
 use Rattle.std.{specs.List.{slice_split}, proofs.lemmas.{Bool.{ne_eqb, Decides.{nat_tests}}, List.{get_or_default, length-append}}}
 use Rattle.std.proofs.lemmas.List.Splits.{slice_split_at, slice_split_none}
-use Rattle.command_words.{specs.{Assigned.{Text}, Areas.{is_comma, area_of, all_areas, few_areas}}, proofs.AreaRanges.{all-made}}
+use Rattle.command_words.{specs.{Assigned.{Text}, Areas.{is_comma, area_in_word, all_areas, few_areas}}, proofs.AreaRanges.{all-made}}
 
 free_of : (xs : Text) → ((i : ℕ) → i < length xs → get_or xs i 0 ≢ 44) → All (λ x. is_comma x ≡ false) xs
 free_of xs none = λ k d lt. ne_eqb (get_or xs k d) 44 (λ e. none k lt (get_or_default xs k 0 d lt ∙ e))
@@ -29,20 +29,20 @@ onto_next areas a (Some others) = ap Some (sym (append_assoc areas (a ∷ []) ot
 
 module _ (parts rest : List Text) (areas : List (ℕ × ℕ)) (before : all_areas parts ≡ onto areas (all_areas rest)) where
   -- a part that is no area
-  pub no-area : (part : Text) (more : List Text) → rest ≡ part ∷ more → None ≡ area_of part → None ≡ few_areas parts
+  pub no-area : (part : Text) (more : List Text) → rest ≡ part ∷ more → None ≡ area_in_word part → None ≡ few_areas parts
   no-area part more is none =
       let gone : all_areas parts ≡ None = before ∙ ap (λ r. onto areas (all_areas r)) is ∙ ap (λ o. onto areas (first_then o (all_areas more))) (sym none) in
       sym (ap (option_and_then (λ found. if nat_le (length found) 4 then Some found else None)) gone)
 
   -- an area more
-  pub next-area : (part : Text) (more : List Text) (a : ℕ × ℕ) → rest ≡ part ∷ more → Some a ≡ area_of part
+  pub next-area : (part : Text) (more : List Text) (a : ℕ × ℕ) → rest ≡ part ∷ more → Some a ≡ area_in_word part
       → all_areas parts ≡ onto (areas ++ a ∷ []) (all_areas more)
   next-area part more a is some =
       before ∙ ap (λ r. onto areas (all_areas r)) is ∙ ap (λ o. onto areas (first_then o (all_areas more))) (sym some)
       ∙ onto_next areas a (all_areas more)
 
   -- the last area, of no more than four
-  pub last-area : (part : Text) (a : ℕ × ℕ) → rest ≡ part ∷ [] → Some a ≡ area_of part → length areas < 4 → Some (areas ++ a ∷ []) ≡ few_areas parts
+  pub last-area : (part : Text) (a : ℕ × ℕ) → rest ≡ part ∷ [] → Some a ≡ area_in_word part → length areas < 4 → Some (areas ++ a ∷ []) ≡ few_areas parts
   last-area part a is some few =
       let all : all_areas parts ≡ Some (areas ++ a ∷ []) = next-area part [] a is some ∙ ap Some (append-nil (areas ++ a ∷ [])) in
       let many = length-append areas (a ∷ []) in

@@ -4,8 +4,8 @@ use Rattle.std.{proofs.Common.{List, [], ◌∷◌, length, Option, Some, None, 
 use Rattle.std.{specs.List.{list_any, before_first, after_first, slice_split}, proofs.lemmas.List.Splits.{length-slice_split}}
 use Rattle.std.proofs.lemmas.{Option.{option_and_then_some, same_Some}, Bool.{Decides.{nat_tests}, and_parts}}
 use Rattle.area_layout.specs.Layout.{IsArea, MakeLayout}
-use Rattle.command_words.specs.{Assigned.{Text}, Numbers.{in_range, value_of}, Options.{number_or, size_of}}
-use Rattle.command_words.specs.Areas.{is_colon, is_comma, area_of, all_areas, few_areas, fit_together, areas_of, one_area, areas_or, pool_of}
+use Rattle.command_words.specs.{Assigned.{Text}, Numbers.{in_range, value_of}, Options.{number_or, buffer_size_of}}
+use Rattle.command_words.specs.Areas.{is_colon, is_comma, area_in_word, all_areas, few_areas, fit_together, areas_in_word, one_area, areas_or, pool_areas_of}
 use Rattle.command_words.proofs.Ranges.{IsSize, passed, read-within, number_or-within, size_of-sized}
 
 -- what a test lets through, where there may be nothing
@@ -22,10 +22,10 @@ pair_of buffers None a some is_size is = cc
 pair_of buffers (Some size) a some is_size is =
     subst (λ (p : ℕ × ℕ). IsArea p.0 p.1) (same_Some (buffers, size) a is) (sized buffers size some (is_size size refl))
 
-area-made : (text : Text) (a : ℕ × ℕ) → area_of text ≡ Some a → IsArea a.0 a.1
+area-made : (text : Text) (a : ℕ × ℕ) → area_in_word text ≡ Some a → IsArea a.0 a.1
 area-made text a is =
     option_and_then_some _ (in_range 1 4096 (before_first is_colon text)) a (chosen (list_any is_colon text) _ a is) (λ buffers buffers_is with_size.
-    pair_of buffers (size_of (Some (after_first is_colon text))) a (read-within 1 4096 (value_of (before_first is_colon text)) buffers buffers_is)
+    pair_of buffers (buffer_size_of (Some (after_first is_colon text))) a (read-within 1 4096 (value_of (before_first is_colon text)) buffers buffers_is)
     (λ size size_is. size_of-sized (Some (after_first is_colon text)) size size_is) with_size)
 
 abbrev IsMade : ℕ × ℕ → Type 0
@@ -50,7 +50,7 @@ pub all-made : (parts : List Text) (areas : List (ℕ × ℕ)) → all_areas par
 all-made [] areas is =
     subst (λ (l : List (ℕ × ℕ)). All IsMade l × (length l ≡ 0)) (same_Some [] areas is) ((λ k d lt. absurd (omega arith)), refl)
 all-made (part ∷ parts) areas is =
-    option_and_then_some _ (area_of part) areas is (λ area area_is rest.
+    option_and_then_some _ (area_in_word part) areas is (λ area area_is rest.
     behind area (all_areas parts) areas (length parts) (area-made part area area_is) (λ others at. all-made parts others at) rest)
 
 makes : (areas : List (ℕ × ℕ)) (reserves : ℕ) → (1 ≤ length areas) × (length areas ≤ 4) → All IsMade areas → fit_together areas ≡ true
@@ -63,7 +63,7 @@ makes areas reserves few each fit kept =
 
 module _ (reserves : ℕ) (kept : (1 ≤ reserves) × (reserves ≤ 8)) where
   -- the areas of a text
-  areas-make : (text : Text) (areas : List (ℕ × ℕ)) → areas_of text ≡ Some areas → MakeLayout areas reserves
+  areas-make : (text : Text) (areas : List (ℕ × ℕ)) → areas_in_word text ≡ Some areas → MakeLayout areas reserves
   areas-make text areas is =
       let parts = slice_split is_comma text in
       option_and_then_some _ (few_areas parts) areas is (λ found found_is fits.
@@ -80,7 +80,7 @@ module _ (reserves : ℕ) (kept : (1 ≤ reserves) × (reserves ≤ 8)) where
 
   -- and the other way round
   pub areas-read : (text : Text) (areas : List (ℕ × ℕ)) → all_areas (slice_split is_comma text) ≡ Some areas
-      → (areas_of text ≡ Some areas) ↔ MakeLayout areas reserves
+      → (areas_in_word text ≡ Some areas) ↔ MakeLayout areas reserves
   areas-read text areas all = (
     areas-make text areas,
     λ m.
@@ -97,7 +97,7 @@ module _ (reserves : ℕ) (kept : (1 ≤ reserves) × (reserves ≤ 8)) where
   one-makes : (number size : Option Text) (areas : List (ℕ × ℕ)) → one_area number size ≡ Some areas → MakeLayout areas reserves
   one-makes number size areas is =
       option_and_then_some _ (number_or 64 1 4096 number) areas is (λ buffers buffers_is with_size.
-      option_and_then_some _ (size_of size) areas with_size (λ bytes bytes_is fits.
+      option_and_then_some _ (buffer_size_of size) areas with_size (λ bytes bytes_is fits.
       let through = passed (nat_le (buffers * bytes) 67108864) ((buffers, bytes) ∷ []) areas fits in
       let few = through.0 in
       let some = number_or-within 64 1 4096 number buffers (omega arith, omega arith) buffers_is in
@@ -112,7 +112,7 @@ module _ (reserves : ℕ) (kept : (1 ≤ reserves) × (reserves ≤ 8)) where
       })))
 
   -- and the other way round
-  pub one-read : (number size : Option Text) (buffers bytes : ℕ) → number_or 64 1 4096 number ≡ Some buffers → size_of size ≡ Some bytes
+  pub one-read : (number size : Option Text) (buffers bytes : ℕ) → number_or 64 1 4096 number ≡ Some buffers → buffer_size_of size ≡ Some bytes
       → (one_area number size ≡ Some ((buffers, bytes) ∷ [])) ↔ MakeLayout ((buffers, bytes) ∷ []) reserves
   one-read number size buffers bytes number_is size_is = (
     one-makes number size ((buffers, bytes) ∷ []),
@@ -131,6 +131,6 @@ module _ (reserves : ℕ) (kept : (1 ≤ reserves) × (reserves ≤ 8)) where
   either-makes (Some text) (Some number) (Some size) areas is = cc
 
   -- the areas that are read make a layout
-  pub pool-makes : (value : Text → Option Text) (areas : List (ℕ × ℕ)) → pool_of value ≡ Some areas → MakeLayout areas reserves
-  unfolding pool_of
+  pub pool-makes : (value : Text → Option Text) (areas : List (ℕ × ℕ)) → pool_areas_of value ≡ Some areas → MakeLayout areas reserves
+  unfolding pool_areas_of
   pool-makes value areas is = either-makes (value (codes "areas")) (value (codes "buffers")) (value (codes "size")) areas is

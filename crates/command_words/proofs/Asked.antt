@@ -2,7 +2,7 @@
 use Rattle.std.{proofs.Common.{◌≡◌, ◌∙◌, false, refl, ap, inl, List, [], ◌∷◌, drop, Option, Some, None}, specs.Prelude.{fold, option_map}}
 use Rattle.clap.specs.{Walk.{Row, nothing_held, rows_after, settled, walk, walk_from, with_default}, Kinds.{Kinds, or_else}, Simple.{App, matches_of, names_of}}
 use Rattle.clap.{specs.Faults.{built_fault, fault_of, level_fault, settle_fault, walk_fault}, proofs.FaultLemmas.{leaf_fault}}
-use Rattle.command_words.specs.{Assigned.{Text, Said, nothing_said, sorted}, Asking.{AreApart, app_for}}
+use Rattle.command_words.specs.{Assigned.{Text, Said, nothing_said, sorted}, Asking.{AreNamesApart, app_for}}
 use Rattle.command_words.proofs.Lookups.{built_app, default_faults, defaults_of_flags, none_required, rules, shape_for, with_flags}
 use Rattle.command_words.proofs.{Matching.{joined, once_nothing, shows_nothing}, Walking.{AllText, Ends, IsRefused, both}, Defaults.{TellsOptions, tells}}
 
@@ -19,7 +19,7 @@ abbrev pub Comes : List Text → List Text → Kinds → List Row → Option Sai
 Comes names flags faults rows None = IsRefused faults
 Comes names flags faults rows (Some said) = (faults ≡ []) × TellsOptions names flags rows said
 
-module _ (names flags : List Text) (apart : AreApart names flags) where
+module _ (names flags : List Text) (apart : AreNamesApart names flags) where
   -- the level's fault is that of its walk and of what is held at its end
   level_is : (words : List Text) → level_fault (shape_for names flags) [] nothing_held words false []
       ≡ or_else (walk_fault (shape_for names flags) [] (walk_from nothing_held) words)

@@ -2,8 +2,8 @@
 use Rattle.std.proofs.Common.{◌≡◌, ◌∙◌, Bool, true, false, cond, refl, sym, ap, List, [], ◌∷◌, Option, Some, None, is_some, codes}
 use Rattle.std.specs.{Prelude.{option_map, unwrap_or}, Str.{bytes_eq}}
 use Rattle.clap.specs.Walk.{Row, all_of, has_row, with_default}
-use Rattle.command_words.{specs.{Assigned.{Text, Said, if_any, is_among, value_said}, Asking.{AreApart, port_id}}, proofs.Lookups.{flag_rule, same_text, with_flags}}
-use Rattle.command_words.proofs.Matching.{Shows, all_of-with_values, has_row-all_of, no_option, none_of}
+use Rattle.command_words.{specs.{Assigned.{Text, Said, if_any, is_among, value_said}, Asking.{AreNamesApart, port_id}}, proofs.Lookups.{flag_rule, same_text}}
+use Rattle.command_words.proofs.{Lookups.{with_flags}, Matching.{Shows, all_of-with_values, has_row-all_of, no_option, none_of}}
 
 -- what stands for a flag that isn't said
 abbrev unsaid : List Text
@@ -62,7 +62,7 @@ pub record TellsOptions (names flags : List Text) (rows : List Row) (said : Said
   pub flagged : (id : Text) → is_among flags id ≡ true → all_of id rows ≡ Some (flag_value (is_among said.flags id) ∷ [])
   pub words : all_of port_id rows ≡ if_any said.words
 
-pub tells : (names flags : List Text) → AreApart names flags → (rows : List Row) (said : Said) → Shows names flags rows said
+pub tells : (names flags : List Text) → AreNamesApart names flags → (rows : List Row) (said : Said) → Shows names flags rows said
     → TellsOptions names flags (with_flags flags rows) said
 tells names flags apart rows said shows = record {
   options = λ id here. with_all flags id rows ∙ rw (no_flag id here (is_among flags id) refl) (shows.options id here);

@@ -2,7 +2,7 @@
 use Rattle.std.{proofs.Common.{◌≡◌, ◌∙◌, ◌<◌, ℕ, Bool, true, false, refl, sym, ap, subst, arith, List, [], ◌∷◌, length, Some, None, ◌==◌}, specs.Prelude.{slice_get}}
 use Rattle.std.{specs.{Char.{encode_utf8}, Str.{bytes_eq, chars, IsUtf8, encode_utf8_all}}, proofs.lemmas.{Bool.Decides.{Decides-eqb}, Str.{encodes-chars}}}
 use Rattle.clap.specs.Lexer.{long_of, short_of}
-use Rattle.command_words.specs.Assigned.{Text, Look, closing, named, dashed, plain, look_of, after_dash, after_dashes}
+use Rattle.command_words.specs.Assigned.{Text, Look, closing, named, dashed, plain, look_of_word, after_dash, after_dashes}
 
 abbrev pub Dashes : Text
 Dashes = 45 ∷ 45 ∷ []
@@ -62,10 +62,10 @@ seen_dash (s ∷ rest) = go (s == 45) refl
       },
     )
 
-pub seen : (word : Text) → IsSeen (look_of word) word
+pub seen : (word : Text) → IsSeen (look_of_word word) word
 seen [] = (refl, refl, refl)
 seen (f ∷ rest) = go (f == 45) refl
   where
-    go : (b : Bool) → (f == 45) ≡ b → IsSeen (look_of (f ∷ rest)) (f ∷ rest)
-    go true e = let is : 45 ≡ f = sym ((Decides-eqb f 45).0 e) in subst (λ (x : ℕ). IsSeen (look_of (x ∷ rest)) (x ∷ rest)) is (seen_dash rest)
+    go : (b : Bool) → (f == 45) ≡ b → IsSeen (look_of_word (f ∷ rest)) (f ∷ rest)
+    go true e = let is : 45 ≡ f = sym ((Decides-eqb f 45).0 e) in subst (λ (x : ℕ). IsSeen (look_of_word (x ∷ rest)) (x ∷ rest)) is (seen_dash rest)
     go false e = rw e (rw e refl, rw e refl, rw e refl)

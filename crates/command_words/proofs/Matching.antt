@@ -5,7 +5,7 @@ use Rattle.std.{specs.{List.{list_any}, Str.{bytes_eq}}, proofs.lemmas.{List.{ma
 use Rattle.clap.specs.{Walk.{Row, all_of, first_of, has_row, used, with_values, without}, declared.builder.value_parser.Reading.{Reading}}
 use Rattle.clap.specs.declared.parser.matches.ValueSource.{ValueSource, TheVariants.{CommandLine}}
 use Rattle.command_words.specs.{Numbers.{is_distinct}, Assigned.{Text, Said, each_once, if_any, is_among, is_once, names_said, nothing_said, value_said}}
-use Rattle.command_words.specs.{Assigned.{with_flag, with_option, with_word}, Asking.{AreApart, port_id}}
+use Rattle.command_words.specs.{Assigned.{with_flag, with_option, said_with_word}, Asking.{AreNamesApart, port_id}}
 use Rattle.command_words.proofs.Lookups.{flag_rule, option_rule, port_rule, same_text, or_false}
 
 -- ---- rows
@@ -104,7 +104,7 @@ joined_flag name said after =
     ap (λ (fs : List Text). record { options = said.options ++ after.options; flags = fs; words = said.words ++ after.words })
     (sym (append_assoc said.flags (name ∷ []) after.flags))
 
-pub joined_word : (word : Text) (said after : Said) → joined said (with_word word after) ≡ joined (and_word word said) after
+pub joined_word : (word : Text) (said after : Said) → joined said (said_with_word word after) ≡ joined (and_word word said) after
 joined_word word said after =
     ap (λ (ws : List Text). record { options = said.options ++ after.options; flags = said.flags ++ after.flags; words = ws })
     (sym (append_assoc said.words (word ∷ []) after.words))
@@ -254,7 +254,7 @@ pub record Shows (names flags : List Text) (rows : List Row) (said : Said) : Typ
 pub shows_nothing : (names flags : List Text) → Shows names flags [] nothing_said
 shows_nothing names flags = record { options = λ id among. refl; flagged = λ id among. refl; words = refl }
 
-module _ (names flags : List Text) (apart : AreApart names flags) where
+module _ (names flags : List Text) (apart : AreNamesApart names flags) where
   pub option_row : (name : Text) (rows : List Row) (said : Said) → Shows names flags rows said → is_among names name ≡ true
       → has_row name rows ≡ is_some (value_said name said.options)
   option_row name rows said shows among =

@@ -2,13 +2,13 @@
 use Rattle.std.proofs.Common.{ℕ, ◌≡◌, ◌∙◌, true, false, refl, sym, ap, List, length, Option, Some, None, option_map, codes}
 use Rattle.std.{specs.{Prelude.{IfSome, IsSome, Bool, option_and_then, is_some, if◌then◌else◌}, Borrow.{Bor}}, proofs.lemmas.Option.{option_and_then_some, same_Some}}
 use Rattle.clap.specs.{Matches.{found_of, first_value, matched_of, raw_values}, declared.parser.matches.ArgMatches.{ArgMatches}}
-use Rattle.command_words.specs.{Asking.{Answers, flag_in, port_id}, Assigned.{Text, Said, if_any, is_among, value_said}, Numbers.{ports_of}}
-use Rattle.command_words.specs.{Options.{AreTurns, are_turns, behaviour_of, flag_names, option_names, options_of, stand_together, turns_of}, Areas.{pool_of}}
-use Rattle.command_words.specs.{Words.{IsReplay, ReplayShown, replay_of, replay_shown, told_of, told_with}, declared.reading.Replay.{Replay as Told}}
+use Rattle.command_words.specs.{Asking.{AreMatched, flag_in, port_id}, Assigned.{Text, Said, if_any, is_among, value_said}, Numbers.{ports_of}}
+use Rattle.command_words.specs.{Options.{IsTurnsText, are_turns, behaviour_of, flag_names, option_names, options_of, stand_together, turns_of}, Areas.{pool_areas_of}}
+use Rattle.command_words.specs.{Words.{IsReplay, ReplayShown, replay_of, replay_shown, told_by_words, told_with}, declared.reading.Replay.{Replay as Told}}
 use Rattle.command_words.proofs.{Porting.{ports_read}, AreaRanges.{pool-makes}, Ranges.{turns_of-turns}, Ways.{logged-turns, options_of-in_range, options_of-plain, own-turns}}
 
-its_turns : (apps : ℕ) (turns : Option (Bor Text)) → IfSome (option_map (λ text. text.now) turns) (AreTurns apps)
-    → IfSome turns (λ text. AreTurns apps text.now)
+its_turns : (apps : ℕ) (turns : Option (Bor Text)) → IfSome (option_map (λ text. text.now) turns) (IsTurnsText apps)
+    → IfSome turns (λ text. IsTurnsText apps text.now)
 its_turns apps None are = tt
 its_turns apps (Some text) are = are
 
@@ -36,12 +36,12 @@ let_through true o y is = (refl, is)
 let_through false o y is = cc
 
 told-replay : (value : Text → Option Text) (flag : Text → Bool) (words : List Text) (told : Told)
-    → option_and_then (told_of value flag) (ports_of words) ≡ Some (replay_shown told)
+    → option_and_then (told_by_words value flag) (ports_of words) ≡ Some (replay_shown told)
     → IsReplay told
 told-replay value flag words told is =
-    option_and_then_some (told_of value flag) (ports_of words) (replay_shown told) is (λ ports ports_are with_ports.
+    option_and_then_some (told_by_words value flag) (ports_of words) (replay_shown told) is (λ ports ports_are with_ports.
     let together = let_through (stand_together value flag) _ (replay_shown told) with_ports in
-    option_and_then_some (told_with value flag ports) (pool_of value) (replay_shown told) together.1 (λ areas areas_are with_areas.
+    option_and_then_some (told_with value flag ports) (pool_areas_of value) (replay_shown told) together.1 (λ areas areas_are with_areas.
     option_and_then_some _ (options_of value flag) (replay_shown told) with_areas (λ options options_are with_options.
     option_and_then_some _ (turns_of (length ports) (value (codes "turns"))) (replay_shown told) with_options (λ turns turns_are whole.
     let same : record { ports = ports; areas = areas; options = options; turns = turns } ≡ replay_shown told = same_Some _ (replay_shown told) whole in
@@ -77,8 +77,8 @@ abbrev AreFlagged : (Text → Bool) → (Text → Bool) → Type 0
 AreFlagged a b = (name : Text) → is_among flag_names name ≡ true → a name ≡ b name
 
 module _ (f g : Text → Option Text) (a b : Text → Bool) (same : AreSame f g) (flagged : AreFlagged a b) where
-  pool-same : pool_of f ≡ pool_of g
-  unfolding pool_of
+  pool-same : pool_areas_of f ≡ pool_areas_of g
+  unfolding pool_areas_of
   pool-same = rw (same (codes "areas") refl, same (codes "buffers") refl, same (codes "size") refl) refl
 
   together-same : stand_together f a ≡ stand_together g b
@@ -115,28 +115,28 @@ module _ (f g : Text → Option Text) (a b : Text → Bool) (same : AreSame f g)
   behind-same ports None = refl
   behind-same ports (Some areas) = with-same ports areas
 
-  pub told_of-same : (ports : List ℕ) → told_of f a ports ≡ told_of g b ports
-  told_of-same ports = rw (together-same, pool-same, behind-same ports (pool_of g)) refl
+  pub told_of-same : (ports : List ℕ) → told_by_words f a ports ≡ told_by_words g b ports
+  told_of-same ports = rw (together-same, pool-same, behind-same ports (pool_areas_of g)) refl
 
 -- what clap answered is what the words say
-pub replay-said : (m : ArgMatches) (said : Option Said) (ports : List ℕ) (told : Option ReplayShown) → Answers option_names flag_names (Some m) said
+pub replay-said : (m : ArgMatches) (said : Option Said) (ports : List ℕ) (told : Option ReplayShown) → AreMatched option_names flag_names (Some m) said
     → ((words : List Text) → option_map raw_values (matched_of (found_of m) port_id) ≡ if_any words → Some ports ≡ ports_of words)
-    → told ≡ told_of (λ name. first_value (found_of m) name) (flag_in m) ports → told ≡ replay_of said
+    → told ≡ told_by_words (λ name. first_value (found_of m) name) (flag_in m) ports → told ≡ replay_of said
 replay-said m None ports told has are is = absurd has
 replay-said m (Some said) ports told has are is =
     is ∙ told_of-same (λ name. first_value (found_of m) name) (λ name. value_said name said.options) (flag_in m) (λ name. is_among said.flags name)
     has.options has.flagged ports
-    ∙ ap (option_and_then (told_of (λ name. value_said name said.options) (λ name. is_among said.flags name))) (are said.words has.words)
+    ∙ ap (option_and_then (told_by_words (λ name. value_said name said.options) (λ name. is_among said.flags name))) (are said.words has.words)
 
 -- clap answered nothing
-pub nothing-said : (said : Option Said) → Answers option_names flag_names None said → None ≡ replay_of said
+pub nothing-said : (said : Option Said) → AreMatched option_names flag_names None said → None ≡ replay_of said
 nothing-said None has = refl
 nothing-said (Some said) has = absurd has
 
 -- the words that stand for themselves are no ports
-pub no-ports-said : (m : ArgMatches) (said : Option Said) → Answers option_names flag_names (Some m) said
+pub no-ports-said : (m : ArgMatches) (said : Option Said) → AreMatched option_names flag_names (Some m) said
     → ((words : List Text) → option_map raw_values (matched_of (found_of m) port_id) ≡ if_any words → None ≡ ports_of words)
     → None ≡ replay_of said
 no-ports-said m None has none = absurd has
 no-ports-said m (Some said) has none =
-    ap (option_and_then (told_of (λ name. value_said name said.options) (λ name. is_among said.flags name))) (none said.words has.words)
+    ap (option_and_then (told_by_words (λ name. value_said name said.options) (λ name. is_among said.flags name))) (none said.words has.words)

@@ -5,8 +5,8 @@ use Rattle.std.{proofs.Common.{◌∷◌, length, Option, Some, None, is_some, z
 use Rattle.std.proofs.lemmas.Bool.{and_right}
 use Rattle.clap.specs.Walk.{Held, Row, Walk, Waiting, subcommand_met, has_row, idle, option, positional, value, settled_rows, used, walked, word_met, is_pending}
 use Rattle.clap.specs.{Kinds.{Kinds, or_else}, declared.error.kind.ErrorKind.{ErrorKind}, Faults.{settle_fault, turn_fault, walk_fault, word_fault, flags_fault}}
-use Rattle.command_words.specs.Assigned.{Text, Look, closing, named, dashed, plain, Said, assigned, each_once, is_among, look_of, nothing_said, said_by}
-use Rattle.command_words.specs.{Assigned.{value_said, with_flag, with_option, with_word}, Asking.{AreApart, port_id}}
+use Rattle.command_words.specs.Assigned.{Text, Look, closing, named, dashed, plain, Said, assigned, each_once, is_among, look_of_word, nothing_said, said_by}
+use Rattle.command_words.specs.{Assigned.{value_said, with_flag, with_option, said_with_word}, Asking.{AreNamesApart, port_id}}
 use Rattle.command_words.proofs.Lookups.{by_id, by_index, by_long, by_port_id, by_short, text_is_itself, flag_rule, option_rule, port_rule, rules, shape_for}
 use Rattle.command_words.proofs.Looks.{Dashes, IsSeen, seen}
 use Rattle.command_words.proofs.Matching.{IsOnce, IsTwice, Shows, and_flag, and_option, and_word, flag_row, flag_twice, joined, joined_flag}
@@ -40,7 +40,7 @@ abbrev pub AllText : List Text → Type 0
 AllText [] = Unit {0}
 AllText (word ∷ words) = IsUtf8 word × AllText words
 
-module _ (names flags : List Text) (apart : AreApart names flags) where
+module _ (names flags : List Text) (apart : AreNamesApart names flags) where
   abbrev settle : Held → Kinds
   settle h = settle_fault (rules names flags) false h
 
@@ -157,7 +157,7 @@ module _ (names flags : List Text) (apart : AreApart names flags) where
   regroup_flag name said (Some after) = ap Some (joined_flag name said after)
 
   regroup_word : (word : Text) (said : Said) (o : Option Said)
-      → option_map (joined said) (option_map (with_word word) o) ≡ option_map (joined (and_word word said)) o
+      → option_map (joined said) (option_map (said_with_word word) o) ≡ option_map (joined (and_word word said)) o
   regroup_word word said None = refl
   regroup_word word said (Some after) = ap Some (joined_word word said after)
 
@@ -437,7 +437,7 @@ module _ (names flags : List Text) (apart : AreApart names flags) where
   )
   both (word ∷ words) text =
       let after = both words text.1 in (
-        (λ h p said none holds. free_step (look_of word) word words (seen word) text.0 after.0 after.1 h p said none holds),
-        (λ rows skip name said none among shows once. awaits_step (look_of word) word words
+        (λ h p said none holds. free_step (look_of_word word) word words (seen word) text.0 after.0 after.1 h p said none holds),
+        (λ rows skip name said none among shows once. awaits_step (look_of_word word) word words
             (seen word) text.0 after.0 rows skip name said none among shows once),
       )

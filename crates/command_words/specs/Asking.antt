@@ -8,7 +8,7 @@ abbrev pub port_id : Text
 port_id = codes "PORT"
 
 -- no option is called as a flag, and neither as the words that stand for themselves
-pub record AreApart (names flags : List Text) : Type 0 where
+pub record AreNamesApart (names flags : List Text) : Type 0 where
   pub unlike : list_any (is_among names) flags ≡ false
   pub words : (is_among names port_id ≡ false) × (is_among flags port_id ≡ false)
 
@@ -58,8 +58,8 @@ pub record HasSaid (names flags : List Text) (matches : ArgMatches) (said : Said
   pub words : option_map raw_values (matched_of (found_of matches) port_id) ≡ if_any said.words
 
 -- matches come exactly where the words say something
-abbrev pub Answers : List Text → List Text → Option ArgMatches → Option Said → Type 0
-Answers names flags (Some matches) (Some said) = HasSaid names flags matches said
-Answers names flags None None = ⊤
-Answers names flags (Some matches) None = ⊥
-Answers names flags None (Some said) = ⊥
+abbrev pub AreMatched : List Text → List Text → Option ArgMatches → Option Said → Type 0
+AreMatched names flags (Some matches) (Some said) = HasSaid names flags matches said
+AreMatched names flags None None = ⊤
+AreMatched names flags (Some matches) None = ⊥
+AreMatched names flags None (Some said) = ⊥

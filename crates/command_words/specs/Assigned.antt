@@ -22,21 +22,21 @@ pub data Look : Type 0 where
   plain : Look
 
 -- what stands after `--`, cut at its first `=`
-abbrev pub cut : Text → Look
-cut text =
+abbrev pub look_behind_dashes : Text → Look
+look_behind_dashes text =
     named (before_first is_equals text) (if list_any is_equals text then Some (after_first is_equals text) else None)
 
 abbrev pub after_dashes : Text → Look
 after_dashes [] = closing
-after_dashes (byte ∷ rest) = cut (byte ∷ rest)
+after_dashes (byte ∷ rest) = look_behind_dashes (byte ∷ rest)
 
 abbrev pub after_dash : Text → Look
 after_dash [] = plain
 after_dash (byte ∷ rest) = if byte == dash then after_dashes rest else dashed
 
-abbrev pub look_of : Text → Look
-look_of [] = plain
-look_of (byte ∷ rest) = if byte == dash then after_dash rest else plain
+abbrev pub look_of_word : Text → Look
+look_of_word [] = plain
+look_of_word (byte ∷ rest) = if byte == dash then after_dash rest else plain
 
 -- what words say: the options that they name, each with its value, the flags, which have none, and the words that stand for
 -- themselves
@@ -54,8 +54,8 @@ with_option name value said = record said { options = (name, value) ∷ said.opt
 abbrev pub with_flag : Text → Said → Said
 with_flag name said = record said { flags = name ∷ said.flags }
 
-abbrev pub with_word : Text → Said → Said
-with_word word said = record said { words = word ∷ said.words }
+abbrev pub said_with_word : Text → Said → Said
+said_with_word word said = record said { words = word ∷ said.words }
 
 abbrev pub is_among : List Text → Text → Bool
 is_among names name = list_any (λ known. bytes_eq known name) names
@@ -71,7 +71,7 @@ said_by names flags None (named name None) word rest next =
     if is_among names name then next (Some name)
     else if is_among flags name then option_map (with_flag name) (next None) else None
 said_by names flags None dashed word rest next = None
-said_by names flags None plain word rest next = option_map (with_word word) (next None)
+said_by names flags None plain word rest next = option_map (said_with_word word) (next None)
 said_by names flags (Some name) closing word rest next = None
 said_by names flags (Some name) (named other value) word rest next = None
 said_by names flags (Some name) dashed word rest next = None
@@ -81,7 +81,7 @@ unfoldable pub assigned : List Text → List Text → Option Text → List Text 
 assigned names flags None [] = Some nothing_said
 assigned names flags (Some name) [] = None
 assigned names flags waits (word ∷ rest) =
-    said_by names flags waits (look_of word) word rest (λ w. assigned names flags w rest)
+    said_by names flags waits (look_of_word word) word rest (λ w. assigned names flags w rest)
 
 abbrev pub names_said : Said → List Text
 names_said said = map (λ option. option.0) said.options

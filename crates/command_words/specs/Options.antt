@@ -31,8 +31,8 @@ number_or default least most (Some word) = in_range least most word
 abbrev pub sizes : List ℕ
 sizes = 1024 ∷ 2048 ∷ 4096 ∷ 8192 ∷ 16384 ∷ 32768 ∷ 65536 ∷ []
 
-abbrev pub size_of : Option Text → Option ℕ
-size_of said = given (number_or 4096 1024 65536 said) (λ size. if list_any (λ n. n == size) sizes then Some size else None)
+abbrev pub buffer_size_of : Option Text → Option ℕ
+buffer_size_of said = given (number_or 4096 1024 65536 said) (λ size. if list_any (λ n. n == size) sizes then Some size else None)
 
 -- any number, if one is said
 abbrev pub quit_of : Option Text → Option (Option ℕ)
@@ -95,7 +95,7 @@ turns_of apps (Some text) = if are_turns apps text then Some (Some text) else No
 -- ---- what these may be
 
 -- 1 to 4,096 characters, each `n` or the digit of one of so many applications
-pub record AreTurns (apps : ℕ) (text : Text) : Type 0 where
+pub record IsTurnsText (apps : ℕ) (text : Text) : Type 0 where
   pub some : 1 ≤ length text
   pub most : length text ≤ 4096
   pub letters : All (λ letter. (letter ≡ 110) ⊎ ((48 ≤ letter) × (letter < 48 + apps))) text

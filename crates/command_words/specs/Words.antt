@@ -5,7 +5,7 @@ use Rattle.zr_kinds.specs.{Options.{AreInRange, BehavesPlainly, GoesByTurns}, de
 use Rattle.area_layout.specs.Layout.{MakeLayout}
 use Rattle.command_words.specs.{declared.{reading.{Command.{Command}, Replay.{Replay}}, making.Make.{Make}}, Numbers.{ports_of, up_to}}
 use Rattle.command_words.specs.Assigned.{Text, Said, is_among, sorted, value_said}
-use Rattle.command_words.specs.{Options.{AreTurns, flag_names, given, option_names, options_of, stand_together, turns_of}, Areas.{pool_of}}
+use Rattle.command_words.specs.{Options.{IsTurnsText, flag_names, given, option_names, options_of, stand_together, turns_of}, Areas.{pool_areas_of}}
 
 -- what `replay` is told: its ports, in the order given, its areas, each by its number of buffers and their size, its other
 -- numbers, and whose turns it goes by, if that is said
@@ -42,24 +42,24 @@ told_with value flag ports areas =
     Some (record { ports = ports; areas = areas; options = options; turns = turns })))
 
 -- what it is told by these
-abbrev pub told_of : (Text → Option Text) → (Text → Bool) → List ℕ → Option ReplayShown
-told_of value flag ports = if stand_together value flag then given (pool_of value) (told_with value flag ports) else None
+abbrev pub told_by_words : (Text → Option Text) → (Text → Bool) → List ℕ → Option ReplayShown
+told_by_words value flag ports = if stand_together value flag then given (pool_areas_of value) (told_with value flag ports) else None
 
 abbrev pub replay_of : Option Said → Option ReplayShown
 replay_of = option_and_then (λ said.
-    given (ports_of said.words) (told_of (λ name. value_said name said.options) (λ name. is_among said.flags name)))
+    given (ports_of said.words) (told_by_words (λ name. value_said name said.options) (λ name. is_among said.flags name)))
 
 -- a seed and a number of frames, and no other word
-abbrev pub numbers_of : List Text → Option Make
-numbers_of [] = None
-numbers_of (seed ∷ []) = None
-numbers_of (seed ∷ frames ∷ []) =
+abbrev pub make_numbers_of : List Text → Option Make
+make_numbers_of [] = None
+make_numbers_of (seed ∷ []) = None
+make_numbers_of (seed ∷ frames ∷ []) =
     option_and_then (λ s. option_map (λ f. record { seed = s; frames = f }) (up_to 1000000 frames)) (up_to 4294967295 seed)
-numbers_of (seed ∷ frames ∷ more ∷ words) = None
+make_numbers_of (seed ∷ frames ∷ more ∷ words) = None
 
 -- `make` has no options and no flags
 abbrev pub make_of : Option Said → Option Make
-make_of = option_and_then (λ said. numbers_of said.words)
+make_of = option_and_then (λ said. make_numbers_of said.words)
 
 -- `check` has no further word
 abbrev pub check_of : List Text → Option Shown
@@ -88,7 +88,7 @@ pub record IsReplay (told : Replay) : Type 0 where
   pub areas : MakeLayout told.areas.items (length told.ports.items)
   pub options : AreInRange told.options
   pub plain : BehavesPlainly told.options
-  pub turns : IfSome told.turns (λ text. AreTurns (length told.ports.items) text.now)
+  pub turns : IfSome told.turns (λ text. IsTurnsText (length told.ports.items) text.now)
   pub own : IfSome told.turns (λ text. GoesByTurns told.options)
   -- the record of a run is asked for only with a text of turns
   pub logged : told.options.events ≡ true → IsSome told.turns

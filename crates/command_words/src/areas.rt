@@ -2,7 +2,7 @@
 
 ghost use Rattle.std.specs.{Prelude.{◌≡◌, IfOk, option_map}, List.{slice_split}};
 ghost use Rattle.clap.specs.Words.{found_of, first_value};
-ghost use Rattle.command_words.specs.Areas.{area_of, areas_of, areas_or, few_areas, fit_together, is_comma, one_area, pool_of};
+ghost use Rattle.command_words.specs.Areas.{area_in_word, areas_in_word, areas_or, few_areas, fit_together, is_comma, one_area, pool_areas_of};
 
 use crate::options::{BUFFERS, read_size};
 use area_layout::{MAX_AREAS, MAX_BUFFERS, MAX_BYTES};
@@ -12,7 +12,7 @@ use std::alloc::{AllocError, Global};
 
 /// An area, written as its number of buffers, a colon and their size.
 pub(crate) fn read_area(text: &str) -> Option<(u32, u32)>
-    ensures { result ≡ area_of text.now }
+    ensures { result ≡ area_in_word text.now }
 {
     let (buffers, size) = text.split_once(':')?;
     Some((BUFFERS.read(Some(buffers))?, read_size(Some(size))?))
@@ -52,7 +52,7 @@ pub(crate) fn fit_together(areas: &[(u32, u32)]) -> bool
 
 /// One to four areas.
 fn read_areas(alloc: Global, text: &str) -> Result<Option<Vec<(u32, u32)>>, AllocError>
-    ensures { IfOk result (λ r. option_map (λ areas. areas.items) r ≡ areas_of text.now) }
+    ensures { IfOk result (λ r. option_map (λ areas. areas.items) r ≡ areas_in_word text.now) }
 {
     match few_areas(text) {
         Some(areas) if fit_together(&areas) => Ok(Some(areas.to_vec(alloc)?)),
@@ -98,10 +98,10 @@ fn read_either(
 }
 
 /// The areas of the pool: those that were said, or one with the number of buffers and the size that were said.
-#[tactic(auto, unfolding(crate::specs::Areas::pool_of))]
+#[tactic(auto, unfolding(crate::specs::Areas::pool_areas_of))]
 pub fn read_pool(alloc: Global, said: &ArgMatches) -> Result<Option<Vec<(u32, u32)>>, AllocError>
     ensures { IfOk result (λ r. option_map (λ areas. areas.items) r
-        ≡ pool_of (λ name. first_value (found_of said.now) name)) }
+        ≡ pool_areas_of (λ name. first_value (found_of said.now) name)) }
 {
     read_either(
         alloc,

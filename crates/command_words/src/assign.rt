@@ -2,7 +2,8 @@
 
 ghost use Rattle.std.specs.{Prelude.{◌≡◌, ◌++◌, IfOk, [], drop, map, option_map}, Str.{IsUtf8}, List.{All}};
 ghost use Rattle.clap.specs.Words.{app_of, found_of, matched_of, raw_values, with_rule};
-ghost use Rattle.command_words.specs.{Assigned.{sorted}, Asking.{Answers, AreApart, app_for, app_with, flag_rules, option_rules, port_id, raw_flag, raw_option}};
+ghost use Rattle.command_words.specs.{Assigned.{sorted}, Asking.{AreMatched, AreNamesApart, app_for, app_with, flag_rules, option_rules, port_id, raw_flag}};
+ghost use Rattle.command_words.specs.Asking.{raw_option};
 
 use clap::error::ErrorKind;
 use clap::{Arg, ArgAction, ArgMatches, Command};
@@ -103,8 +104,8 @@ pub fn assign<'a>(
     flags: &'a [&'a str],
     words: &'a [&'a str],
 ) -> Result<Option<ArgMatches<'a>>, AllocError>
-    requires { AreApart (map (λ n. n.now) names.now) (map (λ n. n.now) flags.now) }
-    ensures { IfOk result (λ r. Answers (map (λ n. n.now) names.entry.now)
+    requires { AreNamesApart (map (λ n. n.now) names.now) (map (λ n. n.now) flags.now) }
+    ensures { IfOk result (λ r. AreMatched (map (λ n. n.now) names.entry.now)
         (map (λ n. n.now) flags.entry.now) r
         (sorted (map (λ n. n.now) names.entry.now) (map (λ n. n.now) flags.entry.now)
         (drop 1 (map (λ w. w.now) words.entry.now)))) }

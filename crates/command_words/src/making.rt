@@ -2,7 +2,7 @@
 
 ghost use Rattle.std.specs.Prelude.{◌≡◌, List, ℕ, [], IfOk, drop, map, option_map};
 ghost use Rattle.clap.specs.Words.{found_of, matched_of, raw_values};
-ghost use Rattle.command_words.specs.{Assigned.{if_any, sorted}, Asking.{port_id}, Words.{make_of, numbers_of}};
+ghost use Rattle.command_words.specs.{Assigned.{if_any, sorted}, Asking.{port_id}, Words.{make_of, make_numbers_of}};
 
 use crate::{assign, numbers};
 use clap::ArgMatches;
@@ -24,7 +24,7 @@ pub struct Make {
 static NAMES: [&str; 0] = [];
 
 fn read_numbers(words: &[&str]) -> Option<Make>
-    ensures { result ≡ numbers_of (map (λ w. w.now) words.now) }
+    ensures { result ≡ make_numbers_of (map (λ w. w.now) words.now) }
 {
     match words {
         [seed, frames] => Some(Make {
@@ -38,7 +38,7 @@ fn read_numbers(words: &[&str]) -> Option<Make>
 fn numbers_said(said: &ArgMatches) -> Option<Make>
     ensures { (words : List (List ℕ))
         → option_map raw_values (matched_of (found_of said.now) port_id) ≡ if_any words
-        → result ≡ numbers_of words }
+        → result ≡ make_numbers_of words }
 {
     match assign::plain_words(said) {
         Some(words) => read_numbers(words),

@@ -2,7 +2,7 @@
 
 ghost use Rattle.std.specs.{Prelude.{◌≡◌, ◌≤◌, codes, is_some, map, option_map}, List.{list_all, list_any}};
 ghost use Rattle.clap.specs.Words.{found_of, first_value};
-ghost use Rattle.command_words.specs.{Asking.{flag_in}, Options.{are_turns, behaviour_of, delay_of, is_turn, number_or, options_of, quit_of, size_of, stand_together, turns_of}};
+ghost use Rattle.command_words.specs.{Asking.{flag_in}, Options.{are_turns, behaviour_of, delay_of, is_turn, number_or, options_of, quit_of, buffer_size_of, stand_together, turns_of}};
 
 use crate::areas::few_areas;
 use crate::numbers;
@@ -87,7 +87,7 @@ impl Number {
 }
 
 pub(crate) fn read_size(word: Option<&str>) -> Option<u32>
-    ensures { result ≡ size_of (option_map (λ w. w.now) word.entry) }
+    ensures { result ≡ buffer_size_of (option_map (λ w. w.now) word.entry) }
 {
     let size = SIZE.read(word)?;
     match size {

@@ -2,7 +2,7 @@
 
 ghost use Rattle.std.specs.{Prelude.{◌≡◌, ◌≤◌, List, ℕ, IfOk, IfSome, codes, drop, length, map, option_map}, Str.{bytes_eq}};
 ghost use Rattle.clap.specs.Words.{first_value, found_of, matched_of, raw_values};
-ghost use Rattle.command_words.specs.{Numbers.{ports_of}, Assigned.{if_any, sorted}, Asking.{flag_in, port_id}, Options.{flag_names, option_names}, Words.{IsCommand, command_shown, reading_of, replay_of, replay_shown, told_of, told_with}};
+ghost use Rattle.command_words.specs.{Numbers.{ports_of}, Assigned.{if_any, sorted}, Asking.{flag_in, port_id}, Options.{flag_names, option_names}, Words.{IsCommand, command_shown, reading_of, replay_of, replay_shown, told_by_words, told_with}};
 
 use crate::areas::read_pool;
 use crate::making::{Make, read_make};
@@ -88,7 +88,8 @@ fn with_ports<'a>(
 ) -> Result<Option<Replay<'a>>, AllocError>
     requires { length ports.items ≤ 8 }
     ensures { IfOk result (λ r. option_map replay_shown r
-        ≡ told_of (λ name. first_value (found_of said.now) name) (flag_in said.now) ports.items) }
+        ≡ told_by_words (λ name. first_value (found_of said.now) name) (flag_in said.now)
+        ports.items) }
 {
     if !stand_together(said) {
         return Ok(None);

@@ -3,16 +3,16 @@ use Rattle.std.proofs.Common.{◌≡◌, ◌∙◌, ℕ, ◌+◌, ◌-◌, ◌<�
 use Rattle.std.{specs.{Prelude.{◌&&◌, ◌||◌}}, proofs.lemmas.{Bool.{lt-ltb, eq-eqb, or_right}, List.Elements.{All-get_or}}}
 use Rattle.area_layout.{proofs.Words.{words_apart}, specs.Layout.{pool_buffers, size_of}}
 use Rattle.run_records.specs.declared.event.Event.TheVariants as event
-use Rattle.run_records.specs.{declared.holding.Holding.{Holding}, Setting.{total_buffers, pool_buffers as run_pool_buffers}}
+use Rattle.run_records.specs.{declared.holding.Holding.{Holding}, Setting.{total_buffers, buffers_of_areas as run_pool_buffers}}
 use Rattle.run_records.{specs.{Holders.{is_pool_buffer, is_reserve_of, is_same}, declared.event.Event.{Event}}, proofs.Weighing.{one_if}}
 use Rattle.run_records.specs.declared.holding.Holding.TheVariants as holding
 use Rattle.board_face.specs.BoardSteps.{AppStep, AppCan, apply, app, app_view, polls, cuts, releases, lends, gives, abandons, spares, lends_own}
-use Rattle.board_face.specs.Holdings.{app_ends, app_begins, weight as hold_weight}
+use Rattle.board_face.specs.Holdings.{app_ends, app_begins, weight_in as hold_weight}
 use Rattle.board_face.specs.{AppCalls.{HasHeld, HasSpare, IsFilled}, declared.views.parts.Filling.{Filling}}
 use Rattle.zr_kinds.specs.declared.place.{Note.{Note}, Place.{Place}}
-use Rattle.event_log.{specs.{Fills.{AreShort}, IsLogged.{Logs, AreSound, KeepsLog, run_of}, Plain.{weight}}, proofs.Tallying.{Tallies}}
-use Rattle.board_face.proofs.Tallies.{weight as one}
-use Rattle.run_records.specs.Holders.{becomes, buffer_of, changed, is_app, is_buffer, is_in_range, is_within}
+use Rattle.event_log.{specs.{Fills.{AreShort}, IsLogged.{Logs, AreSound, KeepsLog, setting_of_sides}, Plain.{weight}}, proofs.Tallying.{Tallies}}
+use Rattle.board_face.proofs.Tallies.{one_if as one}
+use Rattle.run_records.specs.Holders.{becomes, buffer_of_event, changed, is_app, is_buffer, is_in_range, is_within}
 use Rattle.board_face.specs.{AppEvents.{begin_place, got_spare, own_bytes}, Laws.{AllSides, pool_of, user_of}}
 use Rattle.board_face.specs.{OwnBuffers.{IsOwnBuffer}, Sides.{IsApp, app_at, side_in}, declared.views.{parts.Setting.{Setting as Shared}}}
 use Rattle.board_face.{specs.declared.views.app.AppSide.{AppSide}, proofs.{ListLemmas.{not-eqb}}}
@@ -45,15 +45,16 @@ module _ (s : AllSides) (sound : AreSound s) (a : ℕ) (at : IsApp s.apps a (sid
   next step = apply (app a step) s
 
   -- bytes of a holder that is there are in the area
-  within : (p : Place) → is_buffer (run_of s) p.buffer ≡ true → one (ltb (size_of s.nic.view.setting.layout p.buffer) (p.offset + p.len)) ≡ 0
-      → (is_app (run_of s) a && is_within (run_of s) p.buffer p.offset p.len) ≡ true
+  within : (p : Place) → is_buffer (setting_of_sides s) p.buffer ≡ true → one (ltb (size_of s.nic.view.setting.layout p.buffer) (p.offset + p.len)) ≡ 0
+      → (is_app (setting_of_sides s) a && is_within (setting_of_sides s) p.buffer p.offset p.len) ≡ true
   within p there none = rw (app-there s sound a x at, within-by s sound p.buffer p.offset p.len there none) refl
 
   -- one holder of a place ends, and others begin there
-  place-ends : (step : AppStep) (e : Event) (p : Place) (old : Holding) (news : List Holding) → buffer_of e ≡ Some p.buffer
+  place-ends : (step : AppStep) (e : Event) (p : Place) (old : Holding) (news : List Holding) → buffer_of_event e ≡ Some p.buffer
       → Shifts p.buffer (old ∷ []) news s (next step) → weight (one_if (is_same old)) news ≡ 0
-      → (is_buffer (run_of s) p.buffer ≡ true → one (ends (size_of s.nic.view.setting.layout p.buffer) old) ≡ 0 → is_in_range (run_of s) e ≡ true)
-      → ((held : List Holding) → changed (run_of s) held e ≡ becomes old news held) → Counts e p.buffer (next step) → Tallies e s (next step)
+      → (is_buffer (setting_of_sides s) p.buffer ≡ true → one (ends (size_of s.nic.view.setting.layout p.buffer) old) ≡ 0
+      → is_in_range (setting_of_sides s) e ≡ true)
+      → ((held : List Holding) → changed (setting_of_sides s) held e ≡ becomes old news held) → Counts e p.buffer (next step) → Tallies e s (next step)
       → Logs e s (next step)
   place-ends step e p old news names shifts none range does counts tallies =
       one-ends e p.buffer old news s (next step) sound (NoneReturns-app s a x (app_view step x.view) at sound.returns) refl names shifts none range does
@@ -125,14 +126,14 @@ own-setting s sound a x at =
 
 -- what may be a spare of the application
 record MayBeSpare (s : AllSides) (a buffer : ℕ) : Type 0 where
-  pub within : buffer < total_buffers (run_of s)
-  pub fits : (is_pool_buffer (run_of s) buffer || is_reserve_of (run_of s) a buffer) ≡ true
+  pub within : buffer < total_buffers (setting_of_sides s)
+  pub fits : (is_pool_buffer (setting_of_sides s) buffer || is_reserve_of (setting_of_sides s) a buffer) ≡ true
 
 may-be_spare : (s : AllSides) → AreSound s → (a : ℕ) (x : AppSide) → IsApp s.apps a x → (buffer : ℕ) → IsOwnBuffer x.view buffer
     → MayBeSpare s a buffer
 may-be_spare s sound a x at buffer own =
     let layout = s.nic.view.setting.layout in
-    let pool = run_pool_buffers (run_of s).areas in
+    let pool = run_pool_buffers (setting_of_sides s).areas in
     let same : pool ≡ pool_buffers x.view.setting.layout =
     pool_buffers-same layout ∙ sym (ap (λ (x : Shared). pool_buffers x.layout) (own-setting s sound a x at)) in
     ⊎_elim
@@ -155,7 +156,7 @@ spared-logs s sound a at buffer own none =
     let one = holding.Spare a in
     let may = may-be_spare s sound a x at buffer own in
     let becomes : Becomes e buffer [] (one ∷ []) s = λ h same. (
-      rw (app-there s sound a x at, lt-ltb buffer (total_buffers (run_of s)) may.within) refl,
+      rw (app-there s sound a x at, lt-ltb buffer (total_buffers (setting_of_sides s)) may.within) refl,
       (one ∷ [], rw (may.fits, no-length s sound h same buffer none) refl, from-none s sound h same buffer none (one ∷ [])),
     ) in
     logs-by e s new refl (follows-by e buffer [] (one ∷ []) s new refl (NoneReturns-app s a x v at sound.returns)

@@ -9,8 +9,8 @@ use Rattle.board_face.specs.AppEvents.{held_origin, lent, loan_origin, loans_wit
 use Rattle.board_face.specs.{AppEvents.{gave, lent_own, took_note}, Laws.{AllSides, by_app}, NicEvents.{fresh}, Sides.{IsApp, app_at}, Tokens.{filled_by}}
 use Rattle.board_face.specs.declared.views.{parts.Filling.{Filling}, app.{AppView.{AppView}, AppSide.{AppSide}, LentPiece.{LentPiece}, SpareOwn.{SpareOwn}}}
 use Rattle.board_face.{specs.declared.views.app.{TakenNote.{TakenNote}, Origin.TheVariants.{Copied as of_copy}}, proofs.ListLemmas.{eqb_same, not-eqb}}
-use Rattle.board_face.proofs.Tallies.{weight as one, total}
-use Rattle.event_log.specs.Tallies.{len_of, place_of, taken_as}
+use Rattle.board_face.proofs.Tallies.{one_if as one, total}
+use Rattle.event_log.specs.Tallies.{len_of_loan, place_of_loan, taken_as}
 use Rattle.board_face.specs.{Lists.{same_place}, Tokens.{same_filling}}
 use Rattle.board_face.proofs.{ListLemmas.{same_place-refl, same_filling-refl, same_place-is, same_filling-is}, Sums.{total-without}}
 use Rattle.event_log.proofs.Tallying.{Gains, IsNoneOfCard, SameLists, Tallies, TellsNothing, app-stays, gains-none, sum-total, tallies-app}
@@ -34,11 +34,11 @@ gains-returned v p out =
     let back : LentPiece = record { place = p; origin = loan_origin v p } in
     let fewer : length (loans_without v p) + 1 ≡ length v.loans =
     omega (arith, loans-less v p out (λ q. 1), length-total v.loans, length-total (loans_without v p)) in
-    let less : sum_by len_of (loans_without v p) + p.len ≡ sum_by len_of v.loans =
-    omega (arith, loans-less v p out (λ q. q.len), sum-total len_of v.loans, sum-total len_of (loans_without v p)) in
+    let less : sum_by len_of_loan (loans_without v p) + p.len ≡ sum_by len_of_loan v.loans =
+    omega (arith, loans-less v p out (λ q. q.len), sum-total len_of_loan v.loans, sum-total len_of_loan (loans_without v p)) in
     record {
       loans_are = omega (arith, fewer, length-append v.returned (back ∷ []));
-      bytes_are = omega (arith, less, sum_by_push len_of v.returned back);
+      bytes_are = omega (arith, less, sum_by_push len_of_loan v.returned back);
       copies_are = omega arith;
     }
 
@@ -69,7 +69,7 @@ gains-lent v p =
     let loan : LentPiece = record { place = p; origin = held_origin v p } in
     record {
       loans_are = omega (arith, length-append v.loans (loan ∷ []));
-      bytes_are = omega (arith, sum_by_push len_of v.loans loan);
+      bytes_are = omega (arith, sum_by_push len_of_loan v.loans loan);
       copies_are = omega arith;
     }
 
@@ -78,7 +78,7 @@ gains-lent_own v it out =
     let loan : LentPiece = record { place = begin_place it.buffer (length (own_bytes v it)); origin = of_copy (own_bytes v it) } in
     record {
       loans_are = omega (arith, length-append v.loans (loan ∷ []));
-      bytes_are = omega (arith, sum_by_push len_of v.loans loan);
+      bytes_are = omega (arith, sum_by_push len_of_loan v.loans loan);
       copies_are = omega (arith, owns-fewer v it out);
     }
 
@@ -118,7 +118,7 @@ tallies-took_note s a app at note split =
 
 -- a loan was returned, by an entry or without one
 tallies-back : (s : AllSides) (a : ℕ) (app : AppSide) (v : AppView) → IsApp s.apps a app → (p : Place) (user : ℕ) → Gains 0 0 0 app.view v
-    → v.taken ≡ app.view.taken → map place_of v.returned ≡ map place_of app.view.returned ++ p ∷ [] → v.spares ≡ app.view.spares
+    → v.taken ≡ app.view.taken → map place_of_loan v.returned ≡ map place_of_loan app.view.returned ++ p ∷ [] → v.spares ≡ app.view.spares
     → Tallies (event.Back a p.buffer p.offset p.len user) s (by_app s a app v)
 tallies-back s a app v at p user none taken returned spares =
     tallies-app (event.Back a p.buffer p.offset p.len user) s a app (app_at app v) at none
@@ -129,12 +129,12 @@ tallies-back s a app v at p user none taken returned spares =
 pub tallies-gave : (s : AllSides) (a : ℕ) (app : AppSide) → IsApp s.apps a app → (p : Place) (user : ℕ) → HasLoan app.view p
     → Tallies (event.Back a p.buffer p.offset p.len user) s (by_app s a app (gave app.view p))
 tallies-gave s a app at p user out =
-    tallies-back s a app (gave app.view p) at p user (gains-gave app.view p out) refl (map-append place_of app.view.returned _) refl
+    tallies-back s a app (gave app.view p) at p user (gains-gave app.view p out) refl (map-append place_of_loan app.view.returned _) refl
 
 pub tallies-abandoned : (s : AllSides) (a : ℕ) (app : AppSide) → IsApp s.apps a app → (p : Place) (user : ℕ) → HasLoan app.view p
     → Tallies (event.Back a p.buffer p.offset p.len user) s (by_app s a app (abandoned app.view p))
 tallies-abandoned s a app at p user out =
-    tallies-back s a app (abandoned app.view p) at p user (gains-returned app.view p out) refl (map-append place_of app.view.returned _) refl
+    tallies-back s a app (abandoned app.view p) at p user (gains-returned app.view p out) refl (map-append place_of_loan app.view.returned _) refl
 
 pub tallies-got_spare : (s : AllSides) (a : ℕ) (app : AppSide) → IsApp s.apps a app → (buffer pool : ℕ)
     → Tallies (event.Spare a buffer pool) s (by_app s a app (got_spare app.view buffer))

@@ -3,7 +3,7 @@ use Rattle.std.proofs.Common.{◌≡◌, ◌∙◌, ℕ, ◌+◌, ◌<◌, ◌�
 use Rattle.std.{specs.{Prelude.{◌||◌, ◌%◌, not, count_by}, List.{list_any, list_all, flat_map}}, proofs.lemmas.Bool.{lt-ltb, le-leb, eq-eqb, cases_lt, or_right}}
 use Rattle.std.proofs.lemmas.List.{append-nil, flat_map_more, map-append, Elements.{All-contains}}
 use Rattle.area_layout.specs.Layout.{size_of, pool_buffers}
-use Rattle.run_records.specs.{declared.{event.Event.{Event}, holding.Holding.{Holding}}, Setting.{Setting, total_buffers, pool_buffers as run_pool_buffers}}
+use Rattle.run_records.specs.{declared.{event.Event.{Event}, holding.Holding.{Holding}}, Setting.{Setting, total_buffers, buffers_of_areas as run_pool_buffers}}
 use Rattle.run_records.{specs.Holders.{Holdings, after, is_app, is_apart, is_buffer, is_same}, proofs.Weighing.{Moves, one_if, weight-append}}
 use Rattle.run_records.specs.declared.event.Event.TheVariants as event
 use Rattle.run_records.specs.declared.holding.Holding.TheVariants as holding
@@ -12,16 +12,16 @@ use Rattle.board_face.specs.{BoardSteps.{CardStep, CardCan, apply, card, card_vi
 use Rattle.zr_kinds.{specs.declared.{place.{Note.{Note}, Place.{Place}}, ring.Rqe.{Rqe}}, proofs.Booleans.{if-le}}
 use Rattle.board_face.specs.NicEvents.{took, placed, sent, gave_up, shut, passed_over, honoured}
 use Rattle.board_face.specs.{Places.{places_of, ends_behind}, Tokens.{FitsBuffer}, declared.views.parts.Setting.{Setting as Shared}}
-use Rattle.board_face.{specs.declared.views.{parts.Filling.{Filling}, nic.{Dealt.{Dealt}, NicView.{NicView}, SentNote.{SentNote}}}, proofs.Tallies.{weight as one}}
-use Rattle.event_log.specs.{IsLogged.{AreSound, KeepsLog, Logs, run_of}}
-use Rattle.event_log.specs.{Settings.{setting_of}, Plain.{SameHoldings, weight}, Tallies.{dealt_as, is_stray, sent_as, strays_of, was_stray}}
+use Rattle.board_face.{specs.declared.views.{parts.Filling.{Filling}, nic.{Dealt.{Dealt}, NicView.{NicView}, SentNote.{SentNote}}}, proofs.Tallies.{one_if as one}}
+use Rattle.event_log.specs.{IsLogged.{AreSound, KeepsLog, Logs, setting_of_sides}}
+use Rattle.event_log.specs.{Settings.{setting_of_layout}, Plain.{HasHoldersOf, weight}, Tallies.{dealt_as, is_stray_event, sent_as, strays_of, was_stray}}
 use Rattle.event_log.proofs.{Counting.{buffer-there, ends, ends-weight, held-some, length-held}, Following.{Becomes, Shifts, follows-by, logged-same, logs-by, was-there}}
 use Rattle.event_log.proofs.{Needs.{NoneReturns-card, app-there, both-said, one-ends, pool-said, within-by, within-there}}
 use Rattle.event_log.proofs.{Settings.{pool_buffers-same}, Shifts.{here-more, step-same, step-shifts}}
 use Rattle.event_log.proofs.{Tallying.{CardGains, Tallies, TellsNothing, card-stays, count-push, keeps-card, tallies-card}, Weighing.{all-pass, weight-le}}
 
 -- an event that tells of no loan, of a card that dealt with no entry
-tallies-unstrayed : (e : Event) (s : AllSides) (v : NicView) → ((a : ℕ) → TellsNothing a e) → is_stray e ≡ false → v.dealt ≡ s.nic.view.dealt
+tallies-unstrayed : (e : Event) (s : AllSides) (v : NicView) → ((a : ℕ) → TellsNothing a e) → is_stray_event e ≡ false → v.dealt ≡ s.nic.view.dealt
     → CardGains e s.nic.view v → Tallies e s (by_card s v)
 tallies-unstrayed e s v nothing not_stray same gains = tallies-card e s v nothing (omega (arith, ap strays_of same, ap one not_stray)) gains
 
@@ -32,11 +32,11 @@ none-weigh f [] none = refl
 none-weigh f (x ∷ held) none = absurd (omega (arith, none))
 
 -- these are the holders of a buffer that had none
-pub from-none : (s : AllSides) → AreSound s → (h : Holdings) → SameHoldings h s → (b : ℕ) → pool_of s b ≡ 0 → (news : List Holding)
+pub from-none : (s : AllSides) → AreSound s → (h : Holdings) → HasHoldersOf h s → (b : ℕ) → pool_of s b ≡ 0 → (news : List Holding)
     → Moves (h b) [] news news
 from-none s sound h same b none news f = omega (arith, none-weigh f (h b) (length-held s sound h same b ∙ none))
 
-pub no-length : (s : AllSides) → AreSound s → (h : Holdings) → SameHoldings h s → (b : ℕ) → pool_of s b ≡ 0 → eqb (length (h b)) 0 ≡ true
+pub no-length : (s : AllSides) → AreSound s → (h : Holdings) → HasHoldersOf h s → (b : ℕ) → pool_of s b ≡ 0 → eqb (length (h b)) 0 ≡ true
 no-length s sound h same b none = eq-eqb (length (h b)) 0 (length-held s sound h same b ∙ none)
 
 pub took-logs : (s : AllSides) → AreSound s → (buffer : ℕ) → buffer < pool_buffers s.nic.view.setting.layout → pool_of s buffer ≡ 0
@@ -45,12 +45,12 @@ took-logs s sound buffer pool none =
     let new = apply (card (takes buffer)) s in
     let e = event.Take buffer (pool_of new buffer) in
     let layout = s.nic.view.setting.layout in
-    let of_pool : buffer < run_pool_buffers (run_of s).areas = omega (arith, pool, pool_buffers-same layout) in
+    let of_pool : buffer < run_pool_buffers (setting_of_sides s).areas = omega (arith, pool, pool_buffers-same layout) in
     let becomes : Becomes e buffer [] (holding.Own ∷ []) s = λ h same. (
-      lt-ltb buffer (total_buffers (run_of s)) (omega (arith, of_pool)),
+      lt-ltb buffer (total_buffers (setting_of_sides s)) (omega (arith, of_pool)),
       (
         holding.Own ∷ [],
-        rw (lt-ltb buffer (run_pool_buffers (run_of s).areas) of_pool, no-length s sound h same buffer none) refl,
+        rw (lt-ltb buffer (run_pool_buffers (setting_of_sides s).areas) of_pool, no-length s sound h same buffer none) refl,
         from-none s sound h same buffer none (holding.Own ∷ []),
       ),
     ) in
@@ -78,12 +78,12 @@ not-apart o l (holding.Spare a) = omega arith
 not-apart o l (holding.Loan a p m) = apart-case o l p m
 not-apart o l (holding.Owed a) = omega arith
 
-module _ (s : AllSides) (sound : AreSound s) (it : Filling) (out : HasOwn s.nic.view it) (h : Holdings) (same : SameHoldings h s) where
+module _ (s : AllSides) (sound : AreSound s) (it : Filling) (out : HasOwn s.nic.view it) (h : Holdings) (same : HasHoldersOf h s) where
   -- the card is among the holders of a buffer that it fills
   own-there : list_any (is_same holding.Own) (h it.buffer) ≡ true
   own-there = was-there it.buffer holding.Own [] s (apply (card (shuts it false)) s) (step-shifts (card (shuts it false)) s out it.buffer (refl, tt) tt) refl refl h same
 
-  own-some : is_buffer (run_of s) it.buffer ≡ true
+  own-some : is_buffer (setting_of_sides s) it.buffer ≡ true
   own-some = buffer-there s sound h same it.buffer (held-some s sound h same it.buffer holding.Own own-there)
 
   -- and the next bytes there are nobody's
@@ -188,7 +188,12 @@ pub strayed-logs : (s : AllSides) → AreSound s → (a : ℕ) (entry : Rqe) →
 strayed-logs s sound a entry at =
     let v = passed_over s.nic.view a entry in
     logs-by (event.Stray a) s (by_card s v) refl
-    (λ h same. (h, stray-is (run_of s) h a (app-there s sound a _ at), λ b f. same b f ∙ sym (step-same (card (strays a entry)) s tt (λ b f. refl) b f)))
+    (λ h same. (
+      h,
+      stray-is (setting_of_sides s) h a (app-there s sound a _ at),
+      λ b f. same b f
+          ∙ sym (step-same (card (strays a entry)) s tt (λ b f. refl) b f),
+    ))
     (tallies-card (event.Stray a) s v (λ n. assumption) (count-push (λ (d : Dealt). was_stray d.fate) s.nic.view.dealt _)
     (record { takes = sym (append-nil _); sends = sym (append-nil _); deals = map-append dealt_as s.nic.view.dealt _ }))
 
@@ -199,6 +204,6 @@ pub card-keeps : (step : CardStep) (s : AllSides) → CardCan step s → let v =
     card_ends step ≡ [] → card_begins step s.nic.view ≡ [] → v.setting ≡ s.nic.view.setting → v.used ≡ s.nic.view.used
     → flat_map sent_as v.sent ≡ flat_map sent_as s.nic.view.sent → v.dealt ≡ s.nic.view.dealt → KeepsLog s (apply (card step) s)
 card-keeps step s can ends begins setting used sents deals =
-    logged-same s (apply (card step) s) (ap (λ (x : Shared). setting_of x.layout) setting)
+    logged-same s (apply (card step) s) (ap (λ (x : Shared). setting_of_layout x.layout) setting)
     (step-same (card step) s can (λ b f. rw (ends, begins) refl))
     (keeps-card s (card_view step s.nic.view) used sents deals)

@@ -3,15 +3,15 @@ use Rattle.std.proofs.Common.{◌≡◌, ◌∙◌, ℕ, ◌+◌, ◌<◌, ◌�
 use Rattle.std.{specs.{Prelude.{filter, All, ◌==◌, nat_lt, slice_index, None, count_by}, List.{flat_map, list_any}}, proofs.lemmas.Bool.{cases_lt, lt-ltb}}
 use Rattle.std.proofs.lemmas.List.Elements.{All-head, All-tail}
 use Rattle.zr_kinds.specs.declared.place.Place.{Place}
-use Rattle.area_layout.specs.Layout.{total as all_buffers, size_of}
+use Rattle.area_layout.specs.Layout.{all_buffers, size_of}
 use Rattle.run_records.specs.{declared.holding.Holding.{Holding}, Holders.{Holdings, is_same, is_user, is_buffer}, Setting.{total_buffers}}
 use Rattle.run_records.proofs.Weighing.{one_if, weight-length}
 use Rattle.run_records.specs.declared.holding.Holding.TheVariants as holding
 use Rattle.board_face.specs.Holders.{Kind, own, piece, sent, held, spare, loan, owed, returning, holders_of, on_way, making_places, returning_count}
-use Rattle.board_face.specs.{Counts.{is_user as is_user_kind}, Laws.{AllSides, pool_of, user_of}, Places.{kind_place, filled_places, places_of, ends_behind}}
+use Rattle.board_face.specs.{Counts.{is_user_kind}, Laws.{AllSides, pool_of, user_of}, Places.{kind_place, filled_places, places_of, ends_behind}}
 use Rattle.board_face.{specs.declared.views.{nic.NicSide.{NicSide}, app.AppSide.{AppSide}}, proofs.Parts.{nic_count, app_count, pool_count-parts, count-tally}}
-use Rattle.board_face.proofs.Tallies.{weight as one, tally, total, tally-append, tally-flat, total-agree, total-le}
-use Rattle.event_log.specs.{IsLogged.{AreSound, NoneReturns, run_of}, Plain.{SameHoldings, plain_holders, weight}}
+use Rattle.board_face.proofs.Tallies.{one_if as one, tally, total, tally-append, tally-flat, total-agree, total-le}
+use Rattle.event_log.specs.{IsLogged.{AreSound, NoneReturns, setting_of_sides}, Plain.{HasHoldersOf, plain_holders, weight}}
 use Rattle.event_log.proofs.{Parts.{card_weight, app_weight, kind_weight, weight-kinds, weight-parts}, Settings.{total-same}, Weighing.{weight-among}}
 
 pub tally-total : {A : Type 0} (test : A → Bool) (xs : List A) → tally test xs ≡ total (λ x. one (test x)) xs
@@ -118,17 +118,17 @@ ends-weight s b x =
       count-tally (ends_behind x) (places_of b s.nic s.apps),
     )
 
-module _ (s : AllSides) (sound : AreSound s) (h : Holdings) (same : SameHoldings h s) where
+module _ (s : AllSides) (sound : AreSound s) (h : Holdings) (same : HasHoldersOf h s) where
   pub length-held : (b : ℕ) → length (h b) ≡ pool_of s b
   length-held b = sym (weight-length (h b)) ∙ same b (λ k. 1) ∙ pool-weight s sound.returns b
 
   -- a buffer with a holder is one of the board's
-  pub buffer-there : (b : ℕ) → 0 < pool_of s b → is_buffer (run_of s) b ≡ true
+  pub buffer-there : (b : ℕ) → 0 < pool_of s b → is_buffer (setting_of_sides s) b ≡ true
   buffer-there b some =
       let layout = s.nic.view.setting.layout in
-      let within : b < total_buffers (run_of s) = ⊎_elim (λ less. omega (arith, less, total-same layout))
+      let within : b < total_buffers (setting_of_sides s) = ⊎_elim (λ less. omega (arith, less, total-same layout))
       (λ past. absurd (let none = (sound.by_one b).inside past in omega (arith, none))) (cases_lt b (all_buffers layout)) in
-      lt-ltb b (total_buffers (run_of s)) within
+      lt-ltb b (total_buffers (setting_of_sides s)) within
 
   pub held-some : (b : ℕ) (old : Holding) → list_any (is_same old) (h b) ≡ true → 0 < pool_of s b
   held-some b old there = omega (arith, weight-among old (h b) there (λ k. 1), weight-length (h b), length-held b)

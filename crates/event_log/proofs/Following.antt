@@ -2,11 +2,11 @@
 use Rattle.std.proofs.Common.{◌≡◌, ◌∙◌, ℕ, ◌+◌, ◌≤◌, true, false, List, [], ◌∷◌, ◌++◌, length, eqb, Some, refl, sym, ap, subst, arith, ⊎_elim}
 use Rattle.std.{specs.{Prelude.{count_by}, List.{AllByRecursion, list_any}}, proofs.lemmas.Bool.{eq-eqb, Decides.{eqb_tells}}}
 use Rattle.run_records.specs.{declared.{event.Event.{Event}, holding.Holding.{Holding}}, Setting.{most_events, Setting}}
-use Rattle.run_records.specs.Holders.{Holdings, after, all_after, no_holdings, buffer_of, changed, has_counts, is_in_range, is_same, is_user, with_holders}
+use Rattle.run_records.specs.Holders.{Holdings, after, all_after, no_holdings, buffer_of_event, changed, has_counts, is_in_range, is_same, is_user, with_holders}
 use Rattle.run_records.{specs.LegalRun.{HasSmallNumbers}, proofs.{Following.{all_after-more, small-more}, Weighing.{Moves, one_if, weight-count, weight-length}}}
 use Rattle.board_face.specs.Laws.{AllSides, pool_of, user_of}
-use Rattle.event_log.specs.{IsLogged.{IsLogged, KeepsLog, Logs, NoneReturns, run_of}, Logs.{Kept, log_of, logged}, Plain.{SameHoldings, plain_holders, weight}}
-use Rattle.event_log.{specs.Tallies.{AreTallied}, proofs.{FirstEvents.{first-events}, Parts.{here}, Counting.{pool-weight, user-weight}}}
+use Rattle.event_log.specs.{IsLogged.{IsLogged, KeepsLog, Logs, NoneReturns, setting_of_sides}, Logs.{KeptEvents, log_of, logged}, Plain.{HasHoldersOf, plain_holders}}
+use Rattle.event_log.{specs.{Plain.{weight}, Tallies.{AreTallied}}, proofs.{FirstEvents.{first-events}, Parts.{here}, Counting.{pool-weight, user-weight}}}
 use Rattle.event_log.proofs.{Tallying.{KeepsTallies, Tallies}, Weighing.{any-some}}
 
 -- ---- one event more
@@ -23,7 +23,7 @@ weights_of s b f = weight f (plain_holders s b)
 
 -- All events lead to holders that weigh as much, and their tallies are these. The log has the first of them. So it tells of a
 -- board where these are the weights of the board's holders, and its tallies.
-pub record Tells (run : Setting) (weights : Weights) (tallied : List Event → Type 0) (kept : Kept) : Type 0 where
+pub record Tells (run : Setting) (weights : Weights) (tallied : List Event → Type 0) (kept : KeptEvents) : Type 0 where
   pub most : kept.room ≤ most_events
   pub all : List Event
   pub log_is : kept ≡ log_of kept.room all
@@ -33,7 +33,7 @@ pub record Tells (run : Setting) (weights : Weights) (tallied : List Event → T
   pub same : Weigh holdings weights
   pub tallies : tallied all
 
-pub tells-of : (s : AllSides) (kept : Kept) → IsLogged s kept → Tells (run_of s) (weights_of s) (AreTallied s) kept
+pub tells-of : (s : AllSides) (kept : KeptEvents) → IsLogged s kept → Tells (setting_of_sides s) (weights_of s) (AreTallied s) kept
 tells-of s kept was = record {
   most = was.most;
   all = was.all;
@@ -45,7 +45,7 @@ tells-of s kept was = record {
   tallies = was.tallied;
 }
 
-pub tells-as : (run : Setting) (weights others : Weights) (tallied : List Event → Type 0) (kept : Kept)
+pub tells-as : (run : Setting) (weights others : Weights) (tallied : List Event → Type 0) (kept : KeptEvents)
     → ((b : ℕ) (f : Holding → ℕ) → weights b f ≡ others b f) → Tells run weights tallied kept → Tells run others tallied kept
 tells-as run weights others tallied kept same tells = record {
   most = tells.most;
@@ -59,7 +59,7 @@ tells-as run weights others tallied kept same tells = record {
 }
 
 -- in the setting of these sides, with what their holders weigh, and with their tallies
-pub logged-of : (run : Setting) (weights : Weights) (tallied : List Event → Type 0) (s : AllSides) (kept : Kept) → run_of s ≡ run
+pub logged-of : (run : Setting) (weights : Weights) (tallied : List Event → Type 0) (s : AllSides) (kept : KeptEvents) → setting_of_sides s ≡ run
     → ((b : ℕ) (f : Holding → ℕ) → weights b f ≡ weights_of s b f) → ((events : List Event) → tallied events → AreTallied s events)
     → Tells run weights tallied kept → IsLogged s kept
 logged-of run weights tallied s kept one same counts tells = record {
@@ -79,9 +79,9 @@ Leads run e old new = (h : Holdings) → Weigh h old → (now : Holdings) × (af
 
 -- the holders after the event are those of the new sides
 abbrev pub Follows : Event → AllSides → AllSides → Type 0
-Follows e old new = Leads (run_of old) e (weights_of old) (weights_of new)
+Follows e old new = Leads (setting_of_sides old) e (weights_of old) (weights_of new)
 
-pub tells-more : (run : Setting) (e : Event) (old new : Weights) (before after : List Event → Type 0) (kept : Kept) → Tells run old before kept
+pub tells-more : (run : Setting) (e : Event) (old new : Weights) (before after : List Event → Type 0) (kept : KeptEvents) → Tells run old before kept
     → HasSmallNumbers e → Leads run e old new → ((events : List Event) → before events → after (events ++ e ∷ []))
     → Tells run new after (logged kept e)
 tells-more run e old new before after kept was small leads counts =
@@ -99,16 +99,16 @@ tells-more run e old new before after kept was small leads counts =
       tallies = counts was.all was.tallies;
     })
 
-pub logs-by : (e : Event) (old new : AllSides) → run_of new ≡ run_of old → Follows e old new → Tallies e old new → Logs e old new
+pub logs-by : (e : Event) (old new : AllSides) → setting_of_sides new ≡ setting_of_sides old → Follows e old new → Tallies e old new → Logs e old new
 logs-by e old new one follows counts kept small was =
-    logged-of (run_of old) (weights_of new) (AreTallied new) new (logged kept e) one (λ b f. refl) (λ events are. are)
-    (tells-more (run_of old) e (weights_of old) (weights_of new) (AreTallied old) (AreTallied new) kept (tells-of old kept was) small follows counts)
+    logged-of (setting_of_sides old) (weights_of new) (AreTallied new) new (logged kept e) one (λ b f. refl) (λ events are. are)
+    (tells-more (setting_of_sides old) e (weights_of old) (weights_of new) (AreTallied old) (AreTallied new) kept (tells-of old kept was) small follows counts)
 
 -- where no holder changed and nothing is logged
-pub logged-same : (old new : AllSides) → run_of new ≡ run_of old → ((b : ℕ) (f : Holding → ℕ) → weights_of new b f ≡ weights_of old b f)
+pub logged-same : (old new : AllSides) → setting_of_sides new ≡ setting_of_sides old → ((b : ℕ) (f : Holding → ℕ) → weights_of new b f ≡ weights_of old b f)
     → KeepsTallies old new → KeepsLog old new
 logged-same old new one same counts kept was =
-    logged-of (run_of old) (weights_of old) (AreTallied old) new kept one (λ b f. sym (same b f)) counts (tells-of old kept was)
+    logged-of (setting_of_sides old) (weights_of old) (AreTallied old) new kept one (λ b f. sym (same b f)) counts (tells-of old kept was)
 
 -- ---- the holders of one buffer change
 
@@ -137,15 +137,15 @@ Counts e buffer s =
 -- where the event finds in the buffer's holders what it needs, these become
 abbrev pub Becomes : Event → ℕ → List Holding → List Holding → AllSides → Type 0
 Becomes e buffer olds news s =
-    (h : Holdings) → SameHoldings h s → (is_in_range (run_of s) e ≡ true)
-    × ((later : List Holding) × (changed (run_of s) (h buffer) e ≡ Some later) × Moves (h buffer) olds news later)
+    (h : Holdings) → HasHoldersOf h s → (is_in_range (setting_of_sides s) e ≡ true)
+    × ((later : List Holding) × (changed (setting_of_sides s) (h buffer) e ≡ Some later) × Moves (h buffer) olds news later)
 
-pub after-is : (s : Setting) (h : Holdings) (e : Event) (b : ℕ) (later : List Holding) → is_in_range s e ≡ true → buffer_of e ≡ Some b
+pub after-is : (s : Setting) (h : Holdings) (e : Event) (b : ℕ) (later : List Holding) → is_in_range s e ≡ true → buffer_of_event e ≡ Some b
     → changed s (h b) e ≡ Some later → has_counts later e ≡ true → after s h e ≡ Some (with_holders h b later)
 unfolding after
 after-is s h e b later range buffer is counts = rw (range, buffer, is, counts) refl
 
-pub follows-by : (e : Event) (buffer : ℕ) (olds news : List Holding) (old new : AllSides) → buffer_of e ≡ Some buffer → NoneReturns new
+pub follows-by : (e : Event) (buffer : ℕ) (olds news : List Holding) (old new : AllSides) → buffer_of_event e ≡ Some buffer → NoneReturns new
     → Shifts buffer olds news old new → Counts e buffer new → Becomes e buffer olds news old → Follows e old new
 follows-by e buffer olds news old new names none shifts counts becoming h same =
     let (range, became) = becoming h same in
@@ -157,7 +157,7 @@ follows-by e buffer olds news old new names none shifts counts becoming h same =
     let pool : length later ≡ pool_of new buffer = sym (weight-length later) ∙ now (λ k. 1) ∙ pool-weight new none buffer in
     let users = λ (a : ℕ). sym (weight-count (is_user a) later) ∙ now (one_if (is_user a)) ∙ user-weight new a buffer in (
       with_holders h buffer later,
-      after-is (run_of old) h e buffer later range names is (counts later pool users),
+      after-is (setting_of_sides old) h e buffer later range names is (counts later pool users),
       λ b f.
           ⊎_elim
           (λ t. let e : b ≡ buffer = t.1 in rw t.0 (now f ∙ ap (λ c. weight f (plain_holders new c)) (sym e)))
@@ -171,7 +171,7 @@ follows-by e buffer olds news old new names none shifts counts becoming h same =
 
 -- the holder that ends is there, since it isn't among those that begin
 pub was-there : (buffer : ℕ) (one : Holding) (news : List Holding) (old new : AllSides) → Shifts buffer (one ∷ []) news old new
-    → is_same one one ≡ true → weight (one_if (is_same one)) news ≡ 0 → (h : Holdings) → SameHoldings h old
+    → is_same one one ≡ true → weight (one_if (is_same one)) news ≡ 0 → (h : Holdings) → HasHoldersOf h old
     → list_any (is_same one) (h buffer) ≡ true
 was-there buffer one news old new shifts self none h same =
     let f = one_if (is_same one) in

@@ -3,12 +3,12 @@ use Rattle.std.{proofs.Common.{◌≡◌, ◌∙◌, ℕ, ◌+◌, ◌≤◌, tr
 use Rattle.std.proofs.lemmas.{Bool.{cases_lt, lt-ltb, le-leb, eq-eqb}, List.Elements.{All-get_or, All-set}}
 use Rattle.area_layout.specs.Layout.{size_of}
 use Rattle.run_records.specs.{declared.{event.Event.{Event}, holding.Holding.{Holding}}, Setting.{size_of_buffer}}
-use Rattle.run_records.specs.Holders.{becomes, buffer_of, changed, is_app, is_buffer, is_in_range, is_same, is_user, is_user_count, is_pool_count, is_within}
+use Rattle.run_records.specs.Holders.{becomes, buffer_of_event, changed, is_app, is_buffer, is_in_range, is_same, is_user, is_user_count, is_pool_count, is_within}
 use Rattle.run_records.proofs.Weighing.{one_if, some_becomes}
 use Rattle.run_records.specs.declared.holding.Holding.TheVariants as holding
 use Rattle.board_face.specs.{Laws.{AllSides, by_card, by_app}, Sides.{IsApp, app_at}, declared.views.{nic.NicView.{NicView}, app.AppView.{AppView}}}
-use Rattle.board_face.{specs.declared.views.app.AppSide.{AppSide}, proofs.{ListLemmas.{eqb_same}, Tallies.{weight as one}}}
-use Rattle.event_log.{specs.{IsLogged.{AreSound, Logs, NoneReturns, run_of}, Plain.{weight}}, proofs.Counting.{buffer-there, ends, held-some, held-within}}
+use Rattle.board_face.{specs.declared.views.app.AppSide.{AppSide}, proofs.{ListLemmas.{eqb_same}, Tallies.{one_if as one}}}
+use Rattle.event_log.{specs.{IsLogged.{AreSound, Logs, NoneReturns, setting_of_sides}, Plain.{weight}}, proofs.Counting.{buffer-there, ends, held-some, held-within}}
 use Rattle.event_log.proofs.{Following.{Becomes, Counts, Shifts, follows-by, logs-by, was-there}, Tallying.{Tallies}, Settings.{size-same}}
 
 -- ---- nothing is under way after the event either
@@ -33,18 +33,18 @@ both-said held p a u e d = rw (eq-eqb (length held) p e, eq-eqb (count_by (is_us
 
 -- ---- numbers in range
 
-pub app-there : (s : AllSides) → AreSound s → (a : ℕ) (app : AppSide) → IsApp s.apps a app → is_app (run_of s) a ≡ true
+pub app-there : (s : AllSides) → AreSound s → (a : ℕ) (app : AppSide) → IsApp s.apps a app → is_app (setting_of_sides s) a ≡ true
 app-there s sound a app at = lt-ltb a s.nic.view.setting.layout.reserves (omega (arith, at.there, sound.setting.many))
 
-pub within-there : (s : AllSides) → AreSound s → (b o l : ℕ) → is_buffer (run_of s) b ≡ true → o + l ≤ size_of s.nic.view.setting.layout b
-    → is_within (run_of s) b o l ≡ true
+pub within-there : (s : AllSides) → AreSound s → (b o l : ℕ) → is_buffer (setting_of_sides s) b ≡ true → o + l ≤ size_of s.nic.view.setting.layout b
+    → is_within (setting_of_sides s) b o l ≡ true
 within-there s sound b o l there within =
-    let size : o + l ≤ size_of_buffer (run_of s).areas b = omega (arith, within, size-same s.nic.view.setting.layout sound.layout b) in
-    rw (there, le-leb (o + l) (size_of_buffer (run_of s).areas b) size) refl
+    let size : o + l ≤ size_of_buffer (setting_of_sides s).areas b = omega (arith, within, size-same s.nic.view.setting.layout sound.layout b) in
+    rw (there, le-leb (o + l) (size_of_buffer (setting_of_sides s).areas b) size) refl
 
 -- bytes of which none lies behind their buffer's end
-pub within-by : (s : AllSides) → AreSound s → (b o l : ℕ) → is_buffer (run_of s) b ≡ true
-    → one (ltb (size_of s.nic.view.setting.layout b) (o + l)) ≡ 0 → is_within (run_of s) b o l ≡ true
+pub within-by : (s : AllSides) → AreSound s → (b o l : ℕ) → is_buffer (setting_of_sides s) b ≡ true
+    → one (ltb (size_of s.nic.view.setting.layout b) (o + l)) ≡ 0 → is_within (setting_of_sides s) b o l ≡ true
 within-by s sound b o l there none =
     let size = size_of s.nic.view.setting.layout b in
     within-there s sound b o l there (⊎_elim (λ past. absurd (omega (arith, none, ap one (lt-ltb size (o + l) past)))) (λ within. within)
@@ -64,8 +64,9 @@ same-itself (holding.Owed a) = eqb_same a
 -- Where the sides show that a holder ends and isn't among those that begin, it is there, and the event finds it.
 pub one-becomes : (e : Event) (buffer : ℕ) (x : Holding) (news : List Holding) (old new : AllSides) → AreSound old
     → Shifts buffer (x ∷ []) news old new → weight (one_if (is_same x)) news ≡ 0
-    → (is_buffer (run_of old) buffer ≡ true → one (ends (size_of old.nic.view.setting.layout buffer) x) ≡ 0 → is_in_range (run_of old) e ≡ true)
-    → ((held : List Holding) → changed (run_of old) held e ≡ becomes x news held) → Becomes e buffer (x ∷ []) news old
+    → (is_buffer (setting_of_sides old) buffer ≡ true → one (ends (size_of old.nic.view.setting.layout buffer) x) ≡ 0
+    → is_in_range (setting_of_sides old) e ≡ true)
+    → ((held : List Holding) → changed (setting_of_sides old) held e ≡ becomes x news held) → Becomes e buffer (x ∷ []) news old
 one-becomes e buffer x news old new sound shifts none range does h same =
     let there = was-there buffer x news old new shifts (same-itself x) none h same in
     let some = held-some old sound h same buffer x there in
@@ -76,9 +77,10 @@ one-becomes e buffer x news old new sound shifts none range does h same =
 
 -- the log behind such an event
 pub one-ends : (e : Event) (buffer : ℕ) (x : Holding) (news : List Holding) (old new : AllSides) → AreSound old → NoneReturns new
-    → run_of new ≡ run_of old → buffer_of e ≡ Some buffer → Shifts buffer (x ∷ []) news old new → weight (one_if (is_same x)) news ≡ 0
-    → (is_buffer (run_of old) buffer ≡ true → one (ends (size_of old.nic.view.setting.layout buffer) x) ≡ 0 → is_in_range (run_of old) e ≡ true)
-    → ((held : List Holding) → changed (run_of old) held e ≡ becomes x news held) → Counts e buffer new → Tallies e old new → Logs e old new
+    → setting_of_sides new ≡ setting_of_sides old → buffer_of_event e ≡ Some buffer → Shifts buffer (x ∷ []) news old new → weight (one_if (is_same x)) news ≡ 0
+    → (is_buffer (setting_of_sides old) buffer ≡ true → one (ends (size_of old.nic.view.setting.layout buffer) x) ≡ 0
+    → is_in_range (setting_of_sides old) e ≡ true)
+    → ((held : List Holding) → changed (setting_of_sides old) held e ≡ becomes x news held) → Counts e buffer new → Tallies e old new → Logs e old new
 one-ends e buffer x news old new sound idle same names shifts none range does counts tallies =
     logs-by e old new same (follows-by e buffer (x ∷ []) news old new names idle shifts counts
     (one-becomes e buffer x news old new sound shifts none range does)) tallies

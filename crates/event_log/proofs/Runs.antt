@@ -3,13 +3,13 @@ use Rattle.std.proofs.Common.{◌≡◌, ◌∙◌, ℕ, suc, ◌+◌, ◌*◌, 
 use Rattle.std.{specs.{Prelude.{All}, List.{filter_map}}, proofs.lemmas.{Bool.{cases_lt, lt-ltb, le-ltb, le-leb, leb-true}, List.{length-take, take_all}}}
 use Rattle.std.proofs.lemmas.List.{Elements.{All-nil, All-cons, All-get_or}, Sums.{sum_by-cons}}
 use Rattle.area_layout.specs.{declared.layout.Area.{Area}, Layout.{Shape, IsLayout, IsBufferSize, buffers_in, bytes_in, no_area}}
-use Rattle.run_records.specs.{Setting.{IsArea, IsSetting, pool_bytes}, declared.{event.Event.{Event}, holding.Holding.{Holding}}}
+use Rattle.run_records.specs.{Setting.{IsRunArea, IsSetting, pool_bytes}, declared.{event.Event.{Event}, holding.Holding.{Holding}}}
 use Rattle.run_records.{specs.{Holders.{Holdings, all_after, no_holdings}, LegalRun.{IsLegalRun}}, proofs.Weighing.{weight-length}}
 use Rattle.board_face.specs.{Holders.{Kind, holders_of}, Laws.{AllSides, pool_of}, NicCalls.{apps_of}, Opened.{new_app_view, new_apps}}
 use Rattle.board_face.{specs.declared.views.{parts.Setting.{Setting as Shared}, app.AppSide.{AppSide}}, proofs.OpenedLemmas.{All-new, count-new}}
-use Rattle.event_log.specs.{IsLogged.{IsLogged, run_of}, Logs.{Kept}, Plain.{plain, plain_holders, weight}, RunLaws.{OpenedLaw, EndedLaw, opened_sides}}
-use Rattle.event_log.{specs.{Settings.{SettingLaw, areas_of, setting_of}, Tallies.{IsTallied}, ToldLaw.{ToldLaw}}, proofs.FirstEvents.{front-reached, front-small}}
-use Rattle.event_log.proofs.{Settings.{in-cons, pool_buffers-same, size-same, total-same}, Tallying.{told-of}}
+use Rattle.event_log.specs.{IsLogged.{IsLogged, setting_of_sides}, Logs.{KeptEvents}, Plain.{plain, plain_holders, weight}, RunLaws.{OpenedLaw, EndedLaw, opened_sides}}
+use Rattle.event_log.{specs.{Settings.{SettingLaw, areas_of, setting_of_layout}, Tallies.{IsTallied}, ToldLaw.{ToldLaw}}, proofs.FirstEvents.{front-reached}}
+use Rattle.event_log.proofs.{FirstEvents.{front-small}, Settings.{in-cons, pool_buffers-same, size-same, total-same}, Tallying.{told-of}}
 
 -- ---- no holder
 
@@ -82,22 +82,22 @@ some-area [] some = absurd (omega arith)
 some-area (a ∷ areas) some = rw (lt-ltb 0 a.buffers some) (omega arith)
 
 each-area : (areas : List Area) → ((n : ℕ) → 1 ≤ (get_or areas n no_area).buffers → IsBufferSize (get_or areas n no_area).size)
-    → buffers_in areas ≤ 4096 → All IsArea (areas_of areas)
-each-area [] sizes few = All-nil IsArea
+    → buffers_in areas ≤ 4096 → All IsRunArea (areas_of areas)
+each-area [] sizes few = All-nil IsRunArea
 each-area (a ∷ areas) sizes few =
     let rest = each-area areas (λ n. sizes (suc n)) (omega (arith, few, in-cons a areas)) in
     ⊎_elim
     (λ some.
     let size : IsBufferSize a.size = sizes 0 some in
-    let area : IsArea (a.buffers, a.size) = record {
+    let area : IsRunArea (a.buffers, a.size) = record {
       buffers = (some, omega (arith, few, in-cons a areas));
       size = assumption;
     } in
-    rw (lt-ltb 0 a.buffers some) (All-cons IsArea (a.buffers, a.size) (areas_of areas) area rest))
+    rw (lt-ltb 0 a.buffers some) (All-cons IsRunArea (a.buffers, a.size) (areas_of areas) area rest))
     (λ none. rw (le-ltb 0 a.buffers none) rest)
     (cases_lt 0 a.buffers)
 
-pub IsSetting-layout : (layout : Shape) → IsLayout layout → IsSetting (setting_of layout)
+pub IsSetting-layout : (layout : Shape) → IsLayout layout → IsSetting (setting_of_layout layout)
 IsSetting-layout layout good = record {
   areas = record {
     some = some-area layout.areas good.first;
@@ -124,7 +124,7 @@ length-none [] none = refl
 length-none (x ∷ held) none = absurd (omega (arith, none))
 
 -- no holder is left of a buffer that has none
-none-left : (s : AllSides) (kept : Kept) (logged : IsLogged s kept) (b : ℕ) → pool_of s b ≡ 0 → logged.holdings b ≡ []
+none-left : (s : AllSides) (kept : KeptEvents) (logged : IsLogged s kept) (b : ℕ) → pool_of s b ≡ 0 → logged.holdings b ≡ []
 none-left s kept logged b none = length-none (logged.holdings b)
     (sym (weight-length (logged.holdings b)) ∙ logged.same b (λ h. 1) ∙ ap (weight (λ h. 1)) (no-holders s b none))
 
@@ -146,9 +146,9 @@ pub ended-law : EndedLaw
 ended-law s kept layout logged over =
     let room = kept.room in
     let all = logged.all in
-    let run = run_of s in
+    let run = setting_of_sides s in
     let front = front-reached run no_holdings logged.holdings all room logged.reached in
-    let AreLegal : Kept → Type 0 = λ k. (IsTrue k.whole → (b : ℕ) → pool_of s b ≡ 0) → IsLegalRun run k.events k.whole in
+    let AreLegal : KeptEvents → Type 0 = λ k. (IsTrue k.whole → (b : ℕ) → pool_of s b ≡ 0) → IsLegalRun run k.events k.whole in
     subst AreLegal (sym logged.log_is)
     (λ (none : IsTrue (leb (length all) room) → (b : ℕ) → pool_of s b ≡ 0). record {
       sound = IsSetting-layout s.nic.view.setting.layout layout;

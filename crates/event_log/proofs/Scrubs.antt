@@ -7,8 +7,8 @@ use Rattle.run_records.{specs.Holders.{is_in_range, is_same, is_user, with_holde
 use Rattle.run_records.specs.declared.holding.Holding.TheVariants as holding
 use Rattle.board_face.specs.{Holders.{ended_in}, Laws.{AllSides, TookAll, pool_of, scrubbed_by, user_of}, Sides.{IsApp}, declared.views.app.AppSide.{AppSide}}
 use Rattle.board_face.proofs.{ListLemmas.{not-eqb}, Parts.{came_back_in, owed_count, owed-count, returned_in-count, total-shift, user_count-own, loans_in}}
-use Rattle.event_log.specs.{IsLogged.{AreSound, IsLogged, NoneReturns, run_of}, Logs.{Kept, logged}, Plain.{weight}}
-use Rattle.event_log.{specs.{ScrubLaw.{ScrubbedLaw, scrub_logged, scrub_of, scrubbed_sides}, Tallies.{AreTallied}}, proofs.Counting.{pool-weight, user-weight}}
+use Rattle.event_log.specs.{IsLogged.{AreSound, IsLogged, NoneReturns, setting_of_sides}, Logs.{KeptEvents, logged}, Plain.{weight}}
+use Rattle.event_log.{specs.{ScrubLaw.{ScrubEventLaw, scrub_logged, scrub_of, scrubbed_sides}, Tallies.{AreTallied}}, proofs.Counting.{pool-weight, user-weight}}
 use Rattle.event_log.proofs.Following.{Leads, Tells, Weights, after-is, logged-of, tells-as, tells-more, tells-of, weights_of}
 use Rattle.event_log.proofs.{Needs.{app-there, both-said, same-itself}, Parts.{app_weight, weight-parts}, Runs.{no-holders}, Settings.{total-same}, Shifts.{side-shift}}
 use Rattle.event_log.proofs.{Tallying.{card-stays, gains-none, keeps-app, tallies-card}, Weighing.{any-some}}
@@ -103,7 +103,7 @@ module _ (s : AllSides) (sound : AreSound s) (a : ℕ) (app : AppSide) (at : IsA
       (cases_lt b n)
 
   -- the owed ones of this buffer are taken back
-  leads : (n : ℕ) → n < total_buffers (run_of s) → 0 < owed n → Leads (run_of s) (scrub_of new a n) (below n) (below (suc n))
+  leads : (n : ℕ) → n < total_buffers (setting_of_sides s) → 0 < owed n → Leads (setting_of_sides s) (scrub_of new a n) (below n) (below (suc n))
   leads n within some h same =
       let x = holding.Owed a in
       let held : (f : Holding → ℕ) → weight f (h n) ≡ weights_of s n f = λ f. same n f ∙ below-left n n f (omega arith) in
@@ -116,9 +116,10 @@ module _ (s : AllSides) (sound : AreSound s) (a : ℕ) (app : AppSide) (at : IsA
       weight-filter f (λ k. not (is_same x k)) (h n) ∙ held (without_owed a f) ∙ left n f in
       let pool = sym (weight-length later) ∙ weighs (λ k. 1) ∙ pool-weight new NoneReturns-new n in
       let user = sym (weight-count (is_user a) later) ∙ weighs (one_if (is_user a)) ∙ user-weight new a n in
-      let range : is_in_range (run_of s) (scrub_of new a n) ≡ true = rw (app-there s sound a app at, lt-ltb n (total_buffers (run_of s)) within) refl in (
+      let range : is_in_range (setting_of_sides s) (scrub_of new a n) ≡ true =
+      rw (app-there s sound a app at, lt-ltb n (total_buffers (setting_of_sides s)) within) refl in (
         with_holders h n later,
-        after-is (run_of s) h (scrub_of new a n) n later range refl (rw there refl)
+        after-is (setting_of_sides s) h (scrub_of new a n) n later range refl (rw there refl)
             (both-said later (pool_of new n) a (user_of new a n) pool user),
         λ b f.
             ⊎_elim
@@ -144,32 +145,32 @@ module _ (s : AllSides) (sound : AreSound s) (a : ℕ) (app : AppSide) (at : IsA
       tallies-card (scrub_of new a n) s s.nic.view (λ other. assumption) (omega arith)
       (card-stays (scrub_of new a n) s.nic.view s.nic.view (assumption) refl refl refl) events was
 
-  scrubs : (kept : Kept) → IsLogged s kept → (n : ℕ) → n ≤ total_buffers (run_of s) → ((b : ℕ) → b < n → HasSmallNumbers (scrub_of new a b))
-      → Tells (run_of s) (below n) (AreTallied s) (scrub_logged s new a kept n)
+  scrubs : (kept : KeptEvents) → IsLogged s kept → (n : ℕ) → n ≤ total_buffers (setting_of_sides s) → ((b : ℕ) → b < n → HasSmallNumbers (scrub_of new a b))
+      → Tells (setting_of_sides s) (below n) (AreTallied s) (scrub_logged s new a kept n)
   scrubs kept was zero within small =
-      tells-as (run_of s) (weights_of s) (below 0) (AreTallied s) kept (λ b f. sym (below-left 0 b f (omega arith))) (tells-of s kept was)
+      tells-as (setting_of_sides s) (weights_of s) (below 0) (AreTallied s) kept (λ b f. sym (below-left 0 b f (omega arith))) (tells-of s kept was)
   scrubs kept was (suc n) within small =
-      let less : n < total_buffers (run_of s) = omega (arith, within) in
+      let less : n < total_buffers (setting_of_sides s) = omega (arith, within) in
       let before = scrubs kept was n (omega (arith, within)) (λ b lower. small b (omega (arith, lower))) in
       let so_far = scrub_logged s new a kept n in
       let last : HasSmallNumbers (scrub_of new a n) = small n (omega arith) in
-      let by : Bool → Kept = λ c. if c then logged so_far (scrub_of new a n) else so_far in
+      let by : Bool → KeptEvents = λ c. if c then logged so_far (scrub_of new a n) else so_far in
       ⊎_elim
       (λ some.
       let owes : 0 < owed n = omega (arith, some, user-owed n) in
-      subst (Tells (run_of s) (below (suc n)) (AreTallied s)) (sym (ap by (lt-ltb 0 (user_of s a n) some)))
-      (tells-more (run_of s) (scrub_of new a n) (below n) (below (suc n)) (AreTallied s) (AreTallied s) so_far before last (leads n less owes)
+      subst (Tells (setting_of_sides s) (below (suc n)) (AreTallied s)) (sym (ap by (lt-ltb 0 (user_of s a n) some)))
+      (tells-more (setting_of_sides s) (scrub_of new a n) (below n) (below (suc n)) (AreTallied s) (AreTallied s) so_far before last (leads n less owes)
       (scrub-tallied n)))
       (λ none.
       let owes : owed n ≡ 0 = omega (arith, none, user-owed n) in
-      subst (Tells (run_of s) (below (suc n)) (AreTallied s)) (sym (ap by (le-ltb 0 (user_of s a n) none)))
-      (tells-as (run_of s) (below n) (below (suc n)) (AreTallied s) so_far (stays n owes) before))
+      subst (Tells (setting_of_sides s) (below (suc n)) (AreTallied s)) (sym (ap by (le-ltb 0 (user_of s a n) none)))
+      (tells-as (setting_of_sides s) (below n) (below (suc n)) (AreTallied s) so_far (stays n owes) before))
       (cases_lt 0 (user_of s a n))
 
   -- behind the last buffer nobody has anything
-  all-below : (b : ℕ) (f : Holding → ℕ) → below (total_buffers (run_of s)) b f ≡ weights_of new b f
+  all-below : (b : ℕ) (f : Holding → ℕ) → below (total_buffers (setting_of_sides s)) b f ≡ weights_of new b f
   all-below b f =
-      let n = total_buffers (run_of s) in
+      let n = total_buffers (setting_of_sides s) in
       ⊎_elim
       (λ less. below-scrubbed n b f less)
       (λ past.
@@ -178,11 +179,11 @@ module _ (s : AllSides) (sound : AreSound s) (a : ℕ) (app : AppSide) (at : IsA
       below-left n b f past ∙ omega (arith, nothing, shift b f))
       (cases_lt b n)
 
-pub scrubbed-law : ScrubbedLaw
+pub scrubbed-law : ScrubEventLaw
 scrubbed-law s sound a app at loans taken takes kept small was =
-    let n = total_buffers (run_of s) in
+    let n = total_buffers (setting_of_sides s) in
     let new = scrubbed_sides s a app taken in
     let same = gains-none app.view (scrubbed_by app taken).view refl refl refl refl in
-    logged-of (run_of s) (below s sound a app at loans taken takes n) (AreTallied s) new (scrub_logged s new a kept n) refl
+    logged-of (setting_of_sides s) (below s sound a app at loans taken takes n) (AreTallied s) new (scrub_logged s new a kept n) refl
     (all-below s sound a app at loans taken takes) (keeps-app s a app (scrubbed_by app taken) at same (assumption))
     (scrubs s sound a app at loans taken takes kept was n (omega arith) small)

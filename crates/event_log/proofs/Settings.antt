@@ -1,10 +1,10 @@
 -- A board's setting as its record says it: as many buffers, of the same sizes.
 use Rattle.std.proofs.{Common.{◌≡◌, ◌∙◌, ℕ, ◌+◌, ◌-◌, ◌<◌, ◌≤◌, List, [], ◌∷◌, map, get_or, refl, sym, ap, arith, ⊎_elim}, lemmas.Bool.{cases_lt, lt-ltb, le-ltb}}
 use Rattle.std.proofs.lemmas.List.Sums.{sum_by-cons}
-use Rattle.area_layout.specs.{declared.layout.Area.{Area}, Layout.{Shape, IsLayout, buffers_in, pool_buffers, total, areas_before, area_at, size_of, no_area}}
+use Rattle.area_layout.specs.{declared.layout.Area.{Area}, Layout.{Shape, IsLayout, buffers_in, pool_buffers, all_buffers, areas_before, area_at, size_of, no_area}}
 use Rattle.area_layout.proofs.Words.{area-pool, area-reserve}
-use Rattle.run_records.specs.Setting.{total_buffers, size_of_buffer, size_among, first_size, pool_buffers as run_pool_buffers}
-use Rattle.event_log.specs.Settings.{areas_of, setting_of}
+use Rattle.run_records.specs.Setting.{total_buffers, size_of_buffer, size_among, first_size, buffers_of_areas as run_pool_buffers}
+use Rattle.event_log.specs.Settings.{areas_of, setting_of_layout}
 
 abbrev counted : List (ℕ × ℕ) → ℕ
 counted areas = run_pool_buffers areas
@@ -24,10 +24,10 @@ counted-areas (a ∷ areas) =
     (λ none. rw (le-ltb 0 a.buffers none) (omega (arith, in-cons a areas, counted-areas areas)))
     (cases_lt 0 a.buffers)
 
-pub pool_buffers-same : (layout : Shape) → run_pool_buffers (setting_of layout).areas ≡ pool_buffers layout
+pub pool_buffers-same : (layout : Shape) → run_pool_buffers (setting_of_layout layout).areas ≡ pool_buffers layout
 pool_buffers-same layout = counted-areas layout.areas
 
-pub total-same : (layout : Shape) → total_buffers (setting_of layout) ≡ total layout
+pub total-same : (layout : Shape) → total_buffers (setting_of_layout layout) ≡ all_buffers layout
 total-same layout = ap (λ n. n + layout.reserves) (pool_buffers-same layout)
 
 -- ---- sizes
@@ -63,7 +63,7 @@ first-size : (areas : List Area) → 1 ≤ (get_or areas 0 no_area).buffers → 
 first-size [] some = absurd (omega arith)
 first-size (a ∷ areas) some = rw (lt-ltb 0 a.buffers some) refl
 
-pub size-same : (layout : Shape) → IsLayout layout → (b : ℕ) → size_of_buffer (setting_of layout).areas b ≡ size_of layout b
+pub size-same : (layout : Shape) → IsLayout layout → (b : ℕ) → size_of_buffer (setting_of_layout layout).areas b ≡ size_of layout b
 size-same layout good b =
     let reserve = first_size (areas_of layout.areas) in
     let size : ℕ → ℕ = λ n. (area_at layout n).size in

@@ -3,7 +3,7 @@ use Rattle.std.proofs.Common.{◌≡◌, ℕ, ◌+◌, Bool, true, false, List, 
 use Rattle.std.specs.{Prelude.{◌==◌}, List.{AllByRecursion, filter_map}}
 use Rattle.run_records.specs.declared.holding.Holding.{Holding}
 use Rattle.board_face.specs.{BoardSteps.{Step, Can, apply}, Holders.{holders_of}, Laws.{AllSides}, Sides.{IsApp}, declared.views.app.AppSide.{AppSide}}
-use Rattle.board_face.specs.Holdings.{Hold, buffer_of, kind_of, ends_by, begins_by, weight as hold_weight}
+use Rattle.board_face.specs.Holdings.{Hold, buffer_of, kind_of, ends_by, begins_by, weight_in as hold_weight}
 use Rattle.board_face.proofs.{Exchanging.{exchange}, Weighing.{kinds-weigh}, Tallies.{total, total-set}, Sums.{total-map}}
 use Rattle.event_log.{specs.Plain.{plain, plain_holders, weight}, proofs.{Following.{Shifts}, Parts.{app_weight, here, kind_weight, weight-kinds, weight-parts}}}
 use Rattle.zr_kinds.proofs.Booleans.{if-none}

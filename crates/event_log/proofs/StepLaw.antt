@@ -4,7 +4,7 @@ use Rattle.run_records.specs.{declared.event.Event.{Event}, LegalRun.{HasSmallNu
 use Rattle.board_face.specs.{Laws.{AllSides}, Sides.{IsApp, side_in}, BoardSteps.{CardStep, AppStep, AppCan, CardCan, apply, card, app, app_view}}
 use Rattle.board_face.specs.BoardSteps.{takes, sweeps, places, sends, sends_linear, shuts, honours, strays, looks, sees_leave, ends}
 use Rattle.board_face.specs.BoardSteps.{polls, polls_linear, cuts, releases, lends, gives, abandons, spares, fills, lends_own}
-use Rattle.event_log.specs.{Fills.{AreShort}, IsLogged.{AreSound, IsLogged, KeepsLog, Logs}, Logs.{Kept, all_logged}}
+use Rattle.event_log.specs.{Fills.{AreShort}, IsLogged.{AreSound, IsLogged, KeepsLog, Logs}, Logs.{KeptEvents, all_logged}}
 use Rattle.event_log.specs.{StepEvents.{MayTell, app_events, card_events}, StepLaw.{StepLaw}}
 use Rattle.event_log.proofs.CardLaws.{card-keeps, honoured-logs, placed-logs, sends-none, sent-logs, shut-logs, strayed-logs, took-logs}
 use Rattle.event_log.proofs.AppLaws.{abandoned-logs, app-keeps, cut-logs, gave-logs, lent-logs, lent_own-logs, polled-logs, released-logs, spared-logs}
@@ -12,7 +12,7 @@ use Rattle.event_log.proofs.{AppTallies.{gains-filled, takes-none}, ShortFills.{
 
 -- the log goes on to tell of the sides once these were logged
 abbrev Goes : List Event → AllSides → AllSides → Type 0
-Goes events old new = (log : Kept) → AllByRecursion HasSmallNumbers events → IsLogged old log → IsLogged new (all_logged log events)
+Goes events old new = (log : KeptEvents) → AllByRecursion HasSmallNumbers events → IsLogged old log → IsLogged new (all_logged log events)
 
 one-goes : (e : Event) (old new : AllSides) → Logs e old new → Goes (e ∷ []) old new
 one-goes e old new logs log small was = logs log small.0 was

@@ -4,9 +4,10 @@ use Rattle.std.{specs.{Prelude.{◌≢◌, count_by}, List.{sum_by, flat_map}}, 
 use Rattle.std.proofs.lemmas.List.{append-nil, flat_map_more, get_or-set_same, get_or-set_other, length-set, Sums.{sum_by-cons, sum_by_push}}
 use Rattle.run_records.specs.declared.event.Event.{Event}
 use Rattle.board_face.specs.{Laws.{AllSides, by_card}, Sides.{IsApp}, declared.views.{nic.NicView.{NicView}, app.{AppView.{AppView}, AppSide.{AppSide}}}}
-use Rattle.board_face.proofs.{Parts.{count-tally}, Tallies.{weight as one, total, tally-push}}
-use Rattle.event_log.specs.Tallies.{AreTallied, IsTallied, TellsApp, TellsCard, is_copy, is_loan, is_spare, is_stray, len_of, loan_bytes, strays_in, strays_of}
-use Rattle.event_log.specs.{Tallies.{dealt_as, deals_of, holds_of, place_of, returns_of, sends_of, sent_as, taken_as, takes_of}, ToldLaw.{IsToldOf}}
+use Rattle.board_face.proofs.{Parts.{count-tally}, Tallies.{one_if as one, total, tally-push}}
+use Rattle.event_log.specs.Tallies.{AreTallied, IsTallied, TellsApp, TellsCard, is_copy_event, is_loan, is_spare, is_stray_event, len_of_loan, loan_bytes}
+use Rattle.event_log.specs.Tallies.{stray_events_in, strays_of}
+use Rattle.event_log.specs.{Tallies.{dealt_as, deals_of, holds_of, place_of_loan, returns_of, sends_of, sent_as, taken_as, takes_of}, ToldLaw.{IsToldOf}}
 
 -- ---- one more
 
@@ -39,7 +40,7 @@ card-told e old new events gains was = record {
 
 -- The event tells nothing of the card.
 pub record IsNoneOfCard (e : Event) : Type 0 where
-  pub stray : is_stray e ≡ false
+  pub stray : is_stray_event e ≡ false
   pub takes : takes_of e ≡ []
   pub sends : sends_of e ≡ []
   pub deals : deals_of e ≡ []
@@ -58,7 +59,7 @@ card-stays e old new none used sent dealt = record {
 -- What the application with this number is may change, and the events with it, if they tell the same of the others.
 pub side-tallied : (s : AllSides) (a : ℕ) (app now : AppSide) → IsApp s.apps a app → (before after : List Event)
     → (IsTallied a app.view before → IsTallied a now.view after)
-    → ((other : ℕ) (v : AppView) → other ≢ a → IsTallied other v before → IsTallied other v after) → strays_in after ≡ strays_in before
+    → ((other : ℕ) (v : AppView) → other ≢ a → IsTallied other v before → IsTallied other v after) → stray_events_in after ≡ stray_events_in before
     → (TellsCard s.nic.view before → TellsCard s.nic.view after) → AreTallied s before → AreTallied (record { nic = s.nic; apps = set s.apps a now }) after
 side-tallied s a app now at before after own others strays card was = record {
   apps = λ b it there.
@@ -80,21 +81,21 @@ side-tallied s a app now at before after own others strays card was = record {
 -- so many loans more, with so many bytes, and so many copies
 pub record Gains (loans bytes copies : ℕ) (old new : AppView) : Type 0 where
   pub loans_are : length new.loans + length new.returned ≡ length old.loans + length old.returned + loans
-  pub bytes_are : sum_by len_of new.loans + sum_by len_of new.returned ≡ sum_by len_of old.loans + sum_by len_of old.returned + bytes
+  pub bytes_are : sum_by len_of_loan new.loans + sum_by len_of_loan new.returned ≡ sum_by len_of_loan old.loans + sum_by len_of_loan old.returned + bytes
   pub copies_are : new.spares + length old.owns ≡ old.spares + length new.owns + copies
 
 pub gains-none : (old new : AppView) → new.loans ≡ old.loans → new.returned ≡ old.returned → new.owns ≡ old.owns → new.spares ≡ old.spares
     → Gains 0 0 0 old new
 gains-none old new loans returned owns spares = record {
   loans_are = omega (arith, ap length loans, ap length returned);
-  bytes_are = omega (arith, ap (sum_by len_of) loans, ap (sum_by len_of) returned);
+  bytes_are = omega (arith, ap (sum_by len_of_loan) loans, ap (sum_by len_of_loan) returned);
   copies_are = omega (arith, ap length owns, spares);
 }
 
 -- what the event tells of the application is what its lists have more
 pub record AppGains (a : ℕ) (e : Event) (old new : AppView) : Type 0 where
   pub holds : flat_map taken_as new.taken ≡ flat_map taken_as old.taken ++ holds_of a e
-  pub returns : map place_of new.returned ≡ map place_of old.returned ++ returns_of a e
+  pub returns : map place_of_loan new.returned ≡ map place_of_loan old.returned ++ returns_of a e
   pub spares : new.spares ≡ old.spares + one (is_spare a e)
 
 app-told : (a : ℕ) (e : Event) (old new : AppView) (events : List Event) → AppGains a e old new → TellsApp a old events
@@ -113,12 +114,12 @@ pub record SameLists (old new : AppView) : Type 0 where
 
 -- one event more that tells of the application
 pub event-tallied : (a : ℕ) (e : Event) (old new : AppView) (events : List Event)
-    → Gains (one (is_loan a e)) (loan_bytes a e) (one (is_copy a e)) old new → AppGains a e old new → IsTallied a old events
+    → Gains (one (is_loan a e)) (loan_bytes a e) (one (is_copy_event a e)) old new → AppGains a e old new → IsTallied a old events
     → IsTallied a new (events ++ e ∷ [])
 event-tallied a e old new events gains lists was = record {
   loans = omega (arith, count-push (is_loan a) events e, gains.loans_are, was.loans);
   bytes = omega (arith, sum_by_push (loan_bytes a) events e, gains.bytes_are, was.bytes);
-  copies = omega (arith, count-push (is_copy a) events e, gains.copies_are, was.copies);
+  copies = omega (arith, count-push (is_copy_event a) events e, gains.copies_are, was.copies);
   lists = app-told a e old new events lists was.lists;
 }
 
@@ -126,7 +127,7 @@ event-tallied a e old new events gains lists was = record {
 pub record TellsNothing (a : ℕ) (e : Event) : Type 0 where
   pub loans : is_loan a e ≡ false
   pub bytes : loan_bytes a e ≡ 0
-  pub copies : is_copy a e ≡ false
+  pub copies : is_copy_event a e ≡ false
   pub holds : holds_of a e ≡ []
   pub returns : returns_of a e ≡ []
   pub spares : is_spare a e ≡ false
@@ -134,12 +135,12 @@ pub record TellsNothing (a : ℕ) (e : Event) : Type 0 where
 pub app-stays : (a : ℕ) (e : Event) (old new : AppView) → TellsNothing a e → SameLists old new → AppGains a e old new
 app-stays a e old new nothing same = record {
   holds = same.taken ∙ (sym (append-nil _) ∙ ap (λ xs. flat_map taken_as old.taken ++ xs) (sym nothing.holds));
-  returns = ap (map place_of) same.returned ∙ (sym (append-nil _) ∙ ap (λ xs. map place_of old.returned ++ xs) (sym nothing.returns));
+  returns = ap (map place_of_loan) same.returned ∙ (sym (append-nil _) ∙ ap (λ xs. map place_of_loan old.returned ++ xs) (sym nothing.returns));
   spares = omega (arith, same.spares, ap one nothing.spares);
 }
 
 nothing-gained : (a : ℕ) (e : Event) (old new : AppView) → TellsNothing a e → Gains 0 0 0 old new
-    → Gains (one (is_loan a e)) (loan_bytes a e) (one (is_copy a e)) old new
+    → Gains (one (is_loan a e)) (loan_bytes a e) (one (is_copy_event a e)) old new
 nothing-gained a e old new nothing none = rw (nothing.loans, nothing.bytes, nothing.copies) none
 
 none-gained : (v : AppView) → Gains 0 0 0 v v
@@ -151,8 +152,8 @@ nothing-tallied a e v events nothing was =
     event-tallied a e v v events (nothing-gained a e v v nothing (none-gained v))
     (app-stays a e v v nothing (assumption)) was
 
-strays-push : (events : List Event) (e : Event) → is_stray e ≡ false → strays_in (events ++ e ∷ []) ≡ strays_in events
-strays-push events e not_one = omega (arith, count-push is_stray events e, ap one not_one)
+strays-push : (events : List Event) (e : Event) → is_stray_event e ≡ false → stray_events_in (events ++ e ∷ []) ≡ stray_events_in events
+strays-push events e not_one = omega (arith, count-push is_stray_event events e, ap one not_one)
 
 -- ---- the sides after an event
 
@@ -165,7 +166,7 @@ KeepsTallies old new = (events : List Event) → AreTallied old events → AreTa
 
 -- an event of an application
 pub tallies-app : (e : Event) (s : AllSides) (a : ℕ) (app now : AppSide) → IsApp s.apps a app
-    → Gains (one (is_loan a e)) (loan_bytes a e) (one (is_copy a e)) app.view now.view → AppGains a e app.view now.view
+    → Gains (one (is_loan a e)) (loan_bytes a e) (one (is_copy_event a e)) app.view now.view → AppGains a e app.view now.view
     → ((other : ℕ) → other ≢ a → TellsNothing other e) → IsNoneOfCard e → Tallies e s (record { nic = s.nic; apps = set s.apps a now })
 tallies-app e s a app now at gains lists nothing none events was =
     side-tallied s a app now at events (events ++ e ∷ []) (event-tallied a e app.view now.view events gains lists)
@@ -180,7 +181,7 @@ same-tallied a old new events none same was = record {
   copies = omega (arith, none.copies_are, was.copies);
   lists = record {
     holds = was.lists.holds ∙ sym same.taken;
-    returns = was.lists.returns ∙ ap (map place_of) (sym same.returned);
+    returns = was.lists.returns ∙ ap (map place_of_loan) (sym same.returned);
     spares = was.lists.spares ∙ sym same.spares;
   };
 }
@@ -192,10 +193,10 @@ keeps-app s a app now at none same events was =
 
 -- an event of the card
 pub tallies-card : (e : Event) (s : AllSides) (v : NicView) → ((a : ℕ) → TellsNothing a e)
-    → strays_of v.dealt ≡ strays_of s.nic.view.dealt + one (is_stray e) → CardGains e s.nic.view v → Tallies e s (by_card s v)
+    → strays_of v.dealt ≡ strays_of s.nic.view.dealt + one (is_stray_event e) → CardGains e s.nic.view v → Tallies e s (by_card s v)
 tallies-card e s v nothing strays gains events was = record {
   apps = λ a app at. nothing-tallied a e app.view events (nothing a) (was.apps a app at);
-  strays = omega (arith, count-push is_stray events e, strays, was.strays);
+  strays = omega (arith, count-push is_stray_event events e, strays, was.strays);
   card = card-told e s.nic.view v events gains was.card;
 }
 
@@ -208,6 +209,6 @@ keeps-card s v used sent dealt events was = assumption (was.strays ∙ ap strays
 pub told-of : (a : ℕ) (v : AppView) (events : List Event) → IsTallied a v events → IsToldOf a v events
 told-of a v events is = record {
   loans = λ none. omega (arith, is.loans, ap length none);
-  bytes = λ none. omega (arith, is.bytes, ap (sum_by len_of) none);
+  bytes = λ none. omega (arith, is.bytes, ap (sum_by len_of_loan) none);
   copies = λ none. omega (arith, is.copies, ap length none);
 }

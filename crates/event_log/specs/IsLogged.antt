@@ -3,31 +3,31 @@ use Rattle.std.specs.{Prelude.{◌≡◌, ℕ, ◌≤◌, List, All, slice_index
 use Rattle.area_layout.specs.Layout.{IsLayout}
 use Rattle.run_records.specs.{declared.event.Event.{Event}, Setting.{most_events, Setting}, Holders.{Holdings, no_holdings, all_after}, LegalRun.{HasSmallNumbers}}
 use Rattle.board_face.specs.{Fillings.{IsFilledByOne, FillingsFit}, Laws.{AllSides, FitTogether}, Places.{ArePlaced}, Sides.{HaveOneSetting}}
-use Rattle.event_log.specs.{Logs.{Kept, log_of, logged}, Plain.{SameHoldings}, Settings.{setting_of}, Tallies.{AreTallied}}
+use Rattle.event_log.specs.{Logs.{KeptEvents, log_of, logged}, Plain.{HasHoldersOf}, Settings.{setting_of_layout}, Tallies.{AreTallied}}
 
 -- the setting of the board that has these sides
-abbrev pub run_of : AllSides → Setting
-run_of s = setting_of s.nic.view.setting.layout
+abbrev pub setting_of_sides : AllSides → Setting
+setting_of_sides s = setting_of_layout s.nic.view.setting.layout
 
 -- `all` are events that lead from no holders to those of the sides, and tell what the roles did. The log has the first of them, as
 -- many as it has room for, and is whole where these are all.
-pub record IsLogged (s : AllSides) (kept : Kept) : Type 0 where
+pub record IsLogged (s : AllSides) (kept : KeptEvents) : Type 0 where
   pub most : kept.room ≤ most_events
   pub all : List Event
   pub log_is : kept ≡ log_of kept.room all
   pub small : AllByRecursion HasSmallNumbers all
   pub holdings : Holdings
-  pub reached : all_after (run_of s) no_holdings all ≡ Some holdings
-  pub same : SameHoldings holdings s
+  pub reached : all_after (setting_of_sides s) no_holdings all ≡ Some holdings
+  pub same : HasHoldersOf holdings s
   pub tallied : AreTallied s all
 
 -- the log goes on to tell of the board, once this event was logged
 abbrev pub Logs : Event → AllSides → AllSides → Type 0
-Logs e old new = (kept : Kept) → HasSmallNumbers e → IsLogged old kept → IsLogged new (logged kept e)
+Logs e old new = (kept : KeptEvents) → HasSmallNumbers e → IsLogged old kept → IsLogged new (logged kept e)
 
 -- and it goes on to, with nothing logged
 abbrev pub KeepsLog : AllSides → AllSides → Type 0
-KeepsLog old new = (kept : Kept) → IsLogged old kept → IsLogged new kept
+KeepsLog old new = (kept : KeptEvents) → IsLogged old kept → IsLogged new kept
 
 -- No return is on its way: between two calls a card has no entry in hand, and no scrub is under way.
 pub record NoneReturns (s : AllSides) : Type 0 where

@@ -2,10 +2,10 @@
 use Rattle.std.specs.{List.{AllByRecursion}}
 use Rattle.run_records.specs.LegalRun.{HasSmallNumbers}
 use Rattle.board_face.specs.{BoardSteps.{Step, Can, apply}, Laws.{AllSides}}
-use Rattle.event_log.specs.{Fills.{AreShort}, IsLogged.{AreSound, IsLogged}, Logs.{Kept, all_logged}, StepEvents.{MayTell, events_of}}
+use Rattle.event_log.specs.{Fills.{AreShort}, IsLogged.{AreSound, IsLogged}, Logs.{KeptEvents, all_logged}, StepEvents.{MayTell, events_of}}
 
 -- The log tells of the sides.
-pub record IsRecorded (sides : AllSides) (log : Kept) : Type 0 where
+pub record IsRecorded (sides : AllSides) (log : KeptEvents) : Type 0 where
   pub logged : IsLogged sides log
   -- so that the loan of a filled spare is no longer than its event may say
   pub short : AreShort sides.apps
@@ -14,5 +14,5 @@ abbrev pub StepLaw : Type 0
 StepLaw =
     (step : Step) (s : AllSides) → AreSound s → Can step s → MayTell step s
     → let new = apply step s in
-    (log : Kept) → AllByRecursion HasSmallNumbers (events_of step s new) → IsRecorded s log
+    (log : KeptEvents) → AllByRecursion HasSmallNumbers (events_of step s new) → IsRecorded s log
     → IsRecorded new (all_logged log (events_of step s new))

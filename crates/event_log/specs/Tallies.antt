@@ -16,9 +16,9 @@ is_loan a (event.Own app b l p u) = app == a
 is_loan a other = false
 
 -- a loan of bytes that the application copied
-abbrev pub is_copy : ℕ → Event → Bool
-is_copy a (event.Own app b l p u) = app == a
-is_copy a other = false
+abbrev pub is_copy_event : ℕ → Event → Bool
+is_copy_event a (event.Own app b l p u) = app == a
+is_copy_event a other = false
 
 -- how many bytes it lends to the application
 abbrev pub loan_bytes : ℕ → Event → ℕ
@@ -26,9 +26,9 @@ loan_bytes a (event.Lend app b o l p u) = if app == a then l else 0
 loan_bytes a (event.Own app b l p u) = if app == a then l else 0
 loan_bytes a other = 0
 
-abbrev pub is_stray : Event → Bool
-is_stray (event.Stray a) = true
-is_stray other = false
+abbrev pub is_stray_event : Event → Bool
+is_stray_event (event.Stray a) = true
+is_stray_event other = false
 
 -- the application took a note whose piece lies there
 abbrev pub holds_of : ℕ → Event → List Place
@@ -67,18 +67,18 @@ abbrev pub loans_in : ℕ → List Event → ℕ
 loans_in a events = count_by (is_loan a) events
 
 abbrev pub copies_in : ℕ → List Event → ℕ
-copies_in a events = count_by (is_copy a) events
+copies_in a events = count_by (is_copy_event a) events
 
-abbrev pub bytes_in : ℕ → List Event → ℕ
-bytes_in a events = sum_by (loan_bytes a) events
+abbrev pub bytes_lent_in : ℕ → List Event → ℕ
+bytes_lent_in a events = sum_by (loan_bytes a) events
 
-abbrev pub strays_in : List Event → ℕ
-strays_in events = count_by is_stray events
+abbrev pub stray_events_in : List Event → ℕ
+stray_events_in events = count_by is_stray_event events
 
 -- ---- what the sides say
 
-abbrev pub len_of : LentPiece → ℕ
-len_of loan = loan.place.len
+abbrev pub len_of_loan : LentPiece → ℕ
+len_of_loan loan = loan.place.len
 
 abbrev pub was_stray : Fate → Bool
 was_stray fate.Stray = true
@@ -91,25 +91,25 @@ strays_of dealt = count_by (λ d. was_stray d.fate) dealt
 abbrev pub taken_as : TakenNote → List Place
 taken_as t = if t.note.split then t.note.place ∷ [] else []
 
-abbrev pub place_of : LentPiece → Place
-place_of loan = loan.place
+abbrev pub place_of_loan : LentPiece → Place
+place_of_loan loan = loan.place
 
 -- The events tell, in order, which pieces an application took and which loans it returned, and how many spares it was given.
 pub record TellsApp (a : ℕ) (v : AppView) (events : List Event) : Type 0 where
   pub holds : flat_map (holds_of a) events ≡ flat_map taken_as v.taken
-  pub returns : flat_map (returns_of a) events ≡ map place_of v.returned
+  pub returns : flat_map (returns_of a) events ≡ map place_of_loan v.returned
   pub spares : count_by (is_spare a) events ≡ v.spares
 
 -- a note that was sent with a piece
 abbrev pub sent_as : SentNote → List (ℕ × Place)
 sent_as n = if n.note.split then (n.app, n.note.place) ∷ [] else []
 
-abbrev pub buffer_of : Fate → Option ℕ
-buffer_of fate.Stray = None
-buffer_of (fate.Honoured buffer) = Some buffer
+abbrev pub buffer_of_fate : Fate → Option ℕ
+buffer_of_fate fate.Stray = None
+buffer_of_fate (fate.Honoured buffer) = Some buffer
 
 abbrev pub dealt_as : Dealt → ℕ × Option ℕ
-dealt_as d = (d.app, buffer_of d.fate)
+dealt_as d = (d.app, buffer_of_fate d.fate)
 
 -- The events tell, in order, which buffers the card took, which pieces it sent to whom, and what became of whose entries.
 pub record TellsCard (v : NicView) (events : List Event) : Type 0 where
@@ -121,11 +121,11 @@ pub record TellsCard (v : NicView) (events : List Event) : Type 0 where
 -- each spare that it was given it has still, or it lent it.
 pub record IsTallied (a : ℕ) (v : AppView) (events : List Event) : Type 0 where
   pub loans : loans_in a events ≡ length v.loans + length v.returned
-  pub bytes : bytes_in a events ≡ sum_by len_of v.loans + sum_by len_of v.returned
+  pub bytes : bytes_lent_in a events ≡ sum_by len_of_loan v.loans + sum_by len_of_loan v.returned
   pub copies : copies_in a events + length v.owns ≡ v.spares
   pub lists : TellsApp a v events
 
 pub record AreTallied (s : AllSides) (events : List Event) : Type 0 where
   pub apps : (a : ℕ) (app : AppSide) → IsApp s.apps a app → IsTallied a app.view events
-  pub strays : strays_in events ≡ strays_of s.nic.view.dealt
+  pub strays : stray_events_in events ≡ strays_of s.nic.view.dealt
   pub card : TellsCard s.nic.view events

@@ -16,9 +16,9 @@ pub struct EventLog {
 
 impl Model for EventLog {
     ghost use Rattle.std.specs.Prelude.{◌≤◌, length, vec_capacity};
-    ghost use Rattle.event_log.specs.Logs.{Kept};
+    ghost use Rattle.event_log.specs.Logs.{KeptEvents};
 
-    ghost Value = { Kept };
+    ghost Value = { KeptEvents };
 
     ghost view = { λ s. record { events = s.log.events.items; whole = s.log.whole; room = s.room } };
 

@@ -6,10 +6,10 @@ use Rattle.board_face.specs.{declared.views.app.{AppLook.TheVariants.{CardEnded,
 use Rattle.board_face.specs.{declared.views.app.{Reading.{Reading}, AppView.{AppView}}, Texts.{IsSplitNote, IsLinearNote}, Looks.{AppLooksStay, same_app_look}}
 use Rattle.board_face.{specs.AppEvents.{took_note, took_linear, told_end, lent, abandoned, gave}, proofs.LookLemmas.{times-more}}
 use Rattle.zr_kinds.specs.declared.place.{Place.{Place}, Note.{Note}}
-use Rattle.face_table.specs.Reader.{GoesOn, ReadsOf, HasNothing, Serves, bytes_read}
+use Rattle.face_table.specs.Reader.{ReadingsGoOn, ReadsOf, HasNothing, Serves, bytes_read}
 
-pub GoesOn-push : (origin : Origin) (from : ℕ) (rs : List Reading) (middle : ℕ) (bytes : List ℕ) → GoesOn origin from rs middle
-    → GoesOn origin from (rs ++ record { origin = further origin middle; bytes = bytes } ∷ []) (middle + length bytes)
+pub GoesOn-push : (origin : Origin) (from : ℕ) (rs : List Reading) (middle : ℕ) (bytes : List ℕ) → ReadingsGoOn origin from rs middle
+    → ReadingsGoOn origin from (rs ++ record { origin = further origin middle; bytes = bytes } ∷ []) (middle + length bytes)
 GoesOn-push origin from [] middle bytes on = (ap (further origin) (sym on), rw on refl)
 GoesOn-push origin from (r ∷ rs) middle bytes on = (on.0, GoesOn-push origin (from + length r.bytes) rs middle bytes on.1)
 
@@ -45,7 +45,7 @@ Serves-took_linear old v note bytes fields s = record {
 }
 
 -- readings that go on are as long as they go
-GoesOn-total : (origin : Origin) (from : ℕ) (rs : List Reading) (end : ℕ) → GoesOn origin from rs end
+GoesOn-total : (origin : Origin) (from : ℕ) (rs : List Reading) (end : ℕ) → ReadingsGoOn origin from rs end
     → from + sum_by (λ (r : Reading). length r.bytes) rs ≡ end
 GoesOn-total origin from [] end on = simp add-zero on
 GoesOn-total origin from (r ∷ rs) end on = omega (
@@ -54,7 +54,7 @@ GoesOn-total origin from (r ∷ rs) end on = omega (
   GoesOn-total origin (from + length r.bytes) rs end on.1,
 )
 
-read_all : (origin : Origin) (before rs : List Reading) (len : ℕ) → GoesOn origin 0 rs len
+read_all : (origin : Origin) (before rs : List Reading) (len : ℕ) → ReadingsGoOn origin 0 rs len
     → sum_by (λ (r : Reading). length r.bytes) (before ++ rs) ≡ sum_by (λ (r : Reading). length r.bytes) before + len
 read_all origin before rs len on = omega (arith, sum_by-append (λ (x : Reading). length x.bytes) before rs, GoesOn-total origin 0 rs len on)
 

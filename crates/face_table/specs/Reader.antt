@@ -6,15 +6,15 @@ use Rattle.board_face.specs.declared.views.app.{TakenNote.{TakenNote}, AppLook.T
 use Rattle.face_table.specs.declared.reader.Served.{Served, TheVariants.{All as all_taken, NoNote as no_note, Ended as ended, RefillFull as refill_full}}
 
 -- the readings go on from byte to byte of one origin, up to a number of bytes
-abbrev pub GoesOn : Origin → ℕ → List Reading → ℕ → Type 0
-GoesOn origin from [] end = from ≡ end
-GoesOn origin from (r ∷ rest) end = (r.origin ≡ further origin from) × GoesOn origin (from + length r.bytes) rest end
+abbrev pub ReadingsGoOn : Origin → ℕ → List Reading → ℕ → Type 0
+ReadingsGoOn origin from [] end = from ≡ end
+ReadingsGoOn origin from (r ∷ rest) end = (r.origin ≡ further origin from) × ReadingsGoOn origin (from + length r.bytes) rest end
 
 -- Nothing changed but that the loan's first bytes were read, so many of them.
 pub record ReadsOf (old new : AppView) (loan : Place) (count : ℕ) : Type 0 where
   pub readings : List Reading
   pub event : new ≡ record old { reads = old.reads ++ readings }
-  pub in_order : GoesOn (loan_origin old loan) 0 readings count
+  pub in_order : ReadingsGoOn (loan_origin old loan) 0 readings count
 
 -- no token is out
 pub record HasNothing (v : AppView) : Type 0 where

@@ -4,7 +4,8 @@ use Rattle.std.{proofs.Common.{false, if◌then◌else◌, refl, sym, ap, subst,
 use Rattle.std.proofs.lemmas.Bool.{cases_Bool, cases_eq, eq-eqb, eqb-true}
 use Rattle.board_face.proofs.ListLemmas.{not-eqb}
 use Rattle.zr_kinds.specs.CopyingReceiver.{Placed, nothing_placed, next_missing, lead, received_part}
-use Rattle.flow_queues.specs.Marks.{Mark, Numbered, Frame, frame_from, with_note, frames_of, received_frame, received_frames, marks_of_note, Follows, LiesInFrame}
+use Rattle.flow_queues.specs.Marks.{Mark, NumberedNote, Frame, frame_from, frames_with_note, frames_of_notes, received_frame, received_frames, marks_of_note}
+use Rattle.flow_queues.specs.Marks.{FollowsNote, LiesInFrame}
 use Rattle.flow_queues.{specs.Core.{received_note, received_notes}, proofs.{InParts.{IsReceived, AreSame, parts, in_parts}, Entering.{marks-length}}}
 
 -- ---- frames
@@ -20,15 +21,15 @@ abbrev pub with_front : Frame → List Frame → List Frame
 with_front f [] = f ∷ []
 with_front f (g ∷ gs) = if g.number == f.number then record g { marks = f.marks ++ g.marks } ∷ gs else f ∷ g ∷ gs
 
-as-front : (n : Numbered) (fs : List Frame) → with_note n fs ≡ with_front (frame_from n) fs
+as-front : (n : NumberedNote) (fs : List Frame) → frames_with_note n fs ≡ with_front (frame_from n) fs
 as-front n [] = refl
 as-front n (f ∷ fs) = refl
 
-abbrev pub begun_frame : Numbered → List Mark → Frame
+abbrev pub begun_frame : NumberedNote → List Mark → Frame
 begun_frame m xs = record (frame_from m) { marks = xs }
 
-joined : (m n : Numbered) (xs : List Mark) (fs : List Frame) → n.note.frame ≡ m.note.frame
-    → with_front (begun_frame m xs) (with_note n fs) ≡ with_front (begun_frame n (xs ++ marks_of_note n)) fs
+joined : (m n : NumberedNote) (xs : List Mark) (fs : List Frame) → n.note.frame ≡ m.note.frame
+    → with_front (begun_frame m xs) (frames_with_note n fs) ≡ with_front (begun_frame n (xs ++ marks_of_note n)) fs
 joined m n xs [] same = let yes : (n.note.frame == m.note.frame) ≡ true = eq-eqb n.note.frame m.note.frame same in rw yes refl
 joined m n xs (g ∷ gs) same = ⊎_elim
     (λ (yes : (g.number == n.note.frame) ≡ true).
@@ -39,8 +40,8 @@ joined m n xs (g ∷ gs) same = ⊎_elim
     rw (no, yes_m) refl)
     (cases_Bool (g.number == n.note.frame))
 
-apart_frames : (m n : Numbered) (xs : List Mark) (fs : List Frame) → n.note.frame ≢ m.note.frame
-    → with_front (begun_frame m xs) (with_note n fs) ≡ begun_frame m xs ∷ with_note n fs
+apart_frames : (m n : NumberedNote) (xs : List Mark) (fs : List Frame) → n.note.frame ≢ m.note.frame
+    → with_front (begun_frame m xs) (frames_with_note n fs) ≡ begun_frame m xs ∷ frames_with_note n fs
 apart_frames m n xs [] other = let no : (n.note.frame == m.note.frame) ≡ false = not-eqb n.note.frame m.note.frame other in rw no refl
 apart_frames m n xs (g ∷ gs) other = ⊎_elim
     (λ (yes : (g.number == n.note.frame) ≡ true).
@@ -51,19 +52,19 @@ apart_frames m n xs (g ∷ gs) other = ⊎_elim
     rw (no, no_m) refl)
     (cases_Bool (g.number == n.note.frame))
 
-abbrev pub StandOn : Numbered → List Numbered → Type 0
+abbrev pub StandOn : NumberedNote → List NumberedNote → Type 0
 StandOn m [] = LiesInFrame m
-StandOn m (n ∷ ns) = LiesInFrame m × Follows m.note n.note × StandOn n ns
+StandOn m (n ∷ ns) = LiesInFrame m × FollowsNote m.note n.note × StandOn n ns
 
-fits-first : (m : Numbered) (ns : List Numbered) → StandOn m ns → LiesInFrame m
+fits-first : (m : NumberedNote) (ns : List NumberedNote) → StandOn m ns → LiesInFrame m
 fits-first m [] stand = stand
 fits-first m (n ∷ ns) stand = stand.0
 
 -- what was received of a frame so far, and what comes then
-pub pieces-are-frames : (base : ℕ) (ns : List Numbered) (m : Numbered) (xs : List Mark) (placed later : Placed Mark) → IsReceived placed
+pub pieces-are-frames : (base : ℕ) (ns : List NumberedNote) (m : NumberedNote) (xs : List Mark) (placed later : Placed Mark) → IsReceived placed
     → IsReceived later → StandOn m ns → length xs ≡ m.note.at + m.note.place.len
     → AreSame later (received_part base placed m.note.seq m.note.total 0 xs)
-    → AreSame (received_notes base later ns) (received_frames base placed (with_front (begun_frame m xs) (frames_of ns)))
+    → AreSame (received_notes base later ns) (received_frames base placed (with_front (begun_frame m xs) (frames_of_notes ns)))
 unfolding received_part
 pieces-are-frames base [] m xs placed later is is_later stand size same = λ p. same p
     ∙ sym (ap (λ (r : Placed Mark). r.at p) (frame-part base placed (begun_frame m xs)))
@@ -81,7 +82,7 @@ pieces-are-frames base (n ∷ ns) m xs placed later is is_later stand size same 
     (received_part base placed n.note.seq n.note.total 0 (xs ++ marks_of_note n))) at
     (in_parts base n.note.seq n.note.total placed later xs (marks_of_note n) is is_later (omega (arith, fits.bounded))
     (omega (arith, at, n_len, fits.within)) of_m) in
-    subst (λ fs. AreSame (received_notes base (received_note base later n) ns) (received_frames base placed fs)) (sym (joined m n xs (frames_of ns) goes))
+    subst (λ fs. AreSame (received_notes base (received_note base later n) ns) (received_frames base placed fs)) (sym (joined m n xs (frames_of_notes ns) goes))
     (pieces-are-frames base ns n (xs ++ marks_of_note n) placed (received_note base later n) is next_is stand.2
     (length-append xs (marks_of_note n) ∙ (omega (arith, at, n_len))) then-same))
     (λ (begins : n.note.frame ≢ m.note.frame).
@@ -96,10 +97,12 @@ pieces-are-frames base (n ∷ ns) m xs placed later is is_later stand size same 
     let tail = pieces-are-frames base ns n (marks_of_note n) placed2 (received_note base later n) is2 next_is stand.2
     (omega (arith, n_len, starts)) next-same in
     subst (λ fs. AreSame (received_notes base (received_note base later n) ns) (received_frames base placed fs))
-    (sym (apart_frames m n xs (frames_of ns) begins))
-    (subst (λ (q : Placed Mark). AreSame (received_notes base (received_note base later n) ns) (received_frames base q (with_note n (frames_of ns))))
+    (sym (apart_frames m n xs (frames_of_notes ns) begins))
+    (subst (λ (q : Placed Mark). AreSame (received_notes base (received_note base later n) ns)
+    (received_frames base q (frames_with_note n (frames_of_notes ns))))
     (sym (frame-part base placed (begun_frame m xs)))
-    (subst (λ fs. AreSame (received_notes base (received_note base later n) ns) (received_frames base placed2 fs)) (sym (as-front n (frames_of ns))) tail)))
+    (subst (λ fs. AreSame (received_notes base (received_note base later n) ns) (received_frames base placed2 fs)) (sym (as-front n (frames_of_notes ns)))
+    tail)))
     (cases_eq n.note.frame m.note.frame)
   where
     fits : LiesInFrame n
@@ -110,8 +113,8 @@ pieces-are-frames base (n ∷ ns) m xs placed later is is_later stand size same 
         (let n_len : length (marks_of_note n) ≡ n.note.place.len = marks-length n.number 0 n.note.place.len in omega (arith, n_len, fits.within))
 
 -- all pieces of a flow, from its first on
-pub notes-are-frames : (base : ℕ) (n : Numbered) (ns : List Numbered) → StandOn n ns → n.note.at ≡ 0
-    → AreSame (received_notes base nothing_placed (n ∷ ns)) (received_frames base nothing_placed (frames_of (n ∷ ns)))
+pub notes-are-frames : (base : ℕ) (n : NumberedNote) (ns : List NumberedNote) → StandOn n ns → n.note.at ≡ 0
+    → AreSame (received_notes base nothing_placed (n ∷ ns)) (received_frames base nothing_placed (frames_of_notes (n ∷ ns)))
 unfolding received_part
 notes-are-frames base n ns stand starts =
     let fits : LiesInFrame n = fits-first n ns stand in
@@ -122,6 +125,6 @@ notes-are-frames base n ns stand starts =
     subst (λ k. AreSame (received_note base nothing_placed n) (received_part base nothing_placed n.note.seq n.note.total k (marks_of_note n))) starts
     (λ p. refl) in
     subst (λ fs. AreSame (received_notes base (received_note base nothing_placed n) ns) (received_frames base nothing_placed fs))
-    (sym (as-front n (frames_of ns)))
+    (sym (as-front n (frames_of_notes ns)))
     (pieces-are-frames base ns n (marks_of_note n) nothing_placed (received_note base nothing_placed n) parts.nothing first_is stand
     (omega (arith, n_len, starts)) same)

@@ -3,7 +3,7 @@ use Rattle.std.proofs.Common.{◌≡◌, ◌≢◌, ℕ, ◌+◌, ◌<◌, ◌�
 use Rattle.std.{proofs.Common.{map, take, drop, refl, sym, ap, subst, ◌∙◌, arith, ⊎_elim}, specs.Prelude.{◌==◌, All, if◌then◌else◌, slice_get, nat_lt}}
 use Rattle.std.proofs.lemmas.{Bool.{cases_Bool, cases_lt, Decides.{nat_tests}}, List.{Elements.{All-head, All-tail}, Recursion.{is_sum_by}}, Option.{slice_get_within}}
 use Rattle.zr_kinds.specs.declared.place.{Place.{Place}, Note.{Note}}
-use Rattle.area_layout.{specs.Layout.{pool_buffers, IsLayout, LiesIn, total as buffers_of}, proofs.Words.{words_apart}}
+use Rattle.area_layout.{specs.Layout.{pool_buffers, IsLayout, LiesIn, all_buffers as buffers_of}, proofs.Words.{words_apart}}
 use Rattle.tcp_reorder.specs.{declared.places.Span.{Span}, Queue.{Kept, Queue, front_of, AreApart as ApartFrom, next_of}, Gaps.{LosesFirst}, Values.{AreSized}}
 use Rattle.board_face.specs.{Texts.{unsplit_bytes}, Tokens.{filled_by, same_filling}, Looks.{AppLooksStay}, NicEvents.{fresh}, AppCalls.{HasSpare, HasNoneIn, MaySpare}}
 use Rattle.board_face.specs.{AppEvents.{got_spare, filled, own_bytes, lent_own, begin_place, lent, came_to_rest, reserve_of}, declared.views.parts.Filling.{Filling}}

@@ -2,7 +2,7 @@
 use Rattle.std.proofs.Common.{◌≡◌, ◌≢◌, ℕ, ◌+◌, ◌<◌, ◌≤◌, ◌==◌, true, false, if◌then◌else◌, List, [], ◌∷◌, refl, sym, ap, subst, ◌∙◌, arith, ⊎_elim}
 use Rattle.std.specs.{Prelude.{Some, None, IsSome}, Ordering.{nat_cmp}, Cmp.{nat_cmp_is}, Map.{lookup, set_value}, BTreeMap.{insert_entry, is_at}}
 use Rattle.std.{specs.declared.cmp.Ordering.TheVariants.{Less, Equal, Greater}, proofs.lemmas.Bool.{cases_eq, cases_lt, eq-eqb, ne_eqb}}
-use Rattle.flow_queues.specs.{Ends.{bytes_in, times}, Counting.{AddsTo}}
+use Rattle.flow_queues.specs.{Ends.{bytes_written_of, times_written}, Counting.{AddsTo}}
 
 is-less : (a b : ℕ) → a < b → nat_cmp a b ≡ Less
 is-less a b below = sym (nat_cmp_is a b Less below)
@@ -17,7 +17,7 @@ same-number : (n : ℕ) → (n == n) ≡ true
 same-number n = eq-eqb n n refl
 
 -- none is counted of a flow that doesn't stand there
-absent-none : (flow : ℕ) (es : List (ℕ × ℕ)) → lookup (is_at (nat_cmp flow)) es ≡ None → bytes_in flow es ≡ 0
+absent-none : (flow : ℕ) (es : List (ℕ × ℕ)) → lookup (is_at (nat_cmp flow)) es ≡ None → bytes_written_of flow es ≡ 0
 absent-none flow [] none = refl
 absent-none flow (e ∷ es) none = ⊎_elim
     (λ (same : flow ≡ e.0). (let here : lookup (is_at (nat_cmp flow)) (e ∷ es) ≡ Some e.1 = rw (is-equal flow e.0 same) refl in absurd (cc)))
@@ -29,13 +29,13 @@ absent-none flow (e ∷ es) none = ⊎_elim
     (cases_lt flow e.0))))
     (cases_eq flow e.0)
 
-absent-times : (flow : ℕ) (es : List (ℕ × ℕ)) → lookup (is_at (nat_cmp flow)) es ≡ None → times flow es ≡ 0
+absent-times : (flow : ℕ) (es : List (ℕ × ℕ)) → lookup (is_at (nat_cmp flow)) es ≡ None → times_written flow es ≡ 0
 absent-times flow [] none = refl
 absent-times flow (e ∷ es) none = ⊎_elim
     (λ (same : flow ≡ e.0). (let here : lookup (is_at (nat_cmp flow)) (e ∷ es) ≡ Some e.1 = rw (is-equal flow e.0 same) refl in absurd (cc)))
     (λ (other : flow ≢ e.0).
     let away : (e.0 == flow) ≡ false = ne_eqb e.0 flow (λ same. other (sym same)) in
-    let behind : times flow es ≡ 0 = absent-times flow es (⊎_elim
+    let behind : times_written flow es ≡ 0 = absent-times flow es (⊎_elim
     (λ (below : flow < e.0). rw (is-less flow e.0 below) at none)
     (λ (above : e.0 ≤ flow). rw (is-greater flow e.0 (let over : e.0 < flow = omega arith in over)) at none)
     (cases_lt flow e.0)) in
@@ -56,20 +56,20 @@ adds-behind flow bytes e was now other adds = record {
   others = λ n away. ap (λ k. (if e.0 == n then 1 else 0) + k) (adds.others n away);
   once = λ most.
       let test : (e.0 == flow) ≡ false = ne_eqb e.0 flow other in
-      let less : times flow was ≤ times flow (e ∷ was) = omega arith in
-      let later : times flow now ≤ 1 = adds.once (omega (arith, less, most)) in
+      let less : times_written flow was ≤ times_written flow (e ∷ was) = omega arith in
+      let later : times_written flow now ≤ 1 = adds.once (omega (arith, less, most)) in
       rw test (omega (arith, later));
 }
 
 -- an entry of none was put before these
-adds-first : (flow : ℕ) (es : List (ℕ × ℕ)) → bytes_in flow es ≡ 0 → times flow es ≡ 0 → AddsTo flow 0 es ((flow, 0) ∷ es)
+adds-first : (flow : ℕ) (es : List (ℕ × ℕ)) → bytes_written_of flow es ≡ 0 → times_written flow es ≡ 0 → AddsTo flow 0 es ((flow, 0) ∷ es)
 adds-first flow es none no_time = record {
   sum = omega arith;
   counts = λ n. ⊎_elim
       (λ (here : flow ≡ n).
       let test : (flow == n) ≡ true = eq-eqb flow n here in
       let back : (n == flow) ≡ true = eq-eqb n flow (sym here) in
-      rw (test, back) (sym (let zero_is : bytes_in n es + 0 ≡ 0 = omega (arith, subst (λ m. bytes_in m es ≡ 0) here none) in zero_is)))
+      rw (test, back) (sym (let zero_is : bytes_written_of n es + 0 ≡ 0 = omega (arith, subst (λ m. bytes_written_of m es ≡ 0) here none) in zero_is)))
       (λ (not : flow ≢ n).
       let test : (flow == n) ≡ false = ne_eqb flow n not in
       let back : (n == flow) ≡ false = ne_eqb n flow (λ same. not (sym same)) in
@@ -110,7 +110,7 @@ adds-here flow bytes e es same = record {
 }
 
 pub adds-more : (flow bytes : ℕ) (es : List (ℕ × ℕ)) → IsSome (lookup (is_at (nat_cmp flow)) es)
-    → AddsTo flow bytes es (set_value (is_at (nat_cmp flow)) es (bytes_in flow es + bytes))
+    → AddsTo flow bytes es (set_value (is_at (nat_cmp flow)) es (bytes_written_of flow es + bytes))
 adds-more flow bytes [] there = absurd (cc)
 adds-more flow bytes (e ∷ es) there = ⊎_elim
     (λ (same : flow ≡ e.0).
@@ -129,7 +129,7 @@ adds-more flow bytes (e ∷ es) there = ⊎_elim
     (cases_eq flow e.0)
 
 -- what is counted is what stands there
-pub counted-is : (flow : ℕ) (es : List (ℕ × ℕ)) (count : ℕ) → lookup (is_at (nat_cmp flow)) es ≡ Some count → bytes_in flow es ≡ count
+pub counted-is : (flow : ℕ) (es : List (ℕ × ℕ)) (count : ℕ) → lookup (is_at (nat_cmp flow)) es ≡ Some count → bytes_written_of flow es ≡ count
 counted-is flow [] count is = absurd (cc)
 counted-is flow (e ∷ es) count is = ⊎_elim
     (λ (same : flow ≡ e.0).

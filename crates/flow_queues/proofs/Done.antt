@@ -5,7 +5,7 @@ use Rattle.zr_kinds.specs.CopyingReceiver.{Placed, values_from}
 use Rattle.zr_io.{specs.Moved.{Gained}, proofs.Moved.{Gained-weaker}}
 use Rattle.tcp_reorder.specs.Queue.{Queue}
 use Rattle.board_face.specs.declared.views.app.{Reading.{Reading}, TakenNote.{TakenNote}, AppView.{AppView}}
-use Rattle.flow_queues.specs.{declared.queues.{Waiting.{Waiting}, FlowQueue.{FlowQueue}}, Marks.{Mark, Numbered}}
+use Rattle.flow_queues.specs.{declared.queues.{Waiting.{Waiting}, FlowQueue.{FlowQueue}}, Marks.{Mark, NumberedNote}}
 use Rattle.flow_queues.specs.{Core.{Each, IsIn, many, own_notes, BeginAt, placed_of, AreReadAt}, Flows.{fresh_flow}, Shelves.{FlowEnds, IsShelved, AreShelved}}
 use Rattle.flow_queues.proofs.{Tokens.{in-total}, Placing.{own-notes-other, own-notes-here, next_note, begin-push, values-stay, some_of, still-there}}
 use Rattle.flow_queues.proofs.{Standing.{each-map, each-left, each-right, is_number, number-is}, Choosing.{Chosen, there, begun}}
@@ -44,7 +44,7 @@ module _ (taken : List TakenNote) (t : TakenNote) (f : FlowQueue) (q : Queue Wai
 pub ends-begun : (taken : List TakenNote) (t : TakenNote) → own_notes t.note.flow taken ≡ [] → (q : Queue Waiting) → q.base ≡ t.note.base
     → FlowEnds (taken ++ t ∷ []) (record (fresh_flow t.note) { queue = q })
 ends-begun taken t no_notes q base =
-    let n : Numbered = next_note taken t in
+    let n : NumberedNote = next_note taken t in
     let e : own_notes t.note.flow (taken ++ t ∷ []) ≡ n ∷ [] = own-notes-here t.note.flow taken t refl ∙ ap (λ ns. ns ++ n ∷ []) no_notes in
     record { begun = subst (BeginAt q.base) (sym e) (sym base); below = λ p below. absurd (omega arith) }
 

@@ -2,7 +2,7 @@
 use Rattle.std.proofs.Common.{◌≡◌, ℕ, zero, suc, ◌+◌, ◌-◌, ◌%◌, ◌^◌, ◌<◌, ◌≤◌, true, false, List, [], ◌∷◌, Option, Some}
 use Rattle.std.{proofs.{Common.{None, length, take, drop, refl, sym, ap, subst, ◌∙◌, arith, ⊎_elim}, lemmas.Bool.{cases_Bool}}, specs.Prelude.{nat_lt, IfSome}}
 use Rattle.board_face.specs.{Lists.{same_place}, AppEvents.{released}, declared.views.app.{HeldPiece.{HeldPiece}, AppView.{AppView}}}
-use Rattle.zr_kinds.specs.{declared.place.{Note.{Note}, Place.{Place}}, CopyingReceiver.{Placed, next_missing, accepts, filled}}
+use Rattle.zr_kinds.specs.{declared.place.{Note.{Note}, Place.{Place}}, CopyingReceiver.{Placed, next_missing, accepts, filled_by_values}}
 use Rattle.tcp_reorder.specs.{declared.places.Gap.{Gap}, Queue.{Kept, Queue, next_of, with_kept, IsSound}, Gaps.{origin, wants, IsFirstGap}, Values.{Holds}}
 use Rattle.tcp_reorder.proofs.{Holding.{next_missing-held}, Judging.{parts_accepted}, GapByGap.{IsPast}, Entering.{past-unwanted, holds-none}}
 use Rattle.flow_queues.specs.{declared.queues.{NotePiece.{NotePiece}, Waiting.{Waiting, TheVariants.{InArea}}}, Marks.{Mark, marks_from}}
@@ -58,13 +58,13 @@ each-with_kept P (first ∷ others) one here each = ⊎_elim
 -- So much of the piece is there; the rest, if there is any, is out and goes on so.
 abbrev pub IsLeft : AppView → Queue Waiting → Queue Waiting → ℕ → ℕ → ℕ → ℕ → Option NotePiece → Type 0
 IsLeft v was now number seq len from None =
-    (placed : Placed Mark) → Holds marks_of_waiting was placed → Holds marks_of_waiting now (filled placed from (marks_from number 0 len))
+    (placed : Placed Mark) → Holds marks_of_waiting was placed → Holds marks_of_waiting now (filled_by_values placed from (marks_from number 0 len))
 IsLeft v was now number seq len from (Some piece) =
     IsIn (held_piece piece) v.helds × (piece.note ≡ number) × (piece.at + piece.held.len ≡ len)
     × GoesOnFrom {A = Mark} {H = Waiting} marks_of_waiting now seq len piece.at from
     ×
     ((placed : Placed Mark) → Holds marks_of_waiting was placed
-    → Holds marks_of_waiting now (filled placed from (take piece.at (marks_from number 0 len))))
+    → Holds marks_of_waiting now (filled_by_values placed from (take piece.at (marks_from number 0 len))))
 
 abbrev pub left_len : Option NotePiece → ℕ
 left_len None = 0
@@ -92,7 +92,7 @@ module _ (queue : Queue Waiting) (note : Note) (accepted : accepts queue.base (n
 
   -- all of it is there
   pub all-there : (later : Queue Waiting) (number : ℕ) (placed : Placed Mark) → Holds marks_of_waiting queue placed
-      → Holds marks_of_waiting later (filled placed from (marks_from number 0 note.place.len))
+      → Holds marks_of_waiting later (filled_by_values placed from (marks_from number 0 note.place.len))
       → Holds marks_of_waiting later (received_note queue.base placed (record { number = number; note = note }))
   all-there later number placed holds then =
       let next : next_missing placed ≡ next_of queue = next_missing-held marks_of_waiting queue placed holds in
@@ -107,14 +107,14 @@ ignored queue note number placed refused holds =
 -- no byte of the rest is wanted
 pub none-wanted : (v : AppView) (was now : Queue Waiting) (number seq len from : ℕ) (piece : NotePiece) → IsLeft v was now number seq len from (Some piece)
     → ((place : ℕ) → place < piece.held.len → wants now ((seq + piece.at) % 2 ^ 32) place ≡ false)
-    → (placed : Placed Mark) → Holds marks_of_waiting was placed → Holds marks_of_waiting now (filled placed from (marks_from number 0 len))
+    → (placed : Placed Mark) → Holds marks_of_waiting was placed → Holds marks_of_waiting now (filled_by_values placed from (marks_from number 0 len))
 none-wanted v was now number seq len from piece (out, note, all, goes, so_far) unwanted placed holds =
     let marks : List Mark = marks_from number 0 len in
     let size : length marks ≡ len = marks-length number 0 len in
     holds-all marks_of_waiting now placed marks from piece.at holds.past (so_far placed holds) (omega (arith, size))
-    (λ k above until. subst (λ (place : ℕ). IsPast (filled placed from (take piece.at marks)) place)
+    (λ k above until. subst (λ (place : ℕ). IsPast (filled_by_values placed from (take piece.at marks)) place)
     (omega (arith, goes.place))
-    (past-unwanted marks_of_waiting now (filled placed from (take piece.at marks)) ((seq + piece.at) % 2 ^ 32) (k - piece.at) (so_far placed holds)
+    (past-unwanted marks_of_waiting now (filled_by_values placed from (take piece.at marks)) ((seq + piece.at) % 2 ^ 32) (k - piece.at) (so_far placed holds)
     (unwanted (k - piece.at) (omega (arith, size)))))
 
 -- ---- a gap is taken
@@ -164,7 +164,7 @@ module _ (v v1 v2 : AppView) (was now : Queue Waiting) (number seq len from : �
       (copy-goes-on marks_of_waiting now sound seq marks piece.at from fits' before' goes' gap gap' (InArea first) items)
 
   then-holds : (placed : Placed Mark) → Holds marks_of_waiting was placed
-      → Holds marks_of_waiting later (filled placed from (take (piece.at + gap.skip + gap.len) (marks_from number 0 len)))
+      → Holds marks_of_waiting later (filled_by_values placed from (take (piece.at + gap.skip + gap.len) (marks_from number 0 len)))
   unfolding marks
   then-holds placed holds = copy-held marks_of_waiting now sound seq marks piece.at from fits' before' goes' gap gap' (InArea first) items placed holds.past
       (left.4 placed holds)
@@ -174,7 +174,8 @@ module _ (v v1 v2 : AppView) (was now : Queue Waiting) (number seq len from : �
       let wanted_len : wanted.held.len ≡ piece.held.len - gap.skip = ap (λ p. p.held.len) gave.rest in
       let all : piece.at + gap.skip + gap.len ≡ len = omega (arith, whole, wanted_len, left.2, is_gap.within) in
       let full : take len (marks_from number 0 len) ≡ marks_from number 0 len = marks-take number 0 len len (omega arith) in
-      subst (λ ms. Holds marks_of_waiting later (filled placed from ms)) (ap (λ n. take n (marks_from number 0 len)) all ∙ full) (then-holds placed holds)
+      subst (λ ms. Holds marks_of_waiting later (filled_by_values placed from ms)) (ap (λ n. take n (marks_from number 0 len)) all ∙ full)
+      (then-holds placed holds)
   left-with (Some rest) (below, is, out) =
       let wanted_len : wanted.held.len ≡ piece.held.len - gap.skip = ap (λ p. p.held.len) gave.rest in
       let wanted_at : wanted.at ≡ piece.at + gap.skip = ap (λ p. p.at) gave.rest in
@@ -185,7 +186,8 @@ module _ (v v1 v2 : AppView) (was now : Queue Waiting) (number seq len from : �
         ap (λ p. p.note) is ∙ wanted_note ∙ left.1,
         omega (arith, at, rest_len, wanted_len, left.2, is_gap.within, below),
         subst (λ n. GoesOnFrom {A = Mark} {H = Waiting} marks_of_waiting later seq len n from) (sym at) then-goes,
-        λ placed holds. subst (λ n. Holds marks_of_waiting later (filled placed from (take n (marks_from number 0 len)))) (sym at) (then-holds placed holds),
+        λ placed holds. subst (λ n. Holds marks_of_waiting later (filled_by_values placed from (take n (marks_from number 0 len)))) (sym at)
+            (then-holds placed holds),
       )
 
   pub still-left : IsLeft v2 was later number seq len from others

@@ -1,7 +1,7 @@
 -- How a piece fills in, a gap after the other: for any values and any pieces.
 use Rattle.std.proofs.Common.{◌≡◌, ℕ, ◌+◌, ◌-◌, ◌%◌, ◌^◌, ◌<◌, ◌≤◌, List, length, take, drop, true, false, None, refl, sym, ap, subst, ◌∙◌, ⊎_elim}
 use Rattle.std.proofs.{Common.{length-take-le, arith}, lemmas.{Bool.{cases_lt}, List.{length-drop}}}
-use Rattle.zr_kinds.specs.CopyingReceiver.{Placed, lead, accepts, filled}
+use Rattle.zr_kinds.specs.CopyingReceiver.{Placed, lead, accepts, filled_by_values}
 use Rattle.tcp_reorder.specs.{Queue.{Kept, Queue, has, next_of, end_of, with_kept, IsSound}, declared.places.Gap.{Gap}, Gaps.{origin, wants, IsFirstGap}}
 use Rattle.tcp_reorder.{specs.Values.{Holds}, proofs.{Holding.{Holds-same, Holds-with_kept}, Positions.{IsFree}, Parts.{origin-part, MayBeTaken, may_be_taken}}}
 use Rattle.tcp_reorder.proofs.{Sound.{MayBeKept}, Taking.{may_be_kept}, Gapping.{wanted}, Least.{has-before, next_of-popped, next_of-with_kept}}
@@ -13,29 +13,29 @@ module _ {A H : Type 0} (values : H → List A) where
 
   module _ (queue : Queue H) (placed : Placed A) (payload : List A) (from : ℕ) where
     -- all of it is there that is wanted
-    pub holds-all : (done : ℕ) → ((p : ℕ) → placed.top ≤ p → placed.at p ≡ None) → Holds values queue (filled placed from (take done payload))
-        → done ≤ length payload → ((k : ℕ) → done ≤ k → k < length payload → IsPast (filled placed from (take done payload)) (from + k))
-        → Holds values queue (filled placed from payload)
+    pub holds-all : (done : ℕ) → ((p : ℕ) → placed.top ≤ p → placed.at p ≡ None) → Holds values queue (filled_by_values placed from (take done payload))
+        → done ≤ length payload → ((k : ℕ) → done ≤ k → k < length payload → IsPast (filled_by_values placed from (take done payload)) (from + k))
+        → Holds values queue (filled_by_values placed from payload)
     holds-all done none holds within past =
-        Holds-same values queue (filled placed from (take done payload)) (filled placed from payload) holds
+        Holds-same values queue (filled_by_values placed from (take done payload)) (filled_by_values placed from payload) holds
         (all-filled placed payload from done within past) (filled-past placed from payload none)
 
     -- a gap is taken
     pub holds-gap : (done a b : ℕ) (one : Kept H) → ((p : ℕ) → placed.top ≤ p → placed.at p ≡ None)
-        → Holds values queue (filled placed from (take done payload)) → IsFree queue.kept one → length (values one.piece) ≡ one.len
+        → Holds values queue (filled_by_values placed from (take done payload)) → IsFree queue.kept one → length (values one.piece) ≡ one.len
         → queue.popped ≤ one.position
         → one.position + 2 ^ 31 ≡ from + a → values one.piece ≡ take (b - a) (drop a payload) → done ≤ a → a ≤ b → b ≤ length payload
-        → ((k : ℕ) → done ≤ k → k < a → IsPast (filled placed from (take done payload)) (from + k))
-        → Holds values (record queue { kept = with_kept queue.kept one }) (filled placed from (take b payload))
+        → ((k : ℕ) → done ≤ k → k < a → IsPast (filled_by_values placed from (take done payload)) (from + k))
+        → Holds values (record queue { kept = with_kept queue.kept one }) (filled_by_values placed from (take b payload))
     holds-gap done a b one none holds free size popped place items from_done to_b within past =
         let later : Queue H = record queue { kept = with_kept queue.kept one } in
-        let so_far : Placed A = filled placed from (take done payload) in
-        let taken : Holds values later (filled so_far (one.position + 2 ^ 31)
+        let so_far : Placed A = filled_by_values placed from (take done payload) in
+        let taken : Holds values later (filled_by_values so_far (one.position + 2 ^ 31)
         (values one.piece)) = Holds-with_kept values queue so_far one holds free size popped in
-        let there : Holds values later (filled so_far (from + a) (take (b - a) (drop a payload))) = subst
-        (λ n. Holds values later (filled so_far n (take (b - a) (drop a payload)))) place
-        (subst (λ v. Holds values later (filled so_far (one.position + 2 ^ 31) v)) items taken) in
-        Holds-same values later (filled so_far (from + a) (take (b - a) (drop a payload))) (filled placed from (take b payload)) there
+        let there : Holds values later (filled_by_values so_far (from + a) (take (b - a) (drop a payload))) = subst
+        (λ n. Holds values later (filled_by_values so_far n (take (b - a) (drop a payload)))) place
+        (subst (λ v. Holds values later (filled_by_values so_far (one.position + 2 ^ 31) v)) items taken) in
+        Holds-same values later (filled_by_values so_far (from + a) (take (b - a) (drop a payload))) (filled_by_values placed from (take b payload)) there
         (gap-filled placed payload from done a b from_done to_b within past) (filled-past placed from (take b payload) none)
 
   -- ---- a copy was taken of one gap
@@ -122,8 +122,8 @@ module _ {A H : Type 0} (values : H → List A) where
     copy-goes-on = goes-on-later queue sound seq (length payload) done from fits before goes gap first copied refl refl
 
     pub copy-held : (placed : Placed A) → ((p : ℕ) → placed.top ≤ p → placed.at p ≡ None)
-        → Holds values queue (filled placed from (take done payload))
-        → Holds values (record queue { kept = with_kept queue.kept copied }) (filled placed from (take (done + gap.skip + gap.len) payload))
+        → Holds values queue (filled_by_values placed from (take done payload))
+        → Holds values (record queue { kept = with_kept queue.kept copied }) (filled_by_values placed from (take (done + gap.skip + gap.len) payload))
     unfolding may
     copy-held placed none holds =
         let within : gap.skip + gap.len ≤ length payload - done = first.within in
@@ -143,5 +143,5 @@ module _ {A H : Type 0} (values : H → List A) where
         (λ k above until.
         let here : origin queue ((seq + done) % 2 ^ 32) + (k - done) ≡ from + k = omega (arith, goes.place) in
         let unwanted : wants queue ((seq + done) % 2 ^ 32) (k - done) ≡ false = first.before (k - done) (omega arith) in
-        subst (λ n. IsPast (filled placed from (take done payload)) n) here
-        (past-unwanted values queue (filled placed from (take done payload)) ((seq + done) % 2 ^ 32) (k - done) holds unwanted))
+        subst (λ n. IsPast (filled_by_values placed from (take done payload)) n) here
+        (past-unwanted values queue (filled_by_values placed from (take done payload)) ((seq + done) % 2 ^ 32) (k - done) holds unwanted))

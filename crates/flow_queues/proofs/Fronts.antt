@@ -2,13 +2,13 @@
 use Rattle.std.proofs.Common.{◌≡◌, ◌≢◌, ℕ, zero, suc, ◌+◌, ◌-◌, ◌<◌, ◌≤◌, true, false, List, [], ◌∷◌, ◌++◌}
 use Rattle.std.{proofs.Common.{Option, Some, None, IsSome, refl, sym, ap, ◌∙◌, arith, ⊎_elim}, specs.{Prelude.{◌==◌}, Option.{is_some}}}
 use Rattle.std.proofs.lemmas.Bool.{cases_Bool, cases_lt, cases_eq, both_ways, ne_eqb}
-use Rattle.zr_kinds.specs.CopyingReceiver.{Placed, nothing_placed, next_missing, lead, accepts, brought, first_of, filled, values_from, front_of}
+use Rattle.zr_kinds.specs.CopyingReceiver.{Placed, nothing_placed, next_missing, lead, accepts, brought, first_of, filled_by_values, values_from, front_of}
 use Rattle.zr_kinds.proofs.LeastMissing.{next_missing-least, same_least}
 use Rattle.tcp_reorder.{specs.Queue.{Queue}, proofs.Holding.{brought-past}}
 use Rattle.board_face.specs.declared.views.app.TakenNote.{TakenNote}
 use Rattle.flow_queues.specs.declared.queues.{Waiting.{Waiting}, FlowQueue.{FlowQueue}}
-use Rattle.flow_queues.specs.Marks.{Mark, Numbered, numbered, Frame, received_frame, received_frames, frames_of, base_of, placed_marks, marks_of, marks_of_note}
-use Rattle.flow_queues.specs.{Marks.{FramesStandTogether}, Core.{Each, many, own_notes, BeginAt, placed_of, received_note, received_notes}}
+use Rattle.flow_queues.specs.Marks.{Mark, NumberedNote, numbered_notes, Frame, received_frame, received_frames, frames_of_notes, base_of, placed_marks, marks_of}
+use Rattle.flow_queues.specs.{Marks.{marks_of_note, FramesStandTogether}, Core.{Each, many, own_notes, BeginAt, placed_of, received_note, received_notes}}
 use Rattle.flow_queues.proofs.{Placing.{own-notes-other, own-notes-here, next_note, received-push, values-split}, WholeFrames.{StandWhole, whole-own, placed-same}}
 use Rattle.flow_queues.proofs.InParts.{AreSame}
 
@@ -34,7 +34,7 @@ module _ (taken : List TakenNote) (t : TakenNote) (f : FlowQueue) (q : Queue Wai
 abbrev IsPast : Placed Mark → Type 0
 IsPast placed = (p : ℕ) → placed.top ≤ p → placed.at p ≡ None
 
-filled-past : (placed : Placed Mark) (from : ℕ) (marks : List Mark) → IsPast placed → IsPast (filled placed from marks)
+filled-past : (placed : Placed Mark) (from : ℕ) (marks : List Mark) → IsPast placed → IsPast (filled_by_values placed from marks)
 filled-past placed from marks past = λ p behind. ap (λ value. first_of value (brought marks from p)) (past p (omega arith))
     ∙ brought-past marks from p (omega arith)
 
@@ -49,14 +49,14 @@ frames-past : (base : ℕ) (placed : Placed Mark) (fs : List Frame) → IsPast p
 frames-past base placed [] past = past
 frames-past base placed (f ∷ fs) past = frames-past base (received_frame base placed f) fs (frame-past base placed f past)
 
-note-past : (base : ℕ) (placed : Placed Mark) (n : Numbered) → IsPast placed → IsPast (received_note base placed n)
+note-past : (base : ℕ) (placed : Placed Mark) (n : NumberedNote) → IsPast placed → IsPast (received_note base placed n)
 note-past base placed n past = ⊎_elim
     (λ (yes : accepts base (next_missing placed) n.note.seq n.note.total ≡ true). let is = filled-past placed
     (next_missing placed + lead base (next_missing placed) n.note.seq + n.note.at) (marks_of_note n) past in rw yes is)
     (λ (no : accepts base (next_missing placed) n.note.seq n.note.total ≡ false). rw no past)
     (cases_Bool (accepts base (next_missing placed) n.note.seq n.note.total))
 
-notes-past : (base : ℕ) (placed : Placed Mark) (ns : List Numbered) → IsPast placed → IsPast (received_notes base placed ns)
+notes-past : (base : ℕ) (placed : Placed Mark) (ns : List NumberedNote) → IsPast placed → IsPast (received_notes base placed ns)
 notes-past base placed [] past = past
 notes-past base placed (n ∷ ns) past = notes-past base (received_note base placed n) ns (note-past base placed n past)
 
@@ -67,7 +67,7 @@ values-alike at later (suc k) p same = rw (same p, values-alike at later k (suc 
 -- the pieces of each frame stand together in a flow, where they do among all notes
 pub stand-own : (flow : ℕ) (taken : List TakenNote) → FramesStandTogether taken → StandWhole (own_notes flow taken)
 stand-own flow [] whole = tt
-stand-own flow (t ∷ ts) whole = whole-own flow (record { number = 0; note = t.note }) (numbered 1 ts) whole.0 whole.1
+stand-own flow (t ∷ ts) whole = whole-own flow (record { number = 0; note = t.note }) (numbered_notes 1 ts) whole.0 whole.1
 
 -- ---- one flow
 
@@ -80,7 +80,7 @@ front-of-flow flow taken count begun below whole =
     let placed : Placed Mark = placed_of flow taken in
     let frames : Placed Mark = placed_marks flow.number taken in
     let same : AreSame placed frames = placed-same flow taken begun (stand-own flow.number taken whole) in
-    let past : IsPast frames = frames-past (base_of (own_notes flow.number taken)) nothing_placed (frames_of (own_notes flow.number taken))
+    let past : IsPast frames = frames-past (base_of (own_notes flow.number taken)) nothing_placed (frames_of_notes (own_notes flow.number taken))
     (λ p behind. refl) in
     let least = next_missing-least frames (record { past = past }) in
     let within : count ≤ next_missing frames = ⊎_elim
@@ -103,7 +103,7 @@ all-of-flow flow taken begun is whole =
     let placed : Placed Mark = placed_of flow taken in
     let frames : Placed Mark = placed_marks flow.number taken in
     let same : AreSame placed frames = placed-same flow taken begun (stand-own flow.number taken whole) in
-    let past : IsPast frames = frames-past (base_of (own_notes flow.number taken)) nothing_placed (frames_of (own_notes flow.number taken))
+    let past : IsPast frames = frames-past (base_of (own_notes flow.number taken)) nothing_placed (frames_of_notes (own_notes flow.number taken))
     (λ p behind. refl) in
     let past_placed : IsPast placed = notes-past flow.queue.base nothing_placed (own_notes flow.number taken) (λ p behind. refl) in
     let next : next_missing frames ≡ next_missing placed = same_least frames placed (next_missing frames) (next_missing placed)

@@ -4,7 +4,7 @@ use Rattle.zr_kinds.specs.declared.{place.{Note.{Note}, Place.{Place}}, ring.Com
 use Rattle.board_face.specs.{AppCalls.{TookNote, TookLinear}, AppEvents.{released}, declared.views.app.{HeldPiece.{HeldPiece}, TakenNote.{TakenNote}}}
 use Rattle.board_face.specs.declared.views.app.AppView.{AppView}
 use Rattle.flow_queues.specs.{declared.queues.{Lending.{Lending}, FlowQueue.{FlowQueue}}, Core.{total, LieApart, held_piece, over_kept, HasTokens, Stands}}
-use Rattle.flow_queues.specs.{Pieces.{whole_piece}, Taking.{Changes, Receives, EntersPiece, TakesPiece, LosesPiece, EntersPayload, TakesPayload, LosesPayload}}
+use Rattle.flow_queues.specs.{Pieces.{whole_piece}, Taking.{ChangesQueue, Receives, EntersPiece, TakesPiece, LosesPiece, EntersPayload, TakesPayload, LosesPayload}}
 use Rattle.flow_queues.proofs.{Tokens.{is-released}, Took.{Took, is-took, taken_note, entered-tokens, entered-stands, kept-tokens}, NotesStay.{taken-last}}
 
 module _ (number : ℕ) (was : List FlowQueue) (ring : List (Completion × Lending)) (read : List Lending) (old : AppView) (note : Note)
@@ -17,7 +17,7 @@ module _ (number : ℕ) (was : List FlowQueue) (ring : List (Completion × Lendi
     took-piece : Took old mid note number held
     took-piece = is-took old mid note number held stands.tokens.apart stands.notes took
 
-    module _ (new : AppView) (now : List FlowQueue) (index : List (ℕ × ℕ)) (i : ℕ) (change : Changes was now index note i)
+    module _ (new : AppView) (now : List FlowQueue) (index : List (ℕ × ℕ)) (i : ℕ) (change : ChangesQueue was now index note i)
         (some : EntersPiece mid new change.own.queue change.queue (whole_piece number held)) where
       piece-view : new ≡ record old { taken = old.taken ++ taken_note note ∷ []; helds = new.helds }
       piece-view = some.only.view ∙ ap (λ (v : AppView). record v { helds = new.helds }) took.event
@@ -62,7 +62,7 @@ module _ (number : ℕ) (was : List FlowQueue) (ring : List (Completion × Lendi
     came-view : new ≡ record old { taken = old.taken ++ came ∷ []; helds = new.helds }
     came-view = rw took.event refl
 
-    module _ (now : List FlowQueue) (index : List (ℕ × ℕ)) (i : ℕ) (change : Changes was now index note i)
+    module _ (now : List FlowQueue) (index : List (ℕ × ℕ)) (i : ℕ) (change : ChangesQueue was now index note i)
         (some : EntersPayload change.own.queue change.queue note) where
       payload-moved : (f : HeldPiece → ℕ) → total f new.helds + over_kept f change.own.queue ≡ total f old.helds + over_kept f change.queue
       payload-moved f = omega (arith, ap (total f) came-helds, some.over f)

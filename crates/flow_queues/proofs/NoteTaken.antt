@@ -7,7 +7,7 @@ use Rattle.board_face.specs.declared.views.app.AppView.{AppView}
 use Rattle.flow_queues.specs.declared.queues.FlowQueue.{FlowQueue}
 use Rattle.flow_queues.specs.Core.{total, Each, many, LieApart, held_piece, held_len, short_bytes, unsplit_len, Stands, HasTokens, FlowStands}
 use Rattle.flow_queues.specs.{Flows.{IsAtRest, RestBut, IsIndex, fresh_flow, IsChosen}, Pieces.{whole_piece}, Shelves.{FlowEnds}}
-use Rattle.flow_queues.specs.{Taking.{Changes, TakesPiece, LosesPiece, TakesPayload, LosesPayload}, Totals.{taken_len, bytes_of, bytes_if}}
+use Rattle.flow_queues.specs.{Taking.{ChangesQueue, TakesPiece, LosesPiece, TakesPayload, LosesPayload}, Totals.{taken_len, queue_bytes_of, bytes_if}}
 use Rattle.flow_queues.proofs.{Tokens.{total-append, is-released}, Standing.{each-map}, Took.{Took, is-took, taken_note, kept-tokens, set-last}, Indexing.{index-set}}
 use Rattle.flow_queues.proofs.{Resting.{rest-all, rest-set, rest-push}, Choosing.{Chosen, is-chosen, each-noted, bytes-noted, total-noted, many-noted}}
 use Rattle.flow_queues.specs.{Kept.{QueueState, LoansOut, marks_done, IsBounded, QueuesStand}, Noting.{Noted, NoteEntered}}
@@ -75,7 +75,7 @@ module _ (was : QueueState) (out : LoansOut) (old new : AppView) (t : TakenNote)
     bounded = bounded-noted was.flows (omega (arith, helds held_len)) (omega arith);
   }
 
-  module _ (flows : List FlowQueue) (index : List (ℕ × ℕ)) (i : ℕ) (change : Changes was.flows flows index t.note i)
+  module _ (flows : List FlowQueue) (index : List (ℕ × ℕ)) (i : ℕ) (change : ChangesQueue was.flows flows index t.note i)
       (few : total held_len new.helds + short_bytes change.queue ≤ total held_len old.helds + short_bytes change.own.queue + taken_len t)
       (short : short_bytes change.queue ≤ short_bytes change.own.queue + unsplit_len t) where
     put-in : Chosen was.flows t.note change.own (λ x. set change.flows i x)
@@ -103,7 +103,7 @@ module _ (was : QueueState) (out : LoansOut) (old new : AppView) (t : TakenNote)
           ∙ done-noted n old.taken t was.flows change.own (λ x. set change.flows i x) change.queue change.base ends-before put-in;
       bytes = λ n. omega (
         arith,
-        ap (bytes_of n) change.is,
+        ap (queue_bytes_of n) change.is,
         total-noted was.flows t.note change.own (λ x. set change.flows i x) change.queue
             change.base (bytes_if n) put-in (none-yet (t.note.flow == n) 0),
       );

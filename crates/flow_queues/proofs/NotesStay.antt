@@ -4,7 +4,7 @@ use Rattle.std.{specs.Prelude.{◌==◌, slice_get}, proofs.lemmas.Bool.Decides.
 use Rattle.zr_kinds.specs.{declared.ring.Completion.{Completion}, CopyingReceiver.{Placed, nothing_placed, values_from}}
 use Rattle.tcp_reorder.specs.{Queue.{Queue}, Values.{Holds}}
 use Rattle.board_face.specs.declared.views.app.{TakenNote.{TakenNote}, LentPiece.{LentPiece}}
-use Rattle.flow_queues.specs.{declared.queues.{Waiting.{Waiting, TheVariants.{InArea, Copied}}, Lending.{Lending}, FlowQueue.{FlowQueue}}, Marks.{Mark, Numbered}}
+use Rattle.flow_queues.specs.{declared.queues.{Waiting.{Waiting, TheVariants.{InArea, Copied}}, Lending.{Lending}, FlowQueue.{FlowQueue}}, Marks.{Mark, NumberedNote}}
 use Rattle.flow_queues.specs.Core.{total, lent_piece, origin_in, over_read, IsOfNote, marks_of_waiting, received_note, received_notes, own_notes, BeginAt}
 use Rattle.flow_queues.specs.Core.{lent_marks, placed_of, FlowStands, Each, many}
 use Rattle.flow_queues.proofs.{Placing.{own-notes-other, own-notes-here, next_note, received-push, begin-push, values-stay}, Standing.{each-map}}
@@ -73,10 +73,10 @@ flow-took-other taken t posted f other stands =
     let e : own_notes f.number (taken ++ t ∷ []) ≡ own_notes f.number taken = own-notes-other f.number taken t (λ is. other (sym is)) in
     record {
       begun = subst (BeginAt f.queue.base) (sym e) stands.begun;
-      holds = subst (λ (ns : List Numbered). Holds marks_of_waiting f.queue (received_notes f.queue.base nothing_placed ns)) (sym e) stands.holds;
+      holds = subst (λ (ns : List NumberedNote). Holds marks_of_waiting f.queue (received_notes f.queue.base nothing_placed ns)) (sym e) stands.holds;
       notes = notes-still taken t f.queue stands.notes;
       counted = stands.counted;
-      lent = stands.lent ∙ ap (λ (ns : List Numbered). values_from (received_notes f.queue.base nothing_placed ns).at (f.queue.popped - f.bytes) f.bytes)
+      lent = stands.lent ∙ ap (λ (ns : List NumberedNote). values_from (received_notes f.queue.base nothing_placed ns).at (f.queue.popped - f.bytes) f.bytes)
           (sym e);
     }
 
@@ -89,7 +89,7 @@ pub flow-took : (taken : List TakenNote) (t : TakenNote) (posted : List (Complet
     → (Each (λ k. IsOfNote (taken ++ t ∷ []) k.piece) own.queue.kept → Each (λ k. IsOfNote (taken ++ t ∷ []) k.piece) q.kept)
     → FlowStands taken posted own → FlowStands (taken ++ t ∷ []) posted (record own { queue = q })
 flow-took taken t posted own q number base popped enters keeps stands =
-    let n : Numbered = next_note taken t in
+    let n : NumberedNote = next_note taken t in
     let e : own_notes own.number (taken ++ t ∷ []) ≡ own_notes own.number taken ++ n ∷ [] = own-notes-here own.number taken t (sym number) in
     let placed : Placed Mark = placed_of own taken in
     let same : placed_of (record own { queue = q }) (taken ++ t ∷ []) ≡ received_note own.queue.base placed n =
@@ -115,7 +115,7 @@ pub flow-begun : (taken : List TakenNote) (t : TakenNote) (posted : List (Comple
     → Each (λ k. IsOfNote (taken ++ t ∷ []) k.piece) q.kept
     → FlowStands (taken ++ t ∷ []) posted (record { number = t.note.flow; queue = q; bytes = 0 })
 flow-begun taken t posted flows q none no_notes known base popped holds notes =
-    let n : Numbered = next_note taken t in
+    let n : NumberedNote = next_note taken t in
     let e : own_notes t.note.flow (taken ++ t ∷ []) ≡ n ∷ [] = own-notes-here t.note.flow taken t refl ∙ ap (λ ns. ns ++ n ∷ []) no_notes in
     let same : placed_of (record { number = t.note.flow; queue = q; bytes = 0 }) (taken ++ t ∷ []) ≡ received_note t.note.base nothing_placed n =
     ap (λ b. received_notes b nothing_placed (own_notes t.note.flow (taken ++ t ∷ []))) base ∙ ap (received_notes t.note.base nothing_placed) e in

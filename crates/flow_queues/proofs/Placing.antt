@@ -4,20 +4,20 @@ use Rattle.std.{proofs.Common.{◌++◌, Option, Some, None, IsSome, length, ref
 use Rattle.std.proofs.lemmas.Bool.{cases_Bool, eq-eqb, Decides.{nat_tests}}
 use Rattle.zr_kinds.specs.CopyingReceiver.{Placed, next_missing, accepts, values_from}
 use Rattle.board_face.specs.declared.views.app.TakenNote.{TakenNote}
-use Rattle.flow_queues.specs.{Marks.{Mark, Numbered, numbered, of_flow}, Core.{received_note, received_notes, own_notes, BeginAt}}
+use Rattle.flow_queues.specs.{Marks.{Mark, NumberedNote, numbered_notes, notes_of_flow}, Core.{received_note, received_notes, own_notes, BeginAt}}
 
 -- ---- the notes of a flow
 
 numbered-push : (n : ℕ) (taken : List TakenNote) (t : TakenNote)
-    → numbered n (taken ++ t ∷ []) ≡ numbered n taken ++ record { number = n + length taken; note = t.note } ∷ []
+    → numbered_notes n (taken ++ t ∷ []) ≡ numbered_notes n taken ++ record { number = n + length taken; note = t.note } ∷ []
 numbered-push n [] t = (let e : n ≡ n + 0 = omega arith in ap (λ k. record { number = k; note = t.note } ∷ []) e)
 numbered-push n (u ∷ taken) t =
     let e : suc n + length taken ≡ n + suc (length taken) = omega arith in
     ap (λ ns. record { number = n; note = u.note } ∷ ns) (numbered-push (suc n) taken t
-    ∙ ap (λ k. numbered (suc n) taken ++ record { number = k; note = t.note } ∷ []) e)
+    ∙ ap (λ k. numbered_notes (suc n) taken ++ record { number = k; note = t.note } ∷ []) e)
 
-of_flow-push : (flow : ℕ) (ns : List Numbered) (n : Numbered)
-    → of_flow flow (ns ++ n ∷ []) ≡ of_flow flow ns ++ (if n.note.flow == flow then n ∷ [] else [])
+of_flow-push : (flow : ℕ) (ns : List NumberedNote) (n : NumberedNote)
+    → notes_of_flow flow (ns ++ n ∷ []) ≡ notes_of_flow flow ns ++ (if n.note.flow == flow then n ∷ [] else [])
 of_flow-push flow [] n = ⊎_elim (λ (yes : (n.note.flow == flow) ≡ true). rw yes refl) (λ (no : (n.note.flow == flow) ≡ false). rw no refl)
     (cases_Bool (n.note.flow == flow))
 of_flow-push flow (m ∷ ns) n = ⊎_elim
@@ -26,15 +26,15 @@ of_flow-push flow (m ∷ ns) n = ⊎_elim
     (cases_Bool (m.note.flow == flow))
 
 -- the note that comes to those taken
-abbrev pub next_note : List TakenNote → TakenNote → Numbered
+abbrev pub next_note : List TakenNote → TakenNote → NumberedNote
 next_note taken t = record { number = length taken; note = t.note }
 
 pub own-notes-push : (flow : ℕ) (taken : List TakenNote) (t : TakenNote)
     → own_notes flow (taken ++ t ∷ []) ≡ own_notes flow taken ++ (if t.note.flow == flow then next_note taken t ∷ [] else [])
 own-notes-push flow taken t =
     let e : 0 + length taken ≡ length taken = omega arith in
-    ap (of_flow flow) (numbered-push 0 taken t ∙ ap (λ k. numbered 0 taken ++ record { number = k; note = t.note } ∷ []) e)
-    ∙ of_flow-push flow (numbered 0 taken) (next_note taken t)
+    ap (notes_of_flow flow) (numbered-push 0 taken t ∙ ap (λ k. numbered_notes 0 taken ++ record { number = k; note = t.note } ∷ []) e)
+    ∙ of_flow-push flow (numbered_notes 0 taken) (next_note taken t)
 
 pub own-notes-other : (flow : ℕ) (taken : List TakenNote) (t : TakenNote) → t.note.flow ≢ flow
     → own_notes flow (taken ++ t ∷ []) ≡ own_notes flow taken
@@ -48,12 +48,12 @@ own-notes-here flow taken t here =
     let yes : (t.note.flow == flow) ≡ true = eq-eqb t.note.flow flow here in
     own-notes-push flow taken t ∙ ap (λ b. own_notes flow taken ++ (if b then next_note taken t ∷ [] else [])) yes
 
-pub received-push : (base : ℕ) (placed : Placed Mark) (ns : List Numbered) (n : Numbered)
+pub received-push : (base : ℕ) (placed : Placed Mark) (ns : List NumberedNote) (n : NumberedNote)
     → received_notes base placed (ns ++ n ∷ []) ≡ received_note base (received_notes base placed ns) n
 received-push base placed [] n = refl
 received-push base placed (m ∷ ns) n = received-push base (received_note base placed m) ns n
 
-pub begin-push : (base : ℕ) (ns : List Numbered) (n : Numbered) → BeginAt base ns → BeginAt base (ns ++ n ∷ [])
+pub begin-push : (base : ℕ) (ns : List NumberedNote) (n : NumberedNote) → BeginAt base ns → BeginAt base (ns ++ n ∷ [])
 begin-push base [] n begin = absurd begin
 begin-push base (m ∷ ns) n begin = begin
 
@@ -63,7 +63,7 @@ pub some_of : (found : Option Mark) → IsSome found → (value : Mark) × (foun
 some_of None is = absurd (cc)
 some_of (Some value) is = (value, refl)
 
-pub still-there : (base : ℕ) (placed : Placed Mark) (n : Numbered) (q : ℕ) (value : Mark) → placed.at q ≡ Some value
+pub still-there : (base : ℕ) (placed : Placed Mark) (n : NumberedNote) (q : ℕ) (value : Mark) → placed.at q ≡ Some value
     → (received_note base placed n).at q ≡ Some value
 still-there base placed n q value here = ⊎_elim
     (λ (yes : accepts base (next_missing placed) n.note.seq n.note.total ≡ true). rw (yes, here) refl)
@@ -83,7 +83,7 @@ values_from-same at later (suc k) p same =
         → values_from later (suc k) p ≡ values_from at (suc k) p
     with_both {value} before now others = rw (before, now) (ap (λ xs. value ∷ xs) others)
 
-pub values-stay : (base : ℕ) (placed : Placed Mark) (n : Numbered) (k p : ℕ) → ((q : ℕ) → q < p + k → IsSome (placed.at q))
+pub values-stay : (base : ℕ) (placed : Placed Mark) (n : NumberedNote) (k p : ℕ) → ((q : ℕ) → q < p + k → IsSome (placed.at q))
     → values_from (received_note base placed n).at k p ≡ values_from placed.at k p
 values-stay base placed n k p there =
     values_from-same placed.at (received_note base placed n).at k p

@@ -2,7 +2,7 @@
 use Rattle.std.proofs.Common.{◌≡◌, ◌≢◌, ℕ, zero, suc, ◌+◌, ◌<◌, ◌≤◌, ◌==◌, true, false, List, [], ◌∷◌, length, nat_lt, refl, ap, ◌∙◌, arith, ⊎_elim}
 use Rattle.std.specs.{List.{AllByRecursion, Sorted.{IsStrictlySortedBy}}, Map.{keys_of}, Ordering.{nat_cmp}, declared.cmp.Ordering.TheVariants.{Less}}
 use Rattle.std.proofs.lemmas.Bool.{cases_eq, eq-eqb, lt-ltb, ne_eqb}
-use Rattle.flow_queues.specs.{Core.{total, Each}, Ends.{bytes_in, times}, Counting.{with_bytes}}
+use Rattle.flow_queues.specs.{Core.{total, Each}, Ends.{bytes_written_of, times_written}, Counting.{with_bytes}}
 
 some-pass : (k : ℕ) → nat_lt 0 (suc k) ≡ true
 some-pass k = lt-ltb 0 (suc k) (omega arith)
@@ -17,12 +17,12 @@ shown-total [] = refl
 shown-total ((n, zero) ∷ es) = (let rest = shown-total es in omega (arith, rest))
 shown-total ((n, suc k) ∷ es) = rw (some-pass k) (ap (λ m. suc k + m) (shown-total es))
 
-pub shown-times : (n : ℕ) (es : List (ℕ × ℕ)) → times n (with_bytes es) ≤ times n es
+pub shown-times : (n : ℕ) (es : List (ℕ × ℕ)) → times_written n (with_bytes es) ≤ times_written n es
 shown-times n [] = omega arith
 shown-times n ((m, zero) ∷ es) = (let rest = shown-times n es in omega (arith, rest))
 shown-times n ((m, suc k) ∷ es) = rw (some-pass k) (let rest = shown-times n es in omega (arith, rest))
 
-pub none-there : (n : ℕ) (es : List (ℕ × ℕ)) → times n es ≡ 0 → bytes_in n es ≡ 0
+pub none-there : (n : ℕ) (es : List (ℕ × ℕ)) → times_written n es ≡ 0 → bytes_written_of n es ≡ 0
 none-there n [] none = refl
 none-there n (e ∷ es) none = ⊎_elim
     (λ (here : e.0 ≡ n). (let test : (e.0 == n) ≡ true = eq-eqb e.0 n here in absurd (omega (arith, rw test at none))))
@@ -30,12 +30,12 @@ none-there n (e ∷ es) none = ⊎_elim
     (cases_eq e.0 n)
 
 -- each stands there once at most
-pub shown-bytes : (n : ℕ) (es : List (ℕ × ℕ)) → times n es ≤ 1 → bytes_in n (with_bytes es) ≡ bytes_in n es
+pub shown-bytes : (n : ℕ) (es : List (ℕ × ℕ)) → times_written n es ≤ 1 → bytes_written_of n (with_bytes es) ≡ bytes_written_of n es
 shown-bytes n [] once = refl
 shown-bytes n ((m, zero) ∷ es) once = ⊎_elim
     (λ (here : m ≡ n).
     let test : (m == n) ≡ true = eq-eqb m n here in
-    let none : times n es ≡ 0 = omega (arith, rw test at once) in
+    let none : times_written n es ≡ 0 = omega (arith, rw test at once) in
     rw test (shown-bytes n es (omega (arith, none)) ∙ none-there n es none))
     (λ (not : m ≢ n). (let test : (m == n) ≡ false = ne_eqb m n not in rw test (shown-bytes n es (omega (arith, once)))))
     (cases_eq m n)

@@ -6,7 +6,7 @@ use Rattle.zr_kinds.specs.{Limits.{longest_payload}, declared.place.Place.{Place
 use Rattle.board_face.specs.{Lists.{without, at_first, same_place}, Texts.{further, front_place, rest_place}, AppEvents.{cut, released, lent, gave}}
 use Rattle.board_face.specs.declared.views.app.{Origin.{Origin, TheVariants.{Note as of_note, Copied as of_copy}}, HeldPiece.{HeldPiece}, LentPiece.{LentPiece}}
 use Rattle.board_face.{specs.declared.views.app.AppView.{AppView}, proofs.ListLemmas.{same_place-refl, same_place-is}}
-use Rattle.area_layout.specs.Layout.{Shape, LiesIn, size_of, total as buffers_of}
+use Rattle.area_layout.specs.Layout.{Shape, LiesIn, size_of, all_buffers as buffers_of}
 use Rattle.flow_queues.specs.Core.{total, IsIn, has_at, is_odd, LieApart}
 
 -- ---- lists

@@ -4,10 +4,10 @@ use Rattle.std.proofs.lemmas.Bool.{cases_Bool, cases_eq, eqb-true, Decides.{nat_
 use Rattle.zr_kinds.specs.CopyingReceiver.{nothing_placed}
 use Rattle.board_face.specs.declared.views.app.TakenNote.{TakenNote}
 use Rattle.flow_queues.specs.declared.queues.FlowQueue.{FlowQueue}
-use Rattle.flow_queues.specs.Marks.{Numbered, of_flow, base_of, frames_of, received_frames, placed_marks, AreOfOthers, Follows, LiesInFrame, AllStand}
-use Rattle.flow_queues.{specs.Core.{received_notes, own_notes, placed_of, BeginAt}, proofs.{Bridge.{StandOn, notes-are-frames}, InParts.{AreSame}}}
+use Rattle.flow_queues.specs.Marks.{NumberedNote, notes_of_flow, base_of, frames_of_notes, received_frames, placed_marks, AreOfOthers, FollowsNote, LiesInFrame}
+use Rattle.flow_queues.{specs.{Marks.{AllStand}, Core.{received_notes, own_notes, placed_of, BeginAt}}, proofs.{Bridge.{StandOn, notes-are-frames}, InParts.{AreSame}}}
 
-abbrev pub StandWhole : List Numbered → Type 0
+abbrev pub StandWhole : List NumberedNote → Type 0
 StandWhole [] = Unit {0}
 StandWhole (n ∷ ns) = (n.note.at ≡ 0) × StandOn n ns
 
@@ -16,11 +16,12 @@ not-eq a b e = grind (arith, nat_tests)
 
 module _ (flow : ℕ) where
   -- m is the last of the flow, and y the last of all before the rest
-  abbrev IsLast : Numbered → Numbered → List Numbered → Type 0
+  abbrev IsLast : NumberedNote → NumberedNote → List NumberedNote → Type 0
   IsLast m y rest = (y ≡ m) ⊎ ((y.note.flow ≢ flow) × AreOfOthers m.note.frame rest)
 
-  next-follows : (m y n : Numbered) (ns : List Numbered) → IsLast m y (n ∷ ns) → Follows y.note n.note → n.note.flow ≡ flow → Follows m.note n.note
-  next-follows m y n ns (inl is) follows own = subst (λ (z : Numbered). Follows z.note n.note) is follows
+  next-follows : (m y n : NumberedNote) (ns : List NumberedNote) → IsLast m y (n ∷ ns) → FollowsNote y.note n.note → n.note.flow ≡ flow
+      → FollowsNote m.note n.note
+  next-follows m y n ns (inl is) follows own = subst (λ (z : NumberedNote). FollowsNote z.note n.note) is follows
   next-follows m y n ns (inr (other, apart)) follows own = record {
     same = λ e. absurd (apart.0 e);
     next = λ ne. ⊎_elim
@@ -29,19 +30,20 @@ module _ (flow : ℕ) where
         (cases_eq n.note.frame y.note.frame);
   }
 
-  passed-by : (m y n : Numbered) (ns : List Numbered) → m.note.flow ≡ flow → IsLast m y (n ∷ ns) → Follows y.note n.note
+  passed-by : (m y n : NumberedNote) (ns : List NumberedNote) → m.note.flow ≡ flow → IsLast m y (n ∷ ns) → FollowsNote y.note n.note
       → (n.note.frame ≢ y.note.frame → AreOfOthers y.note.frame ns) → n.note.flow ≢ flow → IsLast m n ns
   passed-by m y n ns own (inl is) follows apart other = ⊎_elim
-      (λ (goes : n.note.frame ≡ y.note.frame). absurd (other ((follows.same goes).flow ∙ subst (λ (z : Numbered). z.note.flow ≡ flow) (sym is) own)))
-      (λ begins. inr (other, subst (λ (z : Numbered). AreOfOthers z.note.frame ns) is (apart begins)))
+      (λ (goes : n.note.frame ≡ y.note.frame). absurd (other ((follows.same goes).flow ∙ subst (λ (z : NumberedNote). z.note.flow ≡ flow) (sym is) own)))
+      (λ begins. inr (other, subst (λ (z : NumberedNote). AreOfOthers z.note.frame ns) is (apart begins)))
       (cases_eq n.note.frame y.note.frame)
   passed-by m y n ns own (inr (away, behind)) follows apart other = inr (other, behind.1)
 
-  first-fits : (n : Numbered) (ns : List Numbered) → AllStand n ns → LiesInFrame n
+  first-fits : (n : NumberedNote) (ns : List NumberedNote) → AllStand n ns → LiesInFrame n
   first-fits n [] all = all
   first-fits n (k ∷ ks) all = all.0
 
-  own-stand : (m y : Numbered) (ns : List Numbered) → m.note.flow ≡ flow → LiesInFrame m → IsLast m y ns → AllStand y ns → StandOn m (of_flow flow ns)
+  own-stand : (m y : NumberedNote) (ns : List NumberedNote) → m.note.flow ≡ flow → LiesInFrame m → IsLast m y ns → AllStand y ns
+      → StandOn m (notes_of_flow flow ns)
   own-stand m y [] own fits last all = fits
   own-stand m y (n ∷ ns) own fits last all = ⊎_elim
       (λ (yes : (n.note.flow == flow) ≡ true).
@@ -52,7 +54,7 @@ module _ (flow : ℕ) where
       (cases_Bool (n.note.flow == flow))
 
   -- before the first of the flow
-  first-own : (y : Numbered) (ns : List Numbered) → y.note.flow ≢ flow → AllStand y ns → StandWhole (of_flow flow ns)
+  first-own : (y : NumberedNote) (ns : List NumberedNote) → y.note.flow ≢ flow → AllStand y ns → StandWhole (notes_of_flow flow ns)
   first-own y [] other all = tt
   first-own y (n ∷ ns) other all = ⊎_elim
       (λ (yes : (n.note.flow == flow) ≡ true).
@@ -65,17 +67,17 @@ module _ (flow : ℕ) where
       (λ (no : (n.note.flow == flow) ≡ false). rw no (first-own n ns (not-eq n.note.flow flow no) all.3))
       (cases_Bool (n.note.flow == flow))
 
-  pub whole-own : (n : Numbered) (ns : List Numbered) → n.note.at ≡ 0 → AllStand n ns → StandWhole (of_flow flow (n ∷ ns))
+  pub whole-own : (n : NumberedNote) (ns : List NumberedNote) → n.note.at ≡ 0 → AllStand n ns → StandWhole (notes_of_flow flow (n ∷ ns))
   whole-own n ns starts all = ⊎_elim
       (λ (yes : (n.note.flow == flow) ≡ true). rw yes (starts, own-stand n n ns (eqb-true n.note.flow flow yes) (first-fits n ns all) (inl refl) all))
       (λ (no : (n.note.flow == flow) ≡ false). rw no (first-own n ns (not-eq n.note.flow flow no) all))
       (cases_Bool (n.note.flow == flow))
 
-as-frames : (base : ℕ) (ns : List Numbered) → BeginAt base ns → StandWhole ns
-    → AreSame (received_notes base nothing_placed ns) (received_frames (base_of ns) nothing_placed (frames_of ns))
+as-frames : (base : ℕ) (ns : List NumberedNote) → BeginAt base ns → StandWhole ns
+    → AreSame (received_notes base nothing_placed ns) (received_frames (base_of ns) nothing_placed (frames_of_notes ns))
 as-frames base [] begun whole = absurd begun
 as-frames base (n ∷ ns) begun whole =
-    subst (λ b. AreSame (received_notes base nothing_placed (n ∷ ns)) (received_frames b nothing_placed (frames_of (n ∷ ns)))) (sym begun)
+    subst (λ b. AreSame (received_notes base nothing_placed (n ∷ ns)) (received_frames b nothing_placed (frames_of_notes (n ∷ ns)))) (sym begun)
     (notes-are-frames base n ns whole.1 whole.0)
 
 -- what a queue holds is what stands at the marks of the frames

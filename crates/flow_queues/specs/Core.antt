@@ -2,14 +2,14 @@
 use Rattle.std.specs.Prelude.{◌≡◌, ℕ, ◌+◌, ◌-◌, ◌≤◌, nat_lt, nat_le, ◌==◌, ◌&&◌, ◌||◌, ◌⊎◌, ◌<◌, Bool, false, if◌then◌else◌}
 use Rattle.std.specs.Prelude.{List, [], ◌∷◌, ◌++◌, length, take, drop, slice_get, Option, Some, None, MatchBool, true}
 use Rattle.zr_kinds.specs.{Limits.{longest_payload}, declared.{place.Place.{Place}, ring.Completion.{Completion}}}
-use Rattle.zr_kinds.specs.CopyingReceiver.{Placed, nothing_placed, next_missing, lead, accepts, filled, value_at, values_from}
-use Rattle.area_layout.specs.Layout.{Shape, size_of, total as buffers_of}
+use Rattle.zr_kinds.specs.CopyingReceiver.{Placed, nothing_placed, next_missing, lead, accepts, filled_by_values, value_at, values_from}
+use Rattle.area_layout.specs.Layout.{Shape, size_of, all_buffers as buffers_of}
 use Rattle.tcp_reorder.specs.{Queue.{Queue}, Values.{Holds}}
 pub use Rattle.board_face.specs.Lists.{total}
 use Rattle.board_face.specs.declared.views.app.{Origin.{Origin, TheVariants.{Note as of_note, Copied as of_copy}}, HeldPiece.{HeldPiece}, LentPiece.{LentPiece}}
 use Rattle.board_face.specs.{AppCalls.{IsHere}, declared.views.app.{Reading.{Reading}, TakenNote.{TakenNote}, AppView.{AppView}}}
 use Rattle.flow_queues.specs.declared.queues.{NotePiece.{NotePiece}, Short.{Short}, Waiting.{Waiting, TheVariants.{InArea, Copied}}, Lending.{Lending}}
-use Rattle.flow_queues.specs.{declared.queues.FlowQueue.{FlowQueue}, Marks.{Mark, marks_from, Numbered, numbered, of_flow, marks_of_note}}
+use Rattle.flow_queues.specs.{declared.queues.FlowQueue.{FlowQueue}, Marks.{Mark, marks_from, NumberedNote, numbered_notes, notes_of_flow, marks_of_note}}
 
 -- ---- of lists, by recursion, so that it computes
 
@@ -133,24 +133,24 @@ IsOfNote taken (Copied s) = IsShort taken s
 
 -- ---- what a flow received, each piece judged for itself
 
-abbrev pub received_note : ℕ → Placed Mark → Numbered → Placed Mark
+abbrev pub received_note : ℕ → Placed Mark → NumberedNote → Placed Mark
 received_note base placed n =
     if accepts base (next_missing placed) n.note.seq n.note.total
-    then filled placed (next_missing placed + lead base (next_missing placed) n.note.seq + n.note.at) (marks_of_note n)
+    then filled_by_values placed (next_missing placed + lead base (next_missing placed) n.note.seq + n.note.at) (marks_of_note n)
     else placed
 
-abbrev pub received_notes : ℕ → Placed Mark → List Numbered → Placed Mark
+abbrev pub received_notes : ℕ → Placed Mark → List NumberedNote → Placed Mark
 received_notes base placed [] = placed
 received_notes base placed (n ∷ ns) = received_notes base (received_note base placed n) ns
 
 -- the notes of a flow among those that were taken
-abbrev pub own_notes : ℕ → List TakenNote → List Numbered
-own_notes flow taken = of_flow flow (numbered 0 taken)
+abbrev pub own_notes : ℕ → List TakenNote → List NumberedNote
+own_notes flow taken = notes_of_flow flow (numbered_notes 0 taken)
 
 -- ---- between two turns
 
 -- the first of these has this base
-abbrev pub BeginAt : ℕ → List Numbered → Type 0
+abbrev pub BeginAt : ℕ → List NumberedNote → Type 0
 BeginAt base [] = ⊥
 BeginAt base (n ∷ ns) = n.note.base ≡ base
 

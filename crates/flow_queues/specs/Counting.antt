@@ -2,7 +2,7 @@
 use Rattle.std.specs.Prelude.{◌≡◌, ◌≢◌, ℕ, ◌+◌, ◌≤◌, ◌==◌, Bool, if◌then◌else◌, List, [], length, filter, nat_lt, Option, None}
 use Rattle.zr_kinds.specs.declared.{place.Place.{Place}, behaviour.Stopped.{Stopped}}
 use Rattle.zr_kinds.specs.declared.behaviour.Stopped.TheVariants as stop
-use Rattle.flow_queues.specs.{Core.{total}, Totals.{capped}, Ends.{bytes_in, times}}
+use Rattle.flow_queues.specs.{Core.{total}, Totals.{capped}, Ends.{bytes_written_of, times_written}}
 
 -- what was written of an application's loans, and what stopped that
 pub record TallyState : Type 0 where
@@ -45,7 +45,7 @@ with_bytes counts = filter (λ f. nat_lt 0 f.1) counts
 -- so many bytes of a flow are counted more, and of no other flow
 pub record AddsTo (flow bytes : ℕ) (was now : List (ℕ × ℕ)) : Type 0 where
   pub sum : total (λ f. f.1) now ≡ total (λ f. f.1) was + bytes
-  pub counts : (n : ℕ) → bytes_in n now ≡ bytes_in n was + (if n == flow then bytes else 0)
+  pub counts : (n : ℕ) → bytes_written_of n now ≡ bytes_written_of n was + (if n == flow then bytes else 0)
   -- each flow stands there once at most, and no other comes or goes
-  pub others : (n : ℕ) → n ≢ flow → times n now ≡ times n was
-  pub once : times flow was ≤ 1 → times flow now ≤ 1
+  pub others : (n : ℕ) → n ≢ flow → times_written n now ≡ times_written n was
+  pub once : times_written flow was ≤ 1 → times_written flow now ≤ 1

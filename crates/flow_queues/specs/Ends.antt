@@ -18,13 +18,13 @@ pub record AppEnd : Type 0 where
   pub flows : List (ℕ × ℕ)
 
 -- how many bytes of the flow with this number were written
-abbrev pub bytes_in : ℕ → List (ℕ × ℕ) → ℕ
-bytes_in number [] = 0
-bytes_in number (f ∷ fs) = if f.0 == number then f.1 else bytes_in number fs
+abbrev pub bytes_written_of : ℕ → List (ℕ × ℕ) → ℕ
+bytes_written_of number [] = 0
+bytes_written_of number (f ∷ fs) = if f.0 == number then f.1 else bytes_written_of number fs
 
 -- how often a number stands there
-abbrev pub times : ℕ → List (ℕ × ℕ) → ℕ
-times number flows = total (λ f. if f.0 == number then 1 else 0) flows
+abbrev pub times_written : ℕ → List (ℕ × ℕ) → ℕ
+times_written number flows = total (λ f. if f.0 == number then 1 else 0) flows
 
 -- All of what the shelf gained for a flow is counted but where it failed: then there may be some bytes more.
 pub record IsCounted (stopped : Stopped) (count : ℕ) (bytes : List ℕ) : Type 0 where
@@ -41,7 +41,7 @@ pub record IsTorn (v : AppView) (torn number count : ℕ) (bytes : List ℕ) : T
 -- its shelf failed at one of its flows, and at no other
 pub record IsTornAtOne (first kept : ℕ → Option (List ℕ)) (v : AppView) (flows : List (ℕ × ℕ)) : Type 0 where
   pub torn : ℕ
-  pub each : (number : ℕ) → Gained (first number) (kept number) (IsTorn v torn number (bytes_in number flows))
+  pub each : (number : ℕ) → Gained (first number) (kept number) (IsTorn v torn number (bytes_written_of number flows))
 
 -- An application that behaves so has left with this. Its shelf had `first` before and has `kept` now, and its counts were `losses`
 -- and are `losses_now`.
@@ -61,11 +61,11 @@ pub record HasLeft (how : Behaviour) (first kept : ℕ → Option (List ℕ)) (l
   -- each loan was of a byte that was taken, and each flow has a note, and stands there once
   pub bound : length v.returned ≤ total taken_len v.taken
   pub noted : Each (λ f. own_notes f.0 v.taken ≢ []) end.flows
-  pub once : (number : ℕ) → times number end.flows ≤ 1
+  pub once : (number : ℕ) → times_written number end.flows ≤ 1
   -- what its shelf gained: a front of each flow's bytes, and all of them where nothing stopped it
   pub fronts : FramesStandTogether v.taken → HasFronts first kept v
   pub whole : end.stopped ≡ stop.No → FramesStandTogether v.taken → HasAll first kept v
-  pub counted : (number : ℕ) → Gained (first number) (kept number) (IsCounted end.stopped (bytes_in number end.flows))
+  pub counted : (number : ℕ) → Gained (first number) (kept number) (IsCounted end.stopped (bytes_written_of number end.flows))
   pub torn : end.stopped ≡ stop.Write → FramesStandTogether v.taken → IsTornAtOne first kept v end.flows
   -- what was written is what the appends took that went well, and nothing else
   pub appended : losses_now.appended ≡ raised_by losses.appended end.written

@@ -11,8 +11,8 @@ loans_of [] = []
 loans_of (w ∷ ws) = (if w.of_loan then w.entry ∷ [] else []) ++ loans_of ws
 
 -- they are those of these loans, one of each, in order
-abbrev pub Gives : AppView → List LentPiece → Type 0
-Gives v loans = loans_of v.written ≡ map (λ l. entry_of v.setting.layout l.place) loans
+abbrev pub GivesAll : AppView → List LentPiece → Type 0
+GivesAll v loans = loans_of v.written ≡ map (λ l. entry_of v.setting.layout l.place) loans
 
 -- 1 where the loan lies in this buffer
 abbrev pub lies_in : ℕ → LentPiece → ℕ

@@ -15,12 +15,12 @@ RestBut zero (f ∷ fs) = Each IsAtRest fs
 RestBut (suc before) (f ∷ fs) = IsAtRest f × RestBut before fs
 
 -- what an index has of a number
-abbrev pub place_in : List (ℕ × ℕ) → ℕ → Option ℕ
-place_in index number = lookup (λ k. is_eq (nat_cmp number k)) index
+abbrev pub place_in_index : List (ℕ × ℕ) → ℕ → Option ℕ
+place_in_index index number = lookup (λ k. is_eq (nat_cmp number k)) index
 
 -- the index tells the place of each flow
 abbrev pub IsIndex : List (ℕ × ℕ) → List FlowQueue → Type 0
-IsIndex index flows = (number : ℕ) → MatchOption (place_in index number) (many number flows ≡ 0)
+IsIndex index flows = (number : ℕ) → MatchOption (place_in_index index number) (many number flows ≡ 0)
     (λ i. (i < length flows) × ((d : FlowQueue) → (slice_index_or flows i d).number ≡ number))
 
 -- ---- the queue of a note's flow

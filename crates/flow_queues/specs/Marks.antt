@@ -3,7 +3,7 @@
 -- piece.
 use Rattle.std.specs.Prelude.{◌≡◌, ◌≢◌, ℕ, zero, suc, ◌+◌, ◌≤◌, ◌==◌, if◌then◌else◌, List, [], ◌∷◌, ◌++◌, filter}
 use Rattle.zr_kinds.specs.{Limits.{longest_payload}, declared.place.Note.{Note}}
-use Rattle.zr_kinds.specs.CopyingReceiver.{Placed, nothing_placed, next_missing, lead, accepts, filled, front_of}
+use Rattle.zr_kinds.specs.CopyingReceiver.{Placed, nothing_placed, next_missing, lead, accepts, filled_by_values, front_of}
 use Rattle.board_face.specs.declared.views.app.TakenNote.{TakenNote}
 
 pub record Mark : Type 0 where
@@ -16,19 +16,19 @@ marks_from note place zero = []
 marks_from note place (suc more) = record { note = note; place = place } ∷ marks_from note (suc place) more
 
 -- a note and which it is
-pub record Numbered : Type 0 where
+pub record NumberedNote : Type 0 where
   pub number : ℕ
   pub note : Note
 
-abbrev pub numbered : ℕ → List TakenNote → List Numbered
-numbered number [] = []
-numbered number (t ∷ taken) = record { number = number; note = t.note } ∷ numbered (suc number) taken
+abbrev pub numbered_notes : ℕ → List TakenNote → List NumberedNote
+numbered_notes number [] = []
+numbered_notes number (t ∷ taken) = record { number = number; note = t.note } ∷ numbered_notes (suc number) taken
 
 -- the notes of a flow
-abbrev pub of_flow : ℕ → List Numbered → List Numbered
-of_flow flow notes = filter (λ n. n.note.flow == flow) notes
+abbrev pub notes_of_flow : ℕ → List NumberedNote → List NumberedNote
+notes_of_flow flow notes = filter (λ n. n.note.flow == flow) notes
 
-abbrev pub marks_of_note : Numbered → List Mark
+abbrev pub marks_of_note : NumberedNote → List Mark
 marks_of_note n = marks_from n.number 0 n.note.place.len
 
 -- What was taken of a frame: its sequence number and length, and the marks of its pieces, in order.
@@ -38,35 +38,37 @@ pub record Frame : Type 0 where
   pub total : ℕ
   pub marks : List Mark
 
-abbrev pub frame_from : Numbered → Frame
+abbrev pub frame_from : NumberedNote → Frame
 frame_from n = record { number = n.note.frame; seq = n.note.seq; total = n.note.total; marks = marks_of_note n }
 
 -- the frames, once this note comes before them: it belongs to the first, or begins one
-abbrev pub with_note : Numbered → List Frame → List Frame
-with_note n [] = frame_from n ∷ []
-with_note n (f ∷ fs) = if f.number == n.note.frame then record f { marks = marks_of_note n ++ f.marks } ∷ fs else frame_from n ∷ f ∷ fs
+abbrev pub frames_with_note : NumberedNote → List Frame → List Frame
+frames_with_note n [] = frame_from n ∷ []
+frames_with_note n (f ∷ fs) = if f.number == n.note.frame then record f { marks = marks_of_note n ++ f.marks } ∷ fs else frame_from n ∷ f ∷ fs
 
 -- the frames of these notes: pieces of a frame stand together
-abbrev pub frames_of : List Numbered → List Frame
-frames_of [] = []
-frames_of (n ∷ ns) = with_note n (frames_of ns)
+abbrev pub frames_of_notes : List NumberedNote → List Frame
+frames_of_notes [] = []
+frames_of_notes (n ∷ ns) = frames_with_note n (frames_of_notes ns)
 
 -- A frame was received, of which some pieces were taken: it is judged as a whole, and what is there enters.
 abbrev pub received_frame : ℕ → Placed Mark → Frame → Placed Mark
 received_frame base placed f =
-    if accepts base (next_missing placed) f.seq f.total then filled placed (next_missing placed + lead base (next_missing placed) f.seq) f.marks else placed
+    if accepts base (next_missing placed) f.seq f.total then filled_by_values placed (next_missing placed + lead base (next_missing placed) f.seq) f.marks
+    else placed
 
 abbrev pub received_frames : ℕ → Placed Mark → List Frame → Placed Mark
 received_frames base placed [] = placed
 received_frames base placed (f ∷ fs) = received_frames base (received_frame base placed f) fs
 
-abbrev pub base_of : List Numbered → ℕ
+abbrev pub base_of : List NumberedNote → ℕ
 base_of [] = 0
 base_of (n ∷ ns) = n.note.base
 
 -- what stands at each position of a flow, of the notes that were taken
 abbrev pub placed_marks : ℕ → List TakenNote → Placed Mark
-placed_marks flow taken = received_frames (base_of (of_flow flow (numbered 0 taken))) nothing_placed (frames_of (of_flow flow (numbered 0 taken)))
+placed_marks flow taken = received_frames (base_of (notes_of_flow flow (numbered_notes 0 taken))) nothing_placed
+    (frames_of_notes (notes_of_flow flow (numbered_notes 0 taken)))
 
 -- the marks of a flow: positions 0 to n - 1
 abbrev pub marks_of : ℕ → List TakenNote → List Mark
@@ -87,30 +89,30 @@ abbrev pub Begins : Note → Type 0
 Begins note = note.at ≡ 0
 
 -- the second goes on with the frame of the first, or begins one
-pub record Follows (first second : Note) : Type 0 where
+pub record FollowsNote (first second : Note) : Type 0 where
   pub same : second.frame ≡ first.frame → GoesOn first second
   pub next : second.frame ≢ first.frame → Begins second
 
 -- none of these is a piece of this frame
-abbrev pub AreOfOthers : ℕ → List Numbered → Type 0
+abbrev pub AreOfOthers : ℕ → List NumberedNote → Type 0
 AreOfOthers frame [] = Unit {0}
 AreOfOthers frame (n ∷ ns) = (n.note.frame ≢ frame) × AreOfOthers frame ns
 
 -- the piece lies in its frame, which is no longer than a frame may be
-pub record LiesInFrame (n : Numbered) : Type 0 where
+pub record LiesInFrame (n : NumberedNote) : Type 0 where
   pub within : n.note.at + n.note.place.len ≤ n.note.total
   pub bounded : n.note.total ≤ longest_payload
 
 -- All of these follow each other, from the one before them on. Once another frame begins, no piece of the one before comes.
-abbrev pub AllStand : Numbered → List Numbered → Type 0
+abbrev pub AllStand : NumberedNote → List NumberedNote → Type 0
 AllStand y [] = LiesInFrame y
-AllStand y (n ∷ ns) = LiesInFrame y × Follows y.note n.note × (n.note.frame ≢ y.note.frame → AreOfOthers y.note.frame ns) × AllStand n ns
+AllStand y (n ∷ ns) = LiesInFrame y × FollowsNote y.note n.note × (n.note.frame ≢ y.note.frame → AreOfOthers y.note.frame ns) × AllStand n ns
 
 -- The pieces of each frame stand together, in order, from its first on. A frame may lack its last pieces, and frames come in any order.
-abbrev pub StandTogether : List Numbered → Type 0
+abbrev pub StandTogether : List NumberedNote → Type 0
 StandTogether [] = Unit {0}
 StandTogether (n ∷ ns) = (n.note.at ≡ 0) × AllStand n ns
 
 -- as notes that are taken
 abbrev pub FramesStandTogether : List TakenNote → Type 0
-FramesStandTogether taken = StandTogether (numbered 0 taken)
+FramesStandTogether taken = StandTogether (numbered_notes 0 taken)

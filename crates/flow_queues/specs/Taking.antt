@@ -3,12 +3,12 @@ use Rattle.std.specs.Prelude.{◌≡◌, ℕ, ◌+◌, ◌<◌, ◌≤◌, ◌�
 use Rattle.zr_kinds.specs.{declared.place.{Note.{Note}, Place.{Place}}, CopyingReceiver.{Placed}}
 use Rattle.tcp_reorder.specs.{Queue.{Queue}, Values.{Holds}}
 use Rattle.board_face.specs.{AppEvents.{released}, declared.views.app.{HeldPiece.{HeldPiece}, TakenNote.{TakenNote}, AppView.{AppView}}}
-use Rattle.flow_queues.specs.{declared.queues.{NotePiece.{NotePiece}, Waiting.{Waiting}, FlowQueue.{FlowQueue}}, Marks.{Mark, Numbered}}
+use Rattle.flow_queues.specs.{declared.queues.{NotePiece.{NotePiece}, Waiting.{Waiting}, FlowQueue.{FlowQueue}}, Marks.{Mark, NumberedNote}}
 use Rattle.flow_queues.specs.Core.{total, held_piece, over_kept, held_len, short_bytes, marks_of_waiting, received_note, IsOfNote, Each}
 use Rattle.flow_queues.specs.{Pieces.{OnlyHelds, whole_piece}, Flows.{IsIndex, IsChosen}}
 
 -- The queue of the note's flow, made where there was none, stands at this place and keeps something else now. No other changed.
-pub record Changes (was now : List FlowQueue) (index : List (ℕ × ℕ)) (note : Note) (i : ℕ) : Type 0 where
+pub record ChangesQueue (was now : List FlowQueue) (index : List (ℕ × ℕ)) (note : Note) (i : ℕ) : Type 0 where
   pub flows : List FlowQueue
   pub chosen : IsChosen was flows note i
   pub within : i < length flows
@@ -21,7 +21,7 @@ pub record Changes (was now : List FlowQueue) (index : List (ℕ × ℕ)) (note 
   pub popped : queue.popped ≡ own.queue.popped
 
 -- The queue holds what the copying receiver has once the note came, and what it keeps is of notes, where this one is such a note.
-pub record Receives (was now : Queue Waiting) (n : Numbered) (IsSuch : TakenNote → Type 0) : Type 0 where
+pub record Receives (was now : Queue Waiting) (n : NumberedNote) (IsSuch : TakenNote → Type 0) : Type 0 where
   pub enters : (placed : Placed Mark) → Holds marks_of_waiting was placed → Holds marks_of_waiting now (received_note was.base placed n)
   pub notes : (taken : List TakenNote) (t : TakenNote) → slice_get taken n.number ≡ Some t → IsSuch t
       → Each (λ k. IsOfNote taken k.piece) was.kept → Each (λ k. IsOfNote taken k.piece) now.kept
@@ -35,14 +35,14 @@ pub record EntersPiece (old new : AppView) (was now : Queue Waiting) (piece : No
   pub short : short_bytes now ≡ short_bytes was
 
 pub record TakesPiece (old new : AppView) (was now : List FlowQueue) (index : List (ℕ × ℕ)) (note : Note) (number : ℕ) (held : Place) (i : ℕ) : Type 0 where
-  pub change : Changes was now index note i
+  pub change : ChangesQueue was now index note i
   pub some : EntersPiece old new change.own.queue change.queue (whole_piece number held)
   pub all : Receives change.own.queue change.queue (record { number = number; note = note }) (λ t. t.note.split ≡ true)
 
 -- a part of it entered at most
 pub record LosesSome (old new : AppView) (was now : List FlowQueue) (index : List (ℕ × ℕ)) (note : Note) (number : ℕ) (held : Place) : Type 0 where
   pub place : ℕ
-  pub change : Changes was now index note place
+  pub change : ChangesQueue was now index note place
   pub some : EntersPiece old new change.own.queue change.queue (whole_piece number held)
 
 abbrev pub LosesPiece : AppView → AppView → List FlowQueue → List FlowQueue → List (ℕ × ℕ) → List (ℕ × ℕ) → Note → ℕ → Place → Type 0
@@ -57,13 +57,13 @@ pub record EntersPayload (was now : Queue Waiting) (note : Note) : Type 0 where
   pub short : short_bytes now ≤ short_bytes was + note.total
 
 pub record TakesPayload (was now : List FlowQueue) (index : List (ℕ × ℕ)) (note : Note) (number : ℕ) (payload : List ℕ) (i : ℕ) : Type 0 where
-  pub change : Changes was now index note i
+  pub change : ChangesQueue was now index note i
   pub some : EntersPayload change.own.queue change.queue note
   pub all : Receives change.own.queue change.queue (record { number = number; note = note }) (λ t. (t.note.split ≡ false) × (t.bytes ≡ payload))
 
 pub record LosesSomePayload (was now : List FlowQueue) (index : List (ℕ × ℕ)) (note : Note) : Type 0 where
   pub place : ℕ
-  pub change : Changes was now index note place
+  pub change : ChangesQueue was now index note place
   pub some : EntersPayload change.own.queue change.queue note
 
 abbrev pub LosesPayload : List FlowQueue → List FlowQueue → List (ℕ × ℕ) → List (ℕ × ℕ) → Note → Type 0

@@ -2,8 +2,8 @@
 use Rattle.std.specs.Prelude.{vec_capacity}
 use Rattle.flow_queues.specs.{declared.tally.LoanTally.{LoanTally}, Counting.{TallyState}}
 
-abbrev pub tally_of : LoanTally → TallyState
-tally_of w = record {
+abbrev pub tally_state_of : LoanTally → TallyState
+tally_state_of w = record {
   due = w.due;
   written = w.written;
   loans = w.loans;

@@ -28,8 +28,8 @@ loan_entries v = total (λ w. if w.of_loan then 1 else 0) v.written
 abbrev pub bytes_if : ℕ → FlowQueue → ℕ
 bytes_if number f = if f.number == number then f.bytes else 0
 
-abbrev pub bytes_of : ℕ → List FlowQueue → ℕ
-bytes_of number flows = total (bytes_if number) flows
+abbrev pub queue_bytes_of : ℕ → List FlowQueue → ℕ
+queue_bytes_of number flows = total (bytes_if number) flows
 
 -- It quits exactly where it has written so many bytes, and writes no more.
 abbrev pub Quits : Option ℕ → ℕ → Stopped → Type 0

@@ -1,6 +1,6 @@
 //! What is next in a stream is lent: a piece that lies in the area, or a copy of bytes that came with their note.
 ghost use Rattle.std.specs.Prelude.{◌≡◌, true, false, ℕ, ◌<◌, ◌≤◌, [], None, MatchOption};
-ghost use Rattle.area_layout.specs.Layout.{IsLayout, total as buffers_of};
+ghost use Rattle.area_layout.specs.Layout.{IsLayout, all_buffers as buffers_of};
 ghost use Rattle.board_face.specs.{AppEvents.{app_gist, reserve_of}, declared.views.app.{AppLook.TheVariants.{NoSpare}, HeldPiece.{HeldPiece}}};
 ghost use Rattle.flow_queues.specs.Core.{HoldsApart, total, over_kept, IsOfNote, Each, lent_piece, is_copy};
 ghost use Rattle.flow_queues.specs.{Active.{LendsActive}, Kept.{QueuesWork}, KeptOf.{queue_state}};

@@ -1,6 +1,6 @@
 //! Flows are found by their numbers.
 ghost use Rattle.std.specs.Prelude.{◌≡◌, ◌-◌, ◌<◌, Option, length, MatchResult, OnOk};
-ghost use Rattle.flow_queues.specs.Flows.{IsIndex, place_in, IsChosen};
+ghost use Rattle.flow_queues.specs.Flows.{IsIndex, place_in_index, IsChosen};
 
 use crate::queues::{FlowQueue, Wanting};
 use std::alloc::Global;
@@ -10,7 +10,7 @@ use zr_kinds::Note;
 
 /// The place of the flow with this number.
 pub fn find(index: &BTreeMap<u64, usize>, number: u64) -> Option<usize>
-    ensures { result ≡ place_in index.now.entries number }
+    ensures { result ≡ place_in_index index.now.entries number }
 {
     index.get(&number).copied()
 }

@@ -1,6 +1,7 @@
 //! The loans of an application are counted while they are written, and the bytes of each flow.
 ghost use Rattle.std.specs.{Prelude.{◌≡◌, ◌+◌, ◌-◌, ◌^◌, ◌<◌, min, length, vec_capacity, IsSome, MatchResult}, Ordering.{nat_cmp}, BTreeMap.{get}, Map.{keys_of}, List.Sorted.{IsStrictlySortedBy}};
-ghost use Rattle.flow_queues.specs.{Core.{Each}, Ends.{bytes_in}, Counting.{AddsTo, HasRoomForFlows, item_counted, new_tally, quit_by, with_bytes}, TallyOf.{tally_of}};
+ghost use Rattle.flow_queues.specs.{Core.{Each}, Ends.{bytes_written_of}, Counting.{AddsTo, HasRoomForFlows, item_counted, new_tally, quit_by, with_bytes}};
+ghost use Rattle.flow_queues.specs.TallyOf.{tally_state_of};
 
 use board_face::Loan;
 use std::alloc::{AllocError, Global};
@@ -27,7 +28,7 @@ pub struct LoanTally {
 impl LoanTally {
     /// Nothing was written yet. Takes no memory.
     pub fn new(alloc: Global) -> LoanTally
-        ensures { tally_of result ≡ new_tally (vec_capacity result.flows) }
+        ensures { tally_state_of result ≡ new_tally (vec_capacity result.flows) }
     {
         LoanTally {
             due: None,
@@ -42,13 +43,13 @@ impl LoanTally {
 
     /// Asks for what the count of a flow takes, where there is none yet.
     pub fn make_room(&mut self, flow: u32) -> Result<(), AllocError>
-        requires room { HasRoomForFlows (tally_of self.old) }
+        requires room { HasRoomForFlows (tally_state_of self.old) }
         ensures same { self.new
             ≡ record self.old { counts = self.new.counts; flows = self.new.flows } }
         ensures none { AddsTo flow 0 self.old.counts.entries self.new.counts.entries }
         ensures there { MatchResult result (λ _. IsSome (get nat_cmp self.new.counts flow))
             (λ _. self.new.counts.entries ≡ self.old.counts.entries) }
-        ensures room { HasRoomForFlows (tally_of self.new) }
+        ensures room { HasRoomForFlows (tally_state_of self.new) }
     {
         if self.counts.contains_key(&flow) {
             return Ok(());
@@ -67,7 +68,7 @@ impl LoanTally {
           counts = self.new.counts;
           written = min (self.old.written + bytes) (2 ^ 64 - 1);
         } }
-        ensures adds { bytes_in flow self.old.counts.entries + bytes < 2 ^ 64
+        ensures adds { bytes_written_of flow self.old.counts.entries + bytes < 2 ^ 64
             → AddsTo flow bytes self.old.counts.entries self.new.counts.entries }
         ensures many { length self.new.counts.entries ≡ length self.old.counts.entries }
     {
@@ -79,7 +80,7 @@ impl LoanTally {
 
     /// Counts an item among the loans.
     pub fn count_item(&mut self, copied: bool)
-        ensures tally { tally_of self.new ≡ item_counted (tally_of self.old) copied }
+        ensures tally { tally_state_of self.new ≡ item_counted (tally_state_of self.old) copied }
         ensures same { self.new
             ≡ record self.old { loans = self.new.loans; copied = self.new.copied } }
     {
@@ -100,7 +101,7 @@ impl LoanTally {
 
     /// How many bytes of each flow that was written, by ascending flow. Takes no memory: the room for them goes with them.
     pub fn written_flows(&mut self, alloc: Global) -> Vec<(u32, u64)>
-        requires room { HasRoomForFlows (tally_of self.old) }
+        requires room { HasRoomForFlows (tally_state_of self.old) }
         ensures flows { result.items ≡ with_bytes self.old.counts.entries }
         ensures some { Each (λ f. 0 < f.1) result.items }
         ensures ascending { IsStrictlySortedBy nat_cmp (keys_of result.items) }

@@ -1,5 +1,5 @@
 ghost use Rattle.std.{specs.{Prelude.{[], ◌∷◌}, Cmp.Rules.{hashing}}, proofs.Common.{rules}};
-ghost use Rattle.frame_headers.specs.AddrBytes.{bytes_of};
+ghost use Rattle.frame_headers.specs.AddrBytes.{bytes_of_address};
 
 use std::hash::{Hash, Hasher};
 
@@ -14,7 +14,7 @@ pub enum Addr {
 
 /// The bytes of the address in one write, which costs much less than a write for each.
 impl Hash for Addr {
-    ghost hash_input = { λ a. bytes_of a ∷ [] };
+    ghost hash_input = { λ a. bytes_of_address a ∷ [] };
 
     ghost respects_eq = { Prim.search (hashing, rules) };
 

@@ -10,8 +10,8 @@ use Rattle.pcap_reader.proofs.Joined.{fronts-then, fronts-weaker, Took-both}
 use Rattle.pcapng_reader.{specs.{Records.{Going, records_from, records_of}, Capture.{IsOpeningFault, IsRecordFault, WantsMemory}}, proofs.Goings.{wanting-cut}}
 use Rattle.flow_table.specs.{Steered.{SteeredTcp}, Flows.{Flow, flows_of, number_of_flow}}
 use Rattle.frames_read.specs.Ending.{Ending, ended_after, steered_in, steered_next, flow_ending, ending_at, frames_of, ended_of}
-use Rattle.frames_read.specs.Reading.{Holds, GoesThrough, HasRead, HasEnded, ShowsEnding, TakenEnds, LacksMemory, EndsAt, IsEnding, IsReadToEnd}
-use Rattle.frames_read.specs.Reading.{RunsOut, RunsOutBefore, IsShown}
+use Rattle.frames_read.specs.Reading.{HoldsRecords, GoesThrough, HasRead, HasEnded, ShowsEnding, TakenEnds, LacksMemory, EndsAt, IsEnding, IsReadToEnd}
+use Rattle.frames_read.specs.Reading.{RunsOut, RunsOutBefore, IsShownEnding}
 use Rattle.frames_read.proofs.Reading.{Holds-more, frames-append, ended_after-none, GoesThrough-nothing, GoesThrough-more, ended_of-end, ended_of-fault, ended_of-frame}
 
 -- ---- all bytes of a source that tells them
@@ -126,20 +126,21 @@ runs-out : (ended : Ending) (before : List (List ℕ)) (records : Records) → L
 runs-out ended before records leads broke =
     ⊎_elim (λ none. runs-none ended before (leads None none)) (λ cut. runs-cut ended before (leads (Some Cut) cut)) broke
 
-shown-record : (fault : Fault) → IsRecordFault fault → IsShown (Some fault) → IsOutOfForm fault
-shown-record = record_cases (λ fault. IsShown (Some fault) → IsOutOfForm fault) (λ is. is) (λ is. is) (λ is. is) (λ is. is) (λ is. is) (λ is. is) (λ is. is)
+shown-record : (fault : Fault) → IsRecordFault fault → IsShownEnding (Some fault) → IsOutOfForm fault
+shown-record = record_cases (λ fault. IsShownEnding (Some fault) → IsOutOfForm fault) (λ is. is) (λ is. is) (λ is. is) (λ is. is) (λ is. is) (λ is. is)
+    (λ is. is)
 
 -- behind the records that were read, what was taken now
 least-then : (going : Going) (left0 left later : Option (List ℕ)) (faults0 faults : ℕ) (ports : List ℕ) (records : List Captured)
     → HasRead going left0 left faults0 faults ports records → Took left later (OfFronts (λ front. BrokeOff (records_from going front)))
     → Took left0 later (RunsOutBefore ports)
 least-then going left0 left later faults0 faults ports records read alone =
-    Took-then left0 left later (λ xs. Holds going records xs × RunsOutBefore ports xs) (OfFronts (λ front. BrokeOff (records_from going front)))
+    Took-then left0 left later (λ xs. HoldsRecords going records xs × RunsOutBefore ports xs) (OfFronts (λ front. BrokeOff (records_from going front)))
     (RunsOutBefore ports)
     (λ xs ys before fronts. fronts-then (λ front. RunsOut (ended_of ports front)) xs ys before.1
     (fronts-weaker _ _ ys (λ front broke. runs-out (ended_of ports (xs ++ front)) (frames_of records) (records_from going front)
     (λ end shown. ended_of-fault ports going records read.through xs front end before.0 shown) broke) fronts))
-    (Took-both left0 left (Holds going records) (RunsOutBefore ports) read.taken read.least) alone
+    (Took-both left0 left (HoldsRecords going records) (RunsOutBefore ports) read.taken read.least) alone
 
 -- ---- the turns
 
@@ -154,7 +155,7 @@ module _ {going : Going} {left0 left : Option (List ℕ)} {faults0 faults : ℕ}
       let found : Captured = record { frame = frame; original = original } in
       let frames : frames_of (records ++ found ∷ []) ≡ frames_of records ++ frame ∷ [] = frames-append records (found ∷ []) in
       record {
-        taken = Took-then left0 left later (Holds going records) _ (Holds going_now (records ++ found ∷ []))
+        taken = Took-then left0 left later (HoldsRecords going records) _ (HoldsRecords going_now (records ++ found ∷ []))
             (λ xs ys holds shows. Holds-more going going_now records frame original xs ys holds shows) read.taken took;
         least = least-then going left0 left later faults0 faults ports records read alone;
         still = same ∙ read.still;
@@ -164,7 +165,7 @@ module _ {going : Going} {left0 left : Option (List ℕ)} {faults0 faults : ℕ}
 module _ (Wants : List (List ℕ) → List ℕ → Type 0) {going : Going} {left0 left : Option (List ℕ)} {faults0 faults : ℕ} {ports : List ℕ}
     {records : List Captured}
     (read : HasRead going left0 left faults0 faults ports records) where
-  leads-behind : (xs ys : List ℕ) → Holds going records xs → Leads (ended_of ports (xs ++ ys)) (frames_of records) (records_from going ys)
+  leads-behind : (xs ys : List ℕ) → HoldsRecords going records xs → Leads (ended_of ports (xs ++ ys)) (frames_of records) (records_from going ys)
   leads-behind xs ys holds end shown = ended_of-fault ports going records read.through xs ys end holds shown
 
   -- the bytes ended
@@ -172,15 +173,15 @@ module _ (Wants : List (List ℕ) → List ℕ → Type 0) {going : Going} {left
       → Took left later (λ taken. records_from going taken ≡ no_record None)
       → HasEnded Wants left0 later faults0 now ports (frames_of records) None
   ends-without later now same at_end took =
-      let ends : (xs ys : List ℕ) → Holds going records xs → records_from going ys ≡ no_record None
+      let ends : (xs ys : List ℕ) → HoldsRecords going records xs → records_from going ys ≡ no_record None
       → ended_of ports (xs ++ ys) ≡ record { before = frames_of records; fault = None } =
       λ xs ys holds none. leads-behind xs ys holds None none in
       record {
-        taken = Took-then left0 left later (Holds going records) (λ ys. records_from going ys ≡ no_record None) _ ends read.taken took;
-        shown = all-rest left0 left (Holds going records) (λ rest. records_from going rest ≡ no_record None) _ read.taken
+        taken = Took-then left0 left later (HoldsRecords going records) (λ ys. records_from going ys ≡ no_record None) _ ends read.taken took;
+        shown = all-rest left0 left (HoldsRecords going records) (λ rest. records_from going rest ≡ no_record None) _ read.taken
             (all-taken left later _ took at_end) ends;
         least = λ is. absurd is;
-        at_end = λ _. read_to_end left0 left later (Holds going records) read.taken at_end;
+        at_end = λ _. read_to_end left0 left later (HoldsRecords going records) read.taken at_end;
         kind = tt;
         cause = λ is. absurd (cc);
         still = λ _. same ∙ read.still;
@@ -189,7 +190,7 @@ module _ (Wants : List (List ℕ) → List ℕ → Type 0) {going : Going} {left
   -- what was taken shows the fault
   taken-shown : (later : Option (List ℕ)) (fault : Fault) → Took left later (λ taken. records_from going taken ≡ no_record (Some fault))
       → Took left0 later (λ taken. ended_of ports taken ≡ record { before = frames_of records; fault = Some fault })
-  taken-shown later fault took = Took-then left0 left later (Holds going records) (λ ys. records_from going ys ≡ no_record (Some fault)) _
+  taken-shown later fault took = Took-then left0 left later (HoldsRecords going records) (λ ys. records_from going ys ≡ no_record (Some fault)) _
       (λ xs ys holds shown. leads-behind xs ys holds (Some fault) shown) read.taken took
 
   taken-by : (later : Option (List ℕ)) (fault : Fault) → IsRecordFault fault → Took left later (λ taken. TakenShows (records_from going taken) fault)
@@ -198,7 +199,7 @@ module _ (Wants : List (List ℕ) → List ℕ → Type 0) {going : Going} {left
   taken-by later = record_cases (λ fault. Took left later (λ taken. TakenShows (records_from going taken) fault)
       → (fault ≡ Memory → Took left later (WantsMemory going))
       → Took left0 later (λ taken. TakenEnds Wants ports taken (frames_of records) (Some fault)))
-      (λ took wants. Took-then left0 left later (Holds going records) (WantsMemory going)
+      (λ took wants. Took-then left0 left later (HoldsRecords going records) (WantsMemory going)
       (λ taken. TakenEnds Wants ports taken (frames_of records) (Some Memory))
       (λ xs ys holds wanted. inl (
         leads-behind xs ys holds (Some Cut) (wanting-cut going ys wanted),
@@ -208,7 +209,7 @@ module _ (Wants : List (List ℕ) → List ℕ → Type 0) {going : Going} {left
       (λ took wants. taken-shown later LinkType took)
       (λ took wants. taken-shown later Cut took)
       (λ took wants. taken-shown later LongRecord took)
-      (λ took wants. Took-then left0 left later (Holds going records) (λ ys. TakenShows (records_from going ys) Read)
+      (λ took wants. Took-then left0 left later (HoldsRecords going records) (λ ys. TakenShows (records_from going ys) Read)
       (λ taken. TakenEnds Wants ports taken (frames_of records) (Some Read))
       (λ xs ys holds shown. ⊎_elim (λ none. inl (leads-behind xs ys holds None none))
       (λ cut. inr (leads-behind xs ys holds (Some Cut) cut)) shown) read.taken took)
@@ -222,7 +223,7 @@ module _ (Wants : List (List ℕ) → List ℕ → Type 0) {going : Going} {left
       → HasEnded Wants left0 later faults0 now ports (frames_of records) (Some fault)
   ends-by later now fault is shows took alone wants cause same = record {
     taken = taken-by later fault is took wants;
-    shown = all-rest left0 left (Holds going records) (λ rest. ShowsFault (records_from going rest) fault) _ read.taken shows
+    shown = all-rest left0 left (HoldsRecords going records) (λ rest. ShowsFault (records_from going rest) fault) _ read.taken shows
         (λ xs rest holds shown. shown-fault (ended_of ports (xs ++ rest)) (frames_of records) (records_from going rest)
         (leads-behind xs rest holds) fault is shown);
     least = λ shown. least-then going left0 left later faults0 faults ports records read (alone (shown-record fault is shown));
@@ -241,7 +242,7 @@ module _ (Wants : List (List ℕ) → List ℕ → Type 0) {going : Going} {left
       let Ends : List ℕ → Type 0 = λ taken. (rest : List ℕ)
       → ended_of ports (taken ++ rest) ≡ record { before = frames_of records; fault = Some fault } in
       let both : Took left0 later Ends =
-      Took-then left0 left later (Holds going records) (λ taken. (rest : List ℕ)
+      Took-then left0 left later (HoldsRecords going records) (λ taken. (rest : List ℕ)
       → records_from going (taken ++ rest) ≡ with_record frame original (records_from going_now rest)) Ends
       (λ xs ys holds shows. λ rest. ap (ended_of ports) (append_assoc xs ys rest)
       ∙ ended_of-frame ports going records read.through going_now xs ys rest frame original fault holds shows is)
@@ -274,14 +275,14 @@ module _ (Wants : List (List ℕ) → List ℕ → Type 0) {going : Going} {left
       let more : HasRead going_now left0 later faults0 now ports (records ++ found ∷ []) =
       goes_on read going_now later now frame original took alone same goes in
       record {
-        taken = Took-weaker left0 later (Holds going_now (records ++ found ∷ [])) (λ taken. LacksMemory Wants ports taken (frames_of records))
+        taken = Took-weaker left0 later (HoldsRecords going_now (records ++ found ∷ [])) (λ taken. LacksMemory Wants ports taken (frames_of records))
             (λ taken holds. inr (
               frame,
               begins,
               ended_of-end ports going_now (records ++ found ∷ []) more.through taken holds
                   ∙ ap (λ frames. record { before = frames; fault = None }) (frames-append records (found ∷ [])),
             )) more.taken;
-        shown = all-rest left0 later (Holds going_now (records ++ found ∷ [])) (λ rest. Unit {0}) _ more.taken (anything later) (λ taken rest _ _. tt);
+        shown = all-rest left0 later (HoldsRecords going_now (records ++ found ∷ [])) (λ rest. Unit {0}) _ more.taken (anything later) (λ taken rest _ _. tt);
         least = λ is. absurd is;
         at_end = λ none. absurd (cc);
         kind = tt;
@@ -347,7 +348,7 @@ ends-opening Wants left0 left faults0 faults ports fault is shows took alone cau
       (λ taken shown. taken-opening Wants ports taken fault is shown) took;
   shown = some-weaker left0 (λ all. ShowsFault (records_of all) fault) (λ all. ShowsEnding (ended_of ports all) [] (Some fault)) shows
       (λ all shown. shown-opening ports all fault is shown);
-  least = λ shown. opening-least left0 left ports (alone (opening_cases (λ fault. IsShown (Some fault) → IsOutOfForm fault)
+  least = λ shown. opening-least left0 left ports (alone (opening_cases (λ fault. IsShownEnding (Some fault) → IsOutOfForm fault)
       (λ is. is) (λ is. is) (λ is. is) (λ is. is) (λ is. is) (λ is. is) fault is shown));
   at_end = λ none. absurd (cc);
   kind = opening_cases (λ fault. IsEnding (Some fault)) tt tt tt tt tt tt fault is;

@@ -3,7 +3,7 @@ use Rattle.std.proofs.Common.{◌≡◌, ℕ, List, [], ◌∷◌, ◌++◌, Opt
 use Rattle.zr_kinds.specs.declared.fault.Fault.{Fault}
 use Rattle.pcap_reader.specs.Records.{Captured, Records, no_record, with_record}
 use Rattle.pcapng_reader.{specs.Records.{Going, records_from, records_of}, proofs.Goings.{records_from-none}}
-use Rattle.frames_read.specs.{Ending.{ending_at, ended_or, frames_of, ended_after, ended_of}, Reading.{with_records, Holds, GoesThrough}}
+use Rattle.frames_read.specs.{Ending.{ending_at, ended_or, frames_of, ended_after, ended_of}, Reading.{with_records, HoldsRecords, GoesThrough}}
 
 captured : List ℕ → ℕ → Captured
 captured frame original = record { frame = frame; original = original }
@@ -15,9 +15,9 @@ with_records-append : (records : List Captured) (frame : List ℕ) (original : �
 with_records-append records frame original others =
     ap (λ all. record { all = all; fault = others.fault }) (sym (append_assoc records (record { frame = frame; original = original } ∷ []) others.all))
 
-pub Holds-more : (going later : Going) (records : List Captured) (frame : List ℕ) (original : ℕ) (xs ys : List ℕ) → Holds going records xs
+pub Holds-more : (going later : Going) (records : List Captured) (frame : List ℕ) (original : ℕ) (xs ys : List ℕ) → HoldsRecords going records xs
     → ((rest : List ℕ) → records_from going (ys ++ rest) ≡ with_record frame original (records_from later rest))
-    → Holds later (records ++ record { frame = frame; original = original } ∷ []) (xs ++ ys)
+    → HoldsRecords later (records ++ record { frame = frame; original = original } ∷ []) (xs ++ ys)
 Holds-more going later records frame original xs ys holds found = λ rest.
     ap records_of (append_assoc xs ys rest) ∙ holds (ys ++ rest) ∙ ap (with_records records) (found rest)
     ∙ with_records-append records frame original (records_from later rest)
@@ -58,7 +58,7 @@ ended_after-at ports before frame more fault ends is =
 -- ---- the bytes that were taken, and those that follow
 
 -- the reading of all bytes goes on behind the records that were read
-pub ended_of-rest : (ports : List ℕ) (going : Going) (records : List Captured) (taken rest : List ℕ) → Holds going records taken
+pub ended_of-rest : (ports : List ℕ) (going : Going) (records : List Captured) (taken rest : List ℕ) → HoldsRecords going records taken
     → GoesThrough ports (frames_of records)
     → ended_of ports (taken ++ rest) ≡ ended_after ports (frames_of records) (frames_of (records_from going rest).all) (records_from going rest).fault
 unfolding ended_of
@@ -69,7 +69,7 @@ ended_of-rest ports going records taken rest holds through =
 
 module _ (ports : List ℕ) (going : Going) (records : List Captured) (through : GoesThrough ports (frames_of records)) where
   -- no byte follows
-  pub ended_of-end : (taken : List ℕ) → Holds going records taken → ended_of ports taken ≡ record { before = frames_of records; fault = None }
+  pub ended_of-end : (taken : List ℕ) → HoldsRecords going records taken → ended_of ports taken ≡ record { before = frames_of records; fault = None }
   ended_of-end taken holds =
       ap (ended_of ports) (sym (append-nil taken))
       ∙ ended_of-rest ports going records taken [] holds through
@@ -77,7 +77,7 @@ module _ (ports : List ℕ) (going : Going) (records : List Captured) (through :
       ∙ ended_after-none ports (frames_of records) None
 
   -- what follows shows a fault
-  pub ended_of-fault : (taken rest : List ℕ) (fault : Option Fault) → Holds going records taken → records_from going rest ≡ no_record fault
+  pub ended_of-fault : (taken rest : List ℕ) (fault : Option Fault) → HoldsRecords going records taken → records_from going rest ≡ no_record fault
       → ended_of ports (taken ++ rest) ≡ record { before = frames_of records; fault = fault }
   ended_of-fault taken rest fault holds shows =
       ended_of-rest ports going records taken rest holds through
@@ -85,7 +85,7 @@ module _ (ports : List ℕ) (going : Going) (records : List Captured) (through :
       ∙ ended_after-none ports (frames_of records) fault
 
   -- a frame follows that ends the reading
-  pub ended_of-frame : (later : Going) (taken found rest : List ℕ) (frame : List ℕ) (original : ℕ) (ends : Fault) → Holds going records taken
+  pub ended_of-frame : (later : Going) (taken found rest : List ℕ) (frame : List ℕ) (original : ℕ) (ends : Fault) → HoldsRecords going records taken
       → ((more : List ℕ) → records_from going (found ++ more) ≡ with_record frame original (records_from later more))
       → ending_at ports (frames_of records) frame ≡ Some ends
       → ended_of ports (taken ++ (found ++ rest)) ≡ record { before = frames_of records; fault = Some ends }

@@ -13,8 +13,8 @@ with_records records others = record { all = records ++ others.all; fault = othe
 
 -- The bytes that were taken hold these records and no more: whatever follows them, the capture's other records are
 -- those of what follows.
-abbrev pub Holds : Going → List Captured → List ℕ → Type 0
-Holds going records taken = (rest : List ℕ) → records_of (taken ++ rest) ≡ with_records records (records_from going rest)
+abbrev pub HoldsRecords : Going → List Captured → List ℕ → Type 0
+HoldsRecords going records taken = (rest : List ℕ) → records_of (taken ++ rest) ≡ with_records records (records_from going rest)
 
 -- no frame of these ends the reading
 abbrev pub GoesThrough : List ℕ → List (List ℕ) → Type 0
@@ -32,7 +32,7 @@ RunsOutBefore ports taken = OfFronts (λ front. RunsOut (ended_of ports front)) 
 -- These records were read, and no read failed.
 pub record HasRead (going : Going) (left_at_first left : Option (List ℕ)) (faults_at_first faults : ℕ) (ports : List ℕ)
     (records : List Captured) : Type 0 where
-  pub taken : Took left_at_first left (Holds going records)
+  pub taken : Took left_at_first left (HoldsRecords going records)
   pub least : Took left_at_first left (RunsOutBefore ports)
   pub still : faults ≡ faults_at_first
   pub through : GoesThrough ports (frames_of records)
@@ -59,7 +59,7 @@ pub record EndsWanting (before : List (List ℕ)) (taken : List ℕ) : Type 0 wh
   pub passed : List ℕ
   pub head : List ℕ
   pub parts : taken ≡ passed ++ head
-  pub holds : Holds going records passed
+  pub holds : HoldsRecords going records passed
   pub frames : frames_of records ≡ before
   pub wants : WantsMemory going head
 
@@ -98,11 +98,11 @@ IsEnding (Some BadBlock) = Unit {0}
 IsEnding (Some fault) = ⊥
 
 -- the endings that bytes show which are there: what is out of form, or one flow or frame too many
-abbrev pub IsShown : Option Fault → Type 0
-IsShown None = ⊥
-IsShown (Some TooManyFlows) = Unit {0}
-IsShown (Some TooManyFrames) = Unit {0}
-IsShown (Some fault) = IsOutOfForm fault
+abbrev pub IsShownEnding : Option Fault → Type 0
+IsShownEnding None = ⊥
+IsShownEnding (Some TooManyFlows) = Unit {0}
+IsShownEnding (Some TooManyFrames) = Unit {0}
+IsShownEnding (Some fault) = IsOutOfForm fault
 
 -- a source that tells its bytes was read to its end
 abbrev pub IsReadToEnd : Option (List ℕ) → Option (List ℕ) → Type 0
@@ -117,7 +117,7 @@ pub record HasEnded (Wants : List (List ℕ) → List ℕ → Type 0) (left_at_f
   pub taken : Took left_at_first left (λ taken. TakenEnds Wants ports taken before fault)
   pub shown : IfSome left_at_first (λ all. ShowsEnding (ended_of ports all) before fault)
   -- nothing was taken behind the bytes that show it
-  pub least : IsShown fault → Took left_at_first left (RunsOutBefore ports)
+  pub least : IsShownEnding fault → Took left_at_first left (RunsOutBefore ports)
   pub at_end : fault ≡ None → IsReadToEnd left_at_first left
   pub kind : IsEnding fault
   -- A read failed only where the source's count of faults rose. If it ended otherwise, that count stood still: the

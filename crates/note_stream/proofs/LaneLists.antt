@@ -3,7 +3,7 @@ use Rattle.std.{proofs.Common.{◌≡◌, ℕ, suc, take, drop, ◌<◌, List, [
 use Rattle.std.proofs.lemmas.List.{get_or_append_left, get_or_push, length_push, map-append, append-nil, take_all, drop_all}
 use Rattle.std.proofs.lemmas.{List.Elements.{Contains-append_left, Contains-push}, Bool.{cases_lt}}
 use Rattle.board_face.specs.declared.views.app.AppSide.{AppSide}
-use Rattle.ref_words.specs.{declared.view.View.{View}, Seated.{both_sides, app_view}}
+use Rattle.ref_words.specs.{declared.view.View.{View}, Seated.{both_sides, app_seat_view}}
 use Rattle.word_board.specs.Board.{TheBoard}
 use Rattle.note_stream.specs.{declared.lanes.Lane.{Lane}, Lanes.{AreAt, SayLeft, HaveRun, AreBackFrom}}
 
@@ -38,7 +38,7 @@ pub SayLeft-run : (old new : List Lane) → HaveRun old new → SayLeft new
 SayLeft-run old new run i d within = (run.each i d (omega (arith, within, run.many))).left
 
 -- one more application is back
-pub back-more : (n apps : ℕ) (v : View) (s : AppSide) → AreBackFrom (suc n) apps v → s.view.app ≡ n → AreBackFrom n apps (both_sides v (app_view s))
+pub back-more : (n apps : ℕ) (v : View) (s : AppSide) → AreBackFrom (suc n) apps v → s.view.app ≡ n → AreBackFrom n apps (both_sides v (app_seat_view s))
 back-more n apps v s back number a from below =
     let number_of : AppSide → ℕ = λ t. t.view.app in
     let split = map-append number_of v.apps (s ∷ []) in

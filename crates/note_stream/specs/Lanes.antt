@@ -21,14 +21,14 @@ abbrev pub SayLeft : List Lane → Type 0
 SayLeft lanes = (i : ℕ) (d : Lane) → i < length lanes → IsTrue (slice_index_or lanes i d).left → (slice_index_or lanes i d).seat.side.view.left ≡ true
 
 -- a lane's application took its notes, and left if it says so
-pub record HasRun (old new : Lane) : Type 0 where
+pub record LaneHasRun (old new : Lane) : Type 0 where
   pub same : new.seat.board ≡ old.seat.board
   pub number : new.seat.side.view.app ≡ old.seat.side.view.app
   pub left : IsTrue new.left → new.seat.side.view.left ≡ true
 
 pub record HaveRun (old new : List Lane) : Type 0 where
   pub many : length new ≡ length old
-  pub each : (i : ℕ) (d : Lane) → i < length old → HasRun (slice_index_or old i d) (slice_index_or new i d)
+  pub each : (i : ℕ) (d : Lane) → i < length old → LaneHasRun (slice_index_or old i d) (slice_index_or new i d)
 
 -- the applications from a number on, of so many, are back
 abbrev pub AreBackFrom : ℕ → ℕ → View → Type 0

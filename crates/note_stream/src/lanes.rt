@@ -1,7 +1,7 @@
 //! The lanes of the applications, each with its seat, its half of the stream and room for a text.
 ghost use Rattle.std.specs.Prelude.{◌≡◌, All, IfOk, IfSome};
 ghost use Rattle.board_face.specs.{NicCalls.{apps_of}, Opened.{new_app}};
-ghost use Rattle.note_stream.specs.{Halves.{IsReceiver}, Lanes.{AreReady, HasRun, HaveRun}};
+ghost use Rattle.note_stream.specs.{Halves.{IsReceiver}, Lanes.{AreReady, LaneHasRun, HaveRun}};
 
 use crate::Receiver;
 use crate::app::receive_all;
@@ -65,7 +65,7 @@ pub(crate) fn open_lanes<'b>(
 /// An application takes all its notes, and leaves.
 fn run_lane(lane: &mut Lane<'_>)
     requires { IsReceiver lane.old.seat.side.view lane.old.receiver.loan }
-    ensures { HasRun lane.old lane.new }
+    ensures { LaneHasRun lane.old lane.new }
 {
     lane.left = receive_all(&mut lane.seat, &mut lane.receiver, LOOKS, &mut lane.into);
 }

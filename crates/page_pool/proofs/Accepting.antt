@@ -6,7 +6,7 @@ use Rattle.board_face.{specs.declared.views.nic.SentNote.{SentNote}, proofs.Look
 use Rattle.page_pool.specs.declared.{pool.{Pending.{Pending}, Short.{Short}}, offer.{Offer.{Offer}, Verdict.{Verdict, TheVariants.{Accepted, NoRoom, Busy}}}}
 use Rattle.page_pool.specs.{Pool.{PoolState, PoolStands, HasNonePending, OnlySends, IsNextApp, is_short, is_piece, all_notes}, Packing.{needed}}
 use Rattle.page_pool.specs.declared.search_end.SearchEnd.TheVariants.{Fast, Empty}
-use Rattle.page_pool.specs.Offer.{payload_of, packed, needed_for, short_note, Flushes, LooksFor, not_needed, Accepts, Refuses, Offers, KeepsRest}
+use Rattle.page_pool.specs.Offer.{payload_of, packed, needed_for, short_note, FlushesNotes, LooksFor, not_needed, Accepts, Refuses, Offers, KeepsRest}
 use Rattle.page_pool.{specs.Placing.{PlacesSplit, LacksRoom, KeepsShort}, proofs.FramesShown.{whole_shows}}
 use Rattle.page_pool.proofs.Offering.{nothing_placed, none_not, LooksFor-keeps, looked-out}
 use Rattle.area_layout.specs.Layout.{least_size}
@@ -34,7 +34,7 @@ none_is_next pool _ none (is_piece p ps no_short is) = absurd (grind (arith, sym
 
 -- all pending notes were sent
 pub record FlushedAll (was now : PoolState) (old new : NicView) : Type 0 where
-  pub flush : Flushes was old new
+  pub flush : FlushesNotes was old new
   pub pool : now ≡ record was { short = None; pieces = [] }
 
 pub flushed_all : (was now : PoolState) (old new : NicView) → OnlySends was now old new → HasNonePending now → PoolStands now new

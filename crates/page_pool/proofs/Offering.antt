@@ -10,8 +10,8 @@ use Rattle.page_pool.specs.{declared.{pool.Pending.{Pending}, offer.Offer.{Offer
 use Rattle.page_pool.specs.{Pool.{PoolState, PoolStands, HasNonePending, piece_notes}, Searching.{AreToldOf, CountsEnd, EndsBy, Searches, joint_end}}
 use Rattle.page_pool.specs.declared.search_end.SearchEnd.{SearchEnd, TheVariants.{Fast, Empty}}
 use Rattle.page_pool.specs.Offer.{payload_of, split_notes, packed, packed_into, last_of, ClosesCurrent, LooksFor, not_needed, searched}
-use Rattle.page_pool.{specs.Placing.{PiecesStand, part_of, fresh_places, FillsFresh, FillsCurrent, PlacesSplit, LacksRoom}, proofs.FramesShown.{one_shows, fresh_shows}}
-use Rattle.page_pool.proofs.{Packed.{parts_places}, PlacedParts.{PiecesStand-part, still_needed}}
+use Rattle.page_pool.{specs.Placing.{PiecesStand, pending_of_part, fresh_places, FillsFresh, FillsCurrent, PlacesSplit, LacksRoom}, proofs.FramesShown.{one_shows}}
+use Rattle.page_pool.proofs.{FramesShown.{fresh_shows}, Packed.{parts_places}, PlacedParts.{PiecesStand-part, still_needed}}
 
 -- ---- closing and looking for buffers
 
@@ -80,7 +80,7 @@ PlacesSplit-current was old new o current pieces stands none app some most fills
     let no_pieces : old.pieces ≡ [] = nothing_placed was old stands none in
     let start : next_start own.start ≡ own.start = starts own.start fills.aligned in
     let owns : old.owns ≡ own ∷ [] = rw was_is at stands.owns in
-    let stand : PiecesStand (part_of o 0 (next_place own len) ∷ []) (placed old own (payload_of o)) = PiecesStand-part o 0 [] old own (payload_of o)
+    let stand : PiecesStand (pending_of_part o 0 (next_place own len) ∷ []) (placed old own (payload_of o)) = PiecesStand-part o 0 [] old own (payload_of o)
     (PiecesStand-none old no_pieces) app most (omega arith) in
     record {
       found = old;

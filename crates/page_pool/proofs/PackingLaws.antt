@@ -4,7 +4,7 @@ use Rattle.std.proofs.Common.{length, append_assoc, length-append, refl, sym, ap
 use Rattle.std.{specs.Prelude.{slice_get}, proofs.lemmas.{Bool.{cases_Bool, cases_lt, leb-true}, Grind.{div_ceil_times}}}
 use Rattle.std.proofs.{Math.Nat.{lt_of_mul-lt-mul_right, mul-le-mul_right}, lemmas.List.{Sums.{sum_by-cons}, Elements.{All-nil, All-cons, All-head, All-tail}}}
 use Rattle.zr_kinds.specs.Limits.{longest_payload}
-use Rattle.page_pool.specs.Packing.{Current, Part, fresh, fits, buffers_for, fresh_parts, needed, packing, taken}
+use Rattle.page_pool.specs.Packing.{Current, PayloadPart, fresh, fits, buffers_for, fresh_parts, needed, packing, taken}
 use Rattle.page_pool.specs.Laws.{AreEnough, LiesWell, PackingIsWhole, PackingIsShort}
 
 -- ---- fresh buffers
@@ -18,7 +18,7 @@ room least (size ∷ sizes) each =
     simp sum_by-cons (omega (arith, first, others))
 
 fresh_sum : (number : ℕ) (sizes : List ℕ) (len : ℕ) → len ≤ sum_by (λ (s : ℕ). s) sizes
-    → sum_by (λ (p : Part). p.len) (fresh_parts number sizes len) ≡ len
+    → sum_by (λ (p : PayloadPart). p.len) (fresh_parts number sizes len) ≡ len
 fresh_sum number [] len within = omega (arith, within)
 fresh_sum number (size ∷ sizes) zero within = refl
 fresh_sum number (size ∷ sizes) (suc rest) within =
@@ -69,7 +69,7 @@ fresh_full least number (size ∷ sizes) (suc rest) some each =
 -- ---- the laws
 
 abbrev pub IsWhole : Option Current → List ℕ → ℕ → Type 0
-IsWhole own sizes len = (sum_by (λ (p : Part). p.len) (packing own sizes len) ≡ len) × All (LiesWell own sizes) (packing own sizes len)
+IsWhole own sizes len = (sum_by (λ (p : PayloadPart). p.len) (packing own sizes len) ≡ len) × All (LiesWell own sizes) (packing own sizes len)
 
 fresh_whole : (least : ℕ) (own : Option Current) (sizes : List ℕ) (len : ℕ) → 0 < least → AreEnough least own sizes len → fits own len ≡ false
     → IsWhole own sizes len

@@ -12,7 +12,7 @@ use Rattle.board_face.proofs.LookLemmas.{NicLooksStay-same, NicLooksStay-trans, 
 use Rattle.area_layout.{specs.Layout.{Shape, IsLayout, pool_buffers, least_size, size_of}, proofs.Words.{in_order, words_apart}}
 use Rattle.page_pool.specs.{declared.{pool.Pending.{Pending}, offer.Offer.{Offer}}, Pool.{piece_notes}, Packing.{buffers_for, fresh_parts}}
 use Rattle.page_pool.{specs.Offer.{payload_of, split_note, split_notes, last_of}, proofs.Entries.{grown, freed_by}}
-use Rattle.page_pool.specs.Placing.{PiecesStand, part_of, fresh_places, room_in, FreshParts, IsLastHeld, FreshSoFar, FillsFresh}
+use Rattle.page_pool.specs.Placing.{PiecesStand, pending_of_part, fresh_places, room_in, FreshParts, IsLastHeld, FreshSoFar, FillsFresh}
 
 -- ---- numbers
 
@@ -95,13 +95,13 @@ piece_notes-push (q ∷ qs) (u ∷ us) p t same = ap (λ ns. record { app = q.ap
 
 pub PiecesStand-part : (o : Offer) (at : ℕ) (pieces : List Pending) (v : NicView) (own : Filling) (bytes : List ℕ) → PiecesStand pieces v
     → o.app < apps_of v.setting → length (payload_of o) ≤ longest_payload
-    → at + length bytes ≤ length (payload_of o) → PiecesStand (pieces ++ part_of o at (next_place own (length bytes)) ∷ []) (placed v own bytes)
+    → at + length bytes ≤ length (payload_of o) → PiecesStand (pieces ++ pending_of_part o at (next_place own (length bytes)) ∷ []) (placed v own bytes)
 PiecesStand-part o at pieces v own bytes stand app most within = record {
   places_are = simp map-append (rw stand.places_are refl);
-  apps = All-push (λ (p : Pending). p.app < apps_of v.setting) pieces (part_of o at (next_place own (length bytes))) stand.apps app;
-  fields = All-push (λ (p : Pending). IsSplitNote p.note) pieces (part_of o at (next_place own (length bytes))) stand.fields
+  apps = All-push (λ (p : Pending). p.app < apps_of v.setting) pieces (pending_of_part o at (next_place own (length bytes))) stand.apps app;
+  fields = All-push (λ (p : Pending). IsSplitNote p.note) pieces (pending_of_part o at (next_place own (length bytes))) stand.fields
       (record { split = refl; within = within; bounded = most });
-  places = All-push (λ (p : Pending). p.note.place ≡ p.piece) pieces (part_of o at (next_place own (length bytes))) stand.places refl;
+  places = All-push (λ (p : Pending). p.note.place ≡ p.piece) pieces (pending_of_part o at (next_place own (length bytes))) stand.places refl;
 }
 
 -- a buffer was taken
@@ -114,7 +114,7 @@ pub FreshParts-part : (o : Offer) (buffers : List ℕ) (old v t : NicView) (own 
     (drop (room_in old.setting.layout buffers) (payload_of o))
     → length bytes ≡ min (size_of old.setting.layout own.buffer) (length (payload_of o) - room_in old.setting.layout buffers)
     → room_in old.setting.layout buffers < length (payload_of o) → o.app < apps_of old.setting → length (payload_of o) ≤ longest_payload
-    → FreshParts o (buffers ++ own.buffer ∷ []) old (placed t own bytes) (pieces ++ part_of o (room_in old.setting.layout buffers) (next_place own
+    → FreshParts o (buffers ++ own.buffer ∷ []) old (placed t own bytes) (pieces ++ pending_of_part o (room_in old.setting.layout buffers) (next_place own
     (length bytes)) ∷ [])
 FreshParts-part o buffers old v t own pieces bytes parts took_one bytes_are len_is before app most =
     let L : ℕ = length (payload_of o) in
@@ -135,7 +135,7 @@ FreshParts-part o buffers old v t own pieces bytes parts took_one bytes_are len_
           let lt : length (map (λ (p : PlacedText). p.place) v.pieces) ≡ length v.pieces = simp length-map refl in
           let long : length pieces ≡ length v.pieces = sym lp ∙ ap length (sym parts.stand.places_are) ∙ lt in
           let place : next_place own (length bytes) ≡ record { buffer = own.buffer; offset = 0; len = min size (L - at) } = rw (start, len_is) refl in
-          rw e (piece_notes-push pieces v.pieces (part_of o at (next_place own (length bytes))) (record {
+          rw e (piece_notes-push pieces v.pieces (pending_of_part o at (next_place own (length bytes))) (record {
             place = next_place own
                 (length bytes);
             bytes = bytes;
@@ -262,7 +262,7 @@ pub FreshSoFar-next : (o : Offer) (old v t u : NicView) (own : Filling) (pieces 
     → FreshSoFar o old v pieces at → TookBuffer v t own
     → n ≡ min own.size (length (payload_of o) - at) → bytes ≡ take n (drop at (payload_of o)) → length bytes ≡ n → at + n < length (payload_of o)
     → o.app < apps_of old.setting → length (payload_of o) ≤ longest_payload
-    → Closed (placed t own bytes) u (filled_by own n) → FreshSoFar o old u (pieces ++ part_of o at (next_place own n) ∷ []) (at + n)
+    → Closed (placed t own bytes) u (filled_by own n) → FreshSoFar o old u (pieces ++ pending_of_part o at (next_place own n) ∷ []) (at + n)
 FreshSoFar-next o old v t u own pieces at n bytes so took_one n_is bytes_are len_is rest app most closed =
     let layout : Shape = old.setting.layout in
     let at_is : at ≡ room_in layout so.buffers = so.reached in
@@ -291,7 +291,7 @@ pub FreshSoFar-last : (o : Offer) (old v t : NicView) (own : Filling) (pieces : 
     → IsLayout old.setting.layout → FreshSoFar o old v pieces at → TookBuffer v t own
     → n ≡ min own.size (length (payload_of o) - at) → bytes ≡ take n (drop at (payload_of o)) → length bytes ≡ n → at < length (payload_of o)
     → at + n ≡ length (payload_of o) → o.app < apps_of old.setting → length (payload_of o) ≤ longest_payload
-    → FillsFresh o old (placed t own bytes) (pieces ++ part_of o at (next_place own n) ∷ []) (Some (filled_by own n))
+    → FillsFresh o old (placed t own bytes) (pieces ++ pending_of_part o at (next_place own n) ∷ []) (Some (filled_by own n))
 FreshSoFar-last o old v t own pieces at n bytes l so took_one n_is bytes_are len_is before all app most =
     let L : ℕ = length (payload_of o) in
     let layout : Shape = old.setting.layout in

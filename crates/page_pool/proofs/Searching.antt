@@ -9,7 +9,7 @@ use Rattle.board_face.specs.{Looks.{NicRose, same_nic_look, NicLooksStay}, NicEv
 use Rattle.board_face.specs.{NicCalls.{apps_of, free_words_of, HasSweptAll, lost_of, sent_unsplit_bytes, SweptWord}, declared.views.nic.Dealt.{Dealt}}
 use Rattle.board_face.{specs.declared.views.nic.{NicLook.TheVariants.{RingEmpty, Swept}, NicView.{NicView}}, proofs.LostLemmas.{buffers-accounted}}
 use Rattle.board_face.proofs.LookLemmas.{NicLooksStay-same, NicLooksStay-trans, NicRose-later, NicRose-before, times-more}
-use Rattle.page_pool.specs.{Dealing.{DealsWith}, Gathering.{DrainsRing, Gathers, HasAtMost, RefillsFirst, SweepsFirst}}
+use Rattle.page_pool.specs.{Dealing.{DealsWith}, Gathering.{DrainsRing, GathersEntries, HasAtMost, RefillsFirst, SweepsFirst}}
 use Rattle.page_pool.specs.{Searching.{enough, AreRingsDone, AreSwept, AreToldOf, Searches}}
 use Rattle.page_pool.specs.declared.search_end.SearchEnd.{SearchEnd, TheVariants.{Fast, Refill, Slow, Empty}}
 use Rattle.page_pool.proofs.Entries.{CountsStrays-none, CachesFreed-none, CachesFreed-trans}
@@ -22,7 +22,7 @@ range-push a (suc n) =
     let more : suc n + 1 ≡ suc (n + 1) = omega arith in
     rw (last, more) (ap (λ xs. a ∷ xs) (range-push (a + 1) n))
 
-pub Gathers-none : (v : NicView) → Gathers [] 0 v v
+pub Gathers-none : (v : NicView) → GathersEntries [] 0 v v
 Gathers-none v = record {
   view = rw (append-nil, append-nil) refl;
   looks = NicLooksStay-same v v refl;
@@ -30,7 +30,7 @@ Gathers-none v = record {
   each = λ word none. absurd (grind arith);
 }
 
-Gathers-deals : (old v w : NicView) (xs ys : List Dealt) → Gathers xs 0 old v → DealsWith ys v w → Gathers (xs ++ ys) 0 old w
+Gathers-deals : (old v w : NicView) (xs ys : List Dealt) → GathersEntries xs 0 old v → DealsWith ys v w → GathersEntries (xs ++ ys) 0 old w
 Gathers-deals old v w xs ys first second =
     let cache : length w.cache ≡ length v.cache + length second.freed = ap (λ (u : NicView). length u.cache) second.view
     ∙ length-append v.cache second.freed in

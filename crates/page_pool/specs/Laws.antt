@@ -3,7 +3,7 @@ use Rattle.std.specs.Prelude.{◌≡◌, ℕ, ◌+◌, ◌%◌, ◌<◌, ◌≤�
 use Rattle.zr_kinds.specs.Limits.{longest_payload}
 use Rattle.board_face.specs.declared.views.nic.NicView.{NicView}
 use Rattle.page_pool.specs.{declared.offer.{Offer.{Offer}, Verdict.{Verdict, TheVariants.{Accepted, NoRoom, Busy}}}, Frames.{Offered, offered, ShowFrames}}
-use Rattle.page_pool.specs.{Packing.{Current, Target, current, fresh, Part, needed, packing, taken}, Pool.{PoolState, new_pool, all_notes}, Offer.{Offers}}
+use Rattle.page_pool.specs.{Packing.{Current, Target, current, fresh, PayloadPart, needed, packing, taken}, Pool.{PoolState, new_pool, all_notes}, Offer.{Offers}}
 
 -- ---- packing
 
@@ -19,7 +19,7 @@ size_in (Some own) sizes current = Some own.size
 size_in own sizes (fresh i) = slice_get sizes i
 
 -- the part lies in its buffer, and begins there at a multiple of 64
-pub record LiesWell (own : Option Current) (sizes : List ℕ) (part : Part) : Type 0 where
+pub record LiesWell (own : Option Current) (sizes : List ℕ) (part : PayloadPart) : Type 0 where
   pub size : ℕ
   pub size_is : size_in own sizes part.target ≡ Some size
   pub within : part.offset + part.len ≤ size

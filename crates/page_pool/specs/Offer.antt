@@ -6,7 +6,7 @@ use Rattle.area_layout.specs.Layout.{pool_buffers, least_size, size_of}
 use Rattle.board_face.specs.{Looks.{NicRose, NicLooksStay}, NicEvents.{fresh}, NicCalls.{apps_of, IsOpen, Closed, HasSweptAll, sent_unsplit_bytes}, Tokens.{filled_by}}
 use Rattle.board_face.specs.declared.views.{parts.{Setting.{Setting}, Filling.{Filling}}, nic.{NicLook.TheVariants.{NoteInUse}, SentNote.{SentNote}, NicView.{NicView}}}
 use Rattle.page_pool.specs.{declared.offer.{Offer.{Offer}, Verdict.{Verdict, TheVariants.{Accepted, NoRoom, Busy}}}, Frames.{offered, ShowsFrame}}
-use Rattle.page_pool.specs.Packing.{Current, Target, Part, fits, needed, packing, taken, current as in_current, fresh as in_fresh}
+use Rattle.page_pool.specs.Packing.{Current, Target, PayloadPart, fits, needed, packing, taken, current as in_current, fresh as in_fresh}
 use Rattle.page_pool.specs.{Pool.{PoolState, OnlySends, IsNextApp, all_notes}, Searching.{CountsEnd, Searches, joint_end}}
 use Rattle.page_pool.specs.declared.search_end.SearchEnd.{SearchEnd, TheVariants.{Fast, Empty}}
 
@@ -85,12 +85,12 @@ number_in None = 0
 number_in (Some own) = own.buffer
 
 -- the number of a part's buffer, where the fresh buffers have these numbers
-abbrev pub number_of : Option Filling → List ℕ → Target → ℕ
-number_of own buffers in_current = number_in own
-number_of own buffers (in_fresh i) = slice_index buffers i
+abbrev pub buffer_number_of : Option Filling → List ℕ → Target → ℕ
+buffer_number_of own buffers in_current = number_in own
+buffer_number_of own buffers (in_fresh i) = slice_index buffers i
 
-abbrev pub place_of : Option Filling → List ℕ → Part → Place
-place_of own buffers part = record { buffer = number_of own buffers part.target; offset = part.offset; len = part.len }
+abbrev pub place_of : Option Filling → List ℕ → PayloadPart → Place
+place_of own buffers part = record { buffer = buffer_number_of own buffers part.target; offset = part.offset; len = part.len }
 
 -- where the parts of a payload lie, where the fresh buffers have these numbers
 abbrev pub places_for : PoolState → NicView → List ℕ → Offer → List Place
@@ -121,7 +121,7 @@ current_after pool v buffers o =
 -- ---- before a byte is placed
 
 -- The pending notes were sent, all of them.
-pub record Flushes (was : PoolState) (old new : NicView) : Type 0 where
+pub record FlushesNotes (was : PoolState) (old new : NicView) : Type 0 where
   pub view : new ≡ record old { pieces = []; sent = all_notes was old; looks = new.looks }
   pub looks : NicLooksStay old new
 
@@ -143,7 +143,7 @@ pub data LooksFor (need : ℕ) (current : Option Filling) (ahead : SearchEnd) (w
 -- says. Its notes, which show it, were sent or are pending behind the earlier ones, and no other.
 pub record Accepts (was now : PoolState) (old new : NicView) (o : Offer) : Type 0 where
   pub flushed : NicView
-  pub flush : Flushes was old flushed
+  pub flush : FlushesNotes was old flushed
   -- the view as the first byte was placed
   pub found : NicView
   pub how : Option SearchEnd
@@ -180,7 +180,7 @@ pub record Refuses (was now : PoolState) (old new : NicView) (o : Offer) (cached
   -- All other buffers the card has taken, or they may be spares, one for each byte of an unsplit note.
   pub within : pool_buffers new.setting.layout ≤ cached + length new.used + sent_unsplit_bytes new
   pub flushed : NicView
-  pub flush : Flushes was old flushed
+  pub flush : FlushesNotes was old flushed
   pub search : LooksFor need was.current was.ahead was.stats now.stats flushed new (Some Empty)
   pub pool : now ≡ record was { current = None; short = None; pieces = []; stats = now.stats; ahead = Fast }
   pub notes : all_notes now new ≡ all_notes was old

@@ -15,7 +15,7 @@ pub data Target : Type 0 where
   fresh : ℕ → Target
 
 -- a part of a payload: its buffer, where it begins there, and how many bytes it has
-pub record Part : Type 0 where
+pub record PayloadPart : Type 0 where
   pub target : Target
   pub offset : ℕ
   pub len : ℕ
@@ -34,19 +34,19 @@ abbrev pub needed : ℕ → Option Current → ℕ → ℕ
 needed least own len = if fits own len then 0 else buffers_for least len
 
 -- fresh buffers of these sizes, from the one of this number on: each is filled from 0 up to its own size, until all is placed
-abbrev pub fresh_parts : ℕ → List ℕ → ℕ → List Part
+abbrev pub fresh_parts : ℕ → List ℕ → ℕ → List PayloadPart
 fresh_parts number [] len = []
 fresh_parts number (size ∷ sizes) zero = []
 fresh_parts number (size ∷ sizes) (suc rest) =
     record { target = fresh number; offset = 0; len = min size (suc rest) } ∷ fresh_parts (suc number) sizes (suc rest - size)
 
 -- the part in the current buffer
-abbrev pub current_part : Option Current → ℕ → List Part
+abbrev pub current_part : Option Current → ℕ → List PayloadPart
 current_part None len = []
 current_part (Some own) len = record { target = current; offset = next_start own.used; len = len } ∷ []
 
 -- the packing of `len` bytes, where fresh buffers of these sizes are taken in this order as long as bytes are left
-abbrev pub packing : Option Current → List ℕ → ℕ → List Part
+abbrev pub packing : Option Current → List ℕ → ℕ → List PayloadPart
 packing own sizes len = if fits own len then current_part own len else fresh_parts 0 sizes len
 
 -- how many of these fresh buffers are taken

@@ -18,8 +18,8 @@ pub record PiecesStand (pieces : List Pending) (v : NicView) : Type 0 where
   pub places : All (λ p. p.note.place ≡ p.piece) pieces
 
 -- the note of a part, with its piece
-abbrev pub part_of : Offer → ℕ → Place → Pending
-part_of o at place = record { app = o.app; note = split_note o at place; piece = place }
+abbrev pub pending_of_part : Offer → ℕ → Place → Pending
+pending_of_part o at place = record { app = o.app; note = split_note o at place; piece = place }
 
 -- So many bytes from `at` on are a part of the payload, which is no longer than one may be.
 pub record IsPart (o : Offer) (at len : ℕ) : Type 0 where
@@ -82,7 +82,7 @@ pub record FillsCurrent (o : Offer) (was now : Option Filling) (old new : NicVie
   pub now_is : now ≡ Some (filled_by own (len_of o))
   pub fits_there : fits (packed was) (len_of o) ≡ true
   pub aligned : own.start % 64 ≡ 0
-  pub pieces_are : pieces ≡ part_of o 0 (next_place own (len_of o)) ∷ []
+  pub pieces_are : pieces ≡ pending_of_part o 0 (next_place own (len_of o)) ∷ []
   pub event : new ≡ placed old own (payload_of o)
 
 -- It doesn't fit there, and nothing was done.

@@ -32,7 +32,7 @@ abbrev pub pending_count : PoolState → ℕ
 pending_count pool = length (option_to_list pool.short) + length pool.pieces
 
 -- a short payload's note may be sent
-pub record IsShort (setting : Setting) (short : Short) : Type 0 where
+pub record IsShortNote (setting : Setting) (short : Short) : Type 0 where
   pub app : short.app < apps_of setting
   pub fields : IsLinearNote short.note
   pub room : length short.bytes ≡ 256
@@ -45,7 +45,7 @@ pub record PoolStands (pool : PoolState) (v : NicView) : Type 0 where
   pub apps : All (λ p. p.app < apps_of v.setting) pool.pieces
   pub fields : All (λ p. IsSplitNote p.note) pool.pieces
   pub places : All (λ p. p.note.place ≡ p.piece) pool.pieces
-  pub short : IfSome pool.short (IsShort v.setting)
+  pub short : IfSome pool.short (IsShortNote v.setting)
   pub few : pending_count pool ≤ 64
 
 -- ---- notes sent, and those pending

@@ -1,7 +1,7 @@
 ghost use Rattle.std.specs.Prelude.{◌≡◌, ◌+◌, ◌<◌, ◌≤◌, [], ◌∷◌, ◌++◌, length, take, drop, option_to_list};
 ghost use Rattle.area_layout.specs.Layout.{IsLayout, least_size};
 ghost use Rattle.board_face.specs.{NicCalls.{IsOpen}, NicEvents.{placed}, Tokens.{next_place, filled_by}};
-ghost use Rattle.page_pool.specs.{Offer.{MayOffer}, Packing.{buffers_for}, Placing.{IsPart, part_of, FillsFresh}};
+ghost use Rattle.page_pool.specs.{Offer.{MayOffer}, Packing.{buffers_for}, Placing.{IsPart, pending_of_part, FillsFresh}};
 
 use crate::pieces::PendingPieces;
 use crate::{Offer, Pending};
@@ -25,7 +25,8 @@ pub(crate) fn place_part<F: NicFace>(
     ensures view { F.seen face.new
         ≡ placed (F.seen face.old) own.old (take len (drop at offer.now.payload.now)) }
     ensures own { own.new ≡ filled_by own.old len }
-    ensures pieces { pieces.new ≡ pieces.old ++ part_of offer.now at (next_place own.old len) ∷ [] }
+    ensures pieces { pieces.new ≡ pieces.old
+        ++ pending_of_part offer.now at (next_place own.old len) ∷ [] }
     ensures beside { F.beside face.new ≡ F.beside face.old }
 {
     let bytes = &offer.payload[at as usize..(at + len) as usize];

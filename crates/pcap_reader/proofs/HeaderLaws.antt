@@ -4,7 +4,7 @@ use Rattle.std.proofs.Common.{◌∷◌, ◌++◌, length, take, drop, Option, S
 use Rattle.std.{proofs.{Common.{eq-eqb, ne_eqb, if◌then◌else◌}, lemmas.{List.{take-append-le, drop_at}, Bool.{cond-true, cond-false}}}, specs.List.{starts_with}}
 use Rattle.zr_kinds.specs.declared.fault.Fault.{Fault, TheVariants.{NotPcap, Version, LinkType, Cut}}
 use Rattle.pcap_reader.specs.{declared.order.ByteOrder.TheVariants.{Little, Big}, Records.{ByteOrder, number, no_record, records_in, order_of}}
-use Rattle.pcap_reader.specs.Records.{fields_fault, fault_behind, header_fault, after_header, behind_magic, records_of}
+use Rattle.pcap_reader.specs.Records.{fields_fault, classic_fault_behind, header_fault, after_header, behind_magic, classic_records_of}
 use Rattle.pcap_reader.{specs.Steps.{IsMagicOf, magic_in, fault_of_fields, behind_magic_in}, proofs.RecordLaws.{number-append, number_at-append}}
 
 abbrev starts : List ℕ → List ℕ → Bool
@@ -29,14 +29,14 @@ order_of-append magic rest whole =
     (starts-append magic rest (0xa1 ∷ 0xb2 ∷ 0xc3 ∷ 0xd4 ∷ []) whole)
     (starts-append magic rest (0x4d ∷ 0x3c ∷ 0xb2 ∷ 0xa1 ∷ []) whole) (starts-append magic rest (0xa1 ∷ 0xb2 ∷ 0x3c ∷ 0x4d ∷ []) whole)
 
-by_order : (bytes : List ℕ) (order : Option ByteOrder) → 4 ≤ length bytes → order_of bytes ≡ order → records_of bytes ≡ behind_magic order bytes
-unfolding records_of
+by_order : (bytes : List ℕ) (order : Option ByteOrder) → 4 ≤ length bytes → order_of bytes ≡ order → classic_records_of bytes ≡ behind_magic order bytes
+unfolding classic_records_of
 by_order bytes order whole e =
     cond-false (nat_lt (length bytes) 4) _ _ (le-ltb (length bytes) 4 whole) ∙ ap (λ (o : Option ByteOrder). behind_magic o bytes) e
 
-by_told : (bytes : List ℕ) (order : Option ByteOrder) → 4 ≤ length bytes → order_of bytes ≡ order → header_fault bytes ≡ fault_behind order bytes
+by_told : (bytes : List ℕ) (order : Option ByteOrder) → 4 ≤ length bytes → order_of bytes ≡ order → header_fault bytes ≡ classic_fault_behind order bytes
 by_told bytes order whole e =
-    cond-false (nat_lt (length bytes) 4) _ _ (le-ltb (length bytes) 4 whole) ∙ ap (λ (o : Option ByteOrder). fault_behind o bytes) e
+    cond-false (nat_lt (length bytes) 4) _ _ (le-ltb (length bytes) 4 whole) ∙ ap (λ (o : Option ByteOrder). classic_fault_behind o bytes) e
 
 -- fewer bytes than a magic
 pub header_fault-cut : (bytes : List ℕ) → length bytes < 4 → header_fault bytes ≡ Some Cut
@@ -48,14 +48,14 @@ header_fault-other magic rest whole none = by_told (magic ++ rest) None (omega (
 
 -- the fault of a file header is the capture's
 fault_shown : (short : Bool) (told : Option ByteOrder) (bytes : List ℕ) (fault : Fault)
-    → (if short then Some Cut else fault_behind told bytes) ≡ Some fault
+    → (if short then Some Cut else classic_fault_behind told bytes) ≡ Some fault
     → (if short then no_record (Some Cut) else behind_magic told bytes) ≡ no_record (Some fault)
 fault_shown true told bytes fault is = ap no_record is
 fault_shown false None bytes fault is = ap no_record is
 fault_shown false (Some order) bytes fault is = ap (λ (found : Option Fault). after_header found order bytes) is
 
-pub records_of-fault : (bytes : List ℕ) (fault : Fault) → header_fault bytes ≡ Some fault → records_of bytes ≡ no_record (Some fault)
-unfolding records_of
+pub records_of-fault : (bytes : List ℕ) (fault : Fault) → header_fault bytes ≡ Some fault → classic_records_of bytes ≡ no_record (Some fault)
+unfolding classic_records_of
 records_of-fault bytes fault is = fault_shown (nat_lt (length bytes) 4) (order_of bytes) bytes fault is
 
 after_header-same : (fault : Option Fault) (order : ByteOrder) (xs ys : List ℕ) → drop 24 xs ≡ drop 24 ys
@@ -82,7 +82,7 @@ by_form Little bytes = by_order (magic_in Little ++ bytes) (Some Little) (omega 
 by_form Big bytes = by_order (magic_in Big ++ bytes) (Some Big) (omega arith) refl
 
 -- behind each magic of an order the bytes hold the same
-pub records_of-told : (order : ByteOrder) (magic rest : List ℕ) → IsMagicOf order magic → records_of (magic ++ rest) ≡ behind_magic_in order rest
+pub records_of-told : (order : ByteOrder) (magic rest : List ℕ) → IsMagicOf order magic → classic_records_of (magic ++ rest) ≡ behind_magic_in order rest
 records_of-told order magic rest is =
     let whole = is.whole in
     by_order (magic ++ rest) (Some order) (omega (arith, length-append magic rest)) (order_of-append magic rest whole ∙ is.tells)

@@ -4,9 +4,9 @@ use Rattle.std.proofs.{Common.{ap, ◌∙◌, subst, arith, append-nil, length-a
 use Rattle.std.specs.Io.KnownBytes.{Keeps, IsAtEnd, Consumes}
 use Rattle.zr_kinds.specs.{Limits.{longest_record}, declared.fault.Fault.{Fault, TheVariants.{Memory, NotPcap, Version, LinkType, Cut, LongRecord, Read}}}
 use Rattle.zr_io.{specs.Moved.{Took}, proofs.Moved.{Took-nothing, Took-consumed, Took-then, Took-weaker}}
-use Rattle.pcap_reader.specs.Records.{ByteOrder, Records, no_record, with_record, captured_len, header_fault, records_in, records_of}
-use Rattle.pcap_reader.specs.Capture.{ShowsFault, BrokeOff, TakenShows, HeaderShows, TakenHeaderShows, IsOpeningFault, IsRecordFault, WantsMemory}
-use Rattle.pcap_reader.specs.{Capture.{OfFronts, ClassicReading, Opens, OpensBehind}, Steps.{Stops, HeaderStops, BreaksOff, IsHeaderOf, BodyStops}}
+use Rattle.pcap_reader.specs.Records.{ByteOrder, Records, no_record, with_record, classic_captured_len, header_fault, records_in, classic_records_of}
+use Rattle.pcap_reader.specs.Capture.{ShowsFault, BrokeOff, TakenShows, HeaderShows, TakenHeaderShows, IsClassicOpeningFault, IsClassicRecordFault, ClassicWantsMemory}
+use Rattle.pcap_reader.specs.{Capture.{OfFronts, ClassicReading, OpensClassic, OpensBehind}, Steps.{Stops, HeaderStops, StepBreaksOff, IsHeaderOf, BodyStops}}
 use Rattle.pcap_reader.{specs.declared.capture.Record.{Record}, proofs.HeaderLaws.{records_of-fault, header_fault-cut}}
 use Rattle.pcap_reader.proofs.RecordLaws.{records_in-whole, records_in-headless, records_in-none, records_in-long, records_in-bodiless}
 
@@ -85,7 +85,7 @@ Took-fronts P a b c Q first took fronts = Took-then a b c Q (OfFronts (λ ys. (x
 -- a later step broke off
 pub Stops-then : (Comes : Fault → Type 0) (reading : List ℕ → Records) (a b c : Option (List ℕ)) (P Q : List ℕ → Type 0) (fault : Fault)
     → Comes Read → Comes Cut
-    → ((xs ys : List ℕ) → P xs → Q ys → reading (xs ++ ys) ≡ no_record (Some Cut)) → Took a b P → BreaksOff b c Q fault
+    → ((xs ys : List ℕ) → P xs → Q ys → reading (xs ++ ys) ≡ no_record (Some Cut)) → Took a b P → StepBreaksOff b c Q fault
     → Stops Comes reading a c fault
 Stops-then Comes reading a b c P Q Read read cut shows took broke =
     (read, always a, Took-then a b c P Q _ (λ xs ys p q. inr (shows xs ys p q)) took broke, λ is. absurd is)
@@ -115,7 +115,7 @@ Stops-front Comes reading a b front fault comes shows fits taken fronts consumed
 
 -- what is wanted of the header broke off
 pub HeaderStops-broken : (fault_in : List ℕ → Option Fault) (a b : Option (List ℕ)) (P : List ℕ → Type 0) (fault : Fault)
-    → ((xs : List ℕ) → P xs → fault_in xs ≡ Some Cut) → BreaksOff a b P fault → HeaderStops fault_in a b fault
+    → ((xs : List ℕ) → P xs → fault_in xs ≡ Some Cut) → StepBreaksOff a b P fault → HeaderStops fault_in a b fault
 HeaderStops-broken fault_in a b P Read shows broke = (tt, always a, Took-weaker a b P _ shows broke, λ is. absurd is)
 HeaderStops-broken fault_in a b P Cut shows broke = (tt, all_weaker a P _ shows broke.0, Took-weaker a b P _ shows broke.1, λ is. absurd is)
 HeaderStops-broken fault_in a b P _ shows broke = absurd broke
@@ -134,7 +134,7 @@ HeaderStops-within fault_in later a b first fault same stops = (
 )
 
 -- a front that was taken has a fault, whatever follows it
-pub HeaderStops-front : (fault_in : List ℕ → Option Fault) (a b : Option (List ℕ)) (front : List ℕ) (fault : Fault) → IsOpeningFault fault
+pub HeaderStops-front : (fault_in : List ℕ → Option Fault) (a b : Option (List ℕ)) (front : List ℕ) (fault : Fault) → IsClassicOpeningFault fault
     → ((rest : List ℕ) → fault_in (front ++ rest) ≡ Some fault)
     → ((found : Option Fault) → found ≡ Some fault → HeaderShows found fault)
     → ((found : Option Fault) → found ≡ Some fault → TakenHeaderShows found fault) → OfFronts (λ part. fault_in part ≡ Some Cut) front
@@ -148,7 +148,7 @@ HeaderStops-front fault_in a b front fault comes shows fits taken fronts consume
     )
 
 -- the first bytes have a fault, whatever follows them
-pub HeaderStops-nothing : (fault_in : List ℕ → Option Fault) (a : Option (List ℕ)) (first : List ℕ) (fault : Fault) → IsOpeningFault fault
+pub HeaderStops-nothing : (fault_in : List ℕ → Option Fault) (a : Option (List ℕ)) (first : List ℕ) (fault : Fault) → IsClassicOpeningFault fault
     → ((rest : List ℕ) → fault_in (first ++ rest) ≡ Some fault)
     → ((found : Option Fault) → found ≡ Some fault → HeaderShows found fault)
     → ((found : Option Fault) → found ≡ Some fault → TakenHeaderShows found fault) → HeaderStops (λ ys. fault_in (first ++ ys)) a a fault
@@ -169,12 +169,13 @@ header-alone a b c first four front fronts =
 
 -- the four bytes of a magic, and a header behind them
 pub Opens-behind : (a b c : Option (List ℕ)) (first : List ℕ) (result : Result ClassicReading Fault) → length first ≡ 4 → Consumes a b first
-    → OpensBehind first b c result → Opens a c result
+    → OpensBehind first b c result → OpensClassic a c result
 Opens-behind a b c first (Ok capture) four consumed opens =
     let front = Took-consumed a b first (λ xs. xs ≡ first) consumed refl in (
       opens.0,
       Took-then a b c (λ xs. xs ≡ first) _ _
-          (λ xs ys same good rest. subst (λ (l : List ℕ). records_of ((l ++ ys) ++ rest) ≡ records_in capture.order rest) (sym same) (good rest)) front opens.1,
+          (λ xs ys same good rest. subst (λ (l : List ℕ). classic_records_of ((l ++ ys) ++ rest) ≡ records_in capture.order rest) (sym same) (good rest)) front
+          opens.1,
       header-alone a b c first four front opens.2,
     )
 Opens-behind a b c first (Err fault) four consumed opens =
@@ -188,7 +189,7 @@ Opens-behind a b c first (Err fault) four consumed opens =
     )
 
 -- what the header shows, all the bytes show
-shown_by : (all : List ℕ) (fault : Fault) → IsOpeningFault fault → HeaderShows (header_fault all) fault → ShowsFault (records_of all) fault
+shown_by : (all : List ℕ) (fault : Fault) → IsClassicOpeningFault fault → HeaderShows (header_fault all) fault → ShowsFault (classic_records_of all) fault
 shown_by all NotPcap is shows = records_of-fault all NotPcap shows
 shown_by all Version is shows = records_of-fault all Version shows
 shown_by all LinkType is shows = records_of-fault all LinkType shows
@@ -196,7 +197,8 @@ shown_by all Cut is shows = records_of-fault all Cut shows
 shown_by all Read is shows = tt
 shown_by all _ is shows = absurd is
 
-taken_by : (taken : List ℕ) (fault : Fault) → IsOpeningFault fault → TakenHeaderShows (header_fault taken) fault → TakenShows (records_of taken) fault
+taken_by : (taken : List ℕ) (fault : Fault) → IsClassicOpeningFault fault → TakenHeaderShows (header_fault taken) fault
+    → TakenShows (classic_records_of taken) fault
 taken_by taken NotPcap is shows = records_of-fault taken NotPcap shows
 taken_by taken Version is shows = records_of-fault taken Version shows
 taken_by taken LinkType is shows = records_of-fault taken LinkType shows
@@ -213,15 +215,15 @@ headless order (byte ∷ bytes) short = inr (records_in-headless order (byte ∷
 -- the source failed within a header
 pub Stops-headless : (order : ByteOrder) (a b : Option (List ℕ)) (room : ℕ) (fault : Fault) → room ≡ 16 → fault ≡ Read
     → Took a b (λ taken. length taken < room)
-    → Stops IsRecordFault (records_in order) a b fault
+    → Stops IsClassicRecordFault (records_in order) a b fault
 Stops-headless order a b room fault size read took =
-    subst (Stops IsRecordFault (records_in order) a b) (sym read)
+    subst (Stops IsClassicRecordFault (records_in order) a b) (sym read)
     (tt, always a, Took-weaker a b _ _ (λ xs short. headless order xs (omega arith)) took, λ is. absurd is)
 
 -- the bytes end within a header
 pub Stops-cut : (order : ByteOrder) (a b : Option (List ℕ)) (header : List ℕ) (n : ℕ) → 0 < n → n < 16 → n ≤ length header
     → Consumes a b (take n header) → IsAtEnd b
-    → Stops IsRecordFault (records_in order) a b Cut
+    → Stops IsClassicRecordFault (records_in order) a b Cut
 Stops-cut order a b header n some short within consumed end =
     let size = length-take-le n header within in
     let shows = records_in-headless order (take n header) (omega arith) (omega arith) in
@@ -229,10 +231,10 @@ Stops-cut order a b header n some short within consumed end =
 
 -- a header that states too many bytes
 pub Stops-long : (order : ByteOrder) (a b : Option (List ℕ)) (header : List ℕ) (n : ℕ) → length header ≡ 16 → 16 ≤ n
-    → longest_record < captured_len order header → Consumes a b (take n header)
-    → Stops IsRecordFault (records_in order) a b LongRecord
+    → longest_record < classic_captured_len order header → Consumes a b (take n header)
+    → Stops IsClassicRecordFault (records_in order) a b LongRecord
 Stops-long order a b header n whole all long consumed =
-    Stops-front IsRecordFault (records_in order) a b header LongRecord tt (λ rest. records_in-long order header rest whole long) (λ records e. e)
+    Stops-front IsClassicRecordFault (records_in order) a b header LongRecord tt (λ rest. records_in-long order header rest whole long) (λ records e. e)
     (λ records e. e)
     (fronts-short _ header (λ front short. headless order front (omega arith)))
     (subst (Consumes a b) (take_all n header (omega arith)) consumed)
@@ -247,27 +249,29 @@ bodiless order found header body h short =
 -- the captured bytes weren't taken whole
 pub Stops-bodiless : (order : ByteOrder) (a b c : Option (List ℕ)) (found : Record) (fault : Fault) → Took a b (IsHeaderOf order found)
     → BodyStops found.captured b c fault
-    → Stops IsRecordFault (records_in order) a c fault
+    → Stops IsClassicRecordFault (records_in order) a c fault
 Stops-bodiless order a b c found Memory took stops =
     let none : Took b c (λ ys. length ys < found.captured) = Took-nothing b c _ stops.1 stops.0 in
     (tt, always a, Took-then a b c (IsHeaderOf order found) _ _ (λ xs ys p q. inr (bodiless order found xs ys p q)) took none, λ is. absurd is)
 Stops-bodiless order a b c found Read took stops =
-    Stops-then IsRecordFault (records_in order) a b c (IsHeaderOf order found) (λ ys. length ys < found.captured) Read tt tt (bodiless order found) took stops
+    Stops-then IsClassicRecordFault (records_in order) a b c (IsHeaderOf order found) (λ ys. length ys < found.captured) Read tt tt (bodiless order found)
+    took stops
 Stops-bodiless order a b c found Cut took stops =
-    Stops-then IsRecordFault (records_in order) a b c (IsHeaderOf order found) (λ ys. length ys < found.captured) Cut tt tt (bodiless order found) took stops
+    Stops-then IsClassicRecordFault (records_in order) a b c (IsHeaderOf order found) (λ ys. length ys < found.captured) Cut tt tt (bodiless order found)
+    took stops
 Stops-bodiless order a b c found _ took stops = absurd stops
 
 wanting : (order : ByteOrder) (found : Record) → 0 < found.captured → (header body : List ℕ) → IsHeaderOf order found header → body ≡ []
-    → WantsMemory order (header ++ body)
+    → ClassicWantsMemory order (header ++ body)
 wanting order found some header body h none =
     let stated = h.captured in
     let fits = h.short in
-    subst (λ (l : List ℕ). WantsMemory order (header ++ l)) (sym none)
-    (subst (WantsMemory order) (sym (append-nil header)) (h.whole, omega arith, omega arith))
+    subst (λ (l : List ℕ). ClassicWantsMemory order (header ++ l)) (sym none)
+    (subst (ClassicWantsMemory order) (sym (append-nil header)) (h.whole, omega arith, omega arith))
 
 -- memory was wanted and refused
 pub Took-wanting : (order : ByteOrder) (a b c : Option (List ℕ)) (found : Record) → Took a b (IsHeaderOf order found)
-    → BodyStops found.captured b c Memory → Took a c (WantsMemory order)
+    → BodyStops found.captured b c Memory → Took a c (ClassicWantsMemory order)
 Took-wanting order a b c found took stops =
     Took-then a b c (IsHeaderOf order found) (λ ys. ys ≡ []) _ (wanting order found stops.0) took (Took-nothing b c _ stops.1 refl)
 

@@ -2,7 +2,7 @@
 use Rattle.std.specs.{Prelude.{◌≡◌, ℕ, ◌<◌, ◌≤◌, List, ◌++◌, length, Option, Some, None, Result, Ok, Err, IsErrOf, IfSome, ◌⊎◌}, Io.KnownBytes.{Keeps, IsAtEnd}}
 use Rattle.zr_kinds.specs.{Limits.{longest_record}, declared.fault.Fault.{Fault, TheVariants.{Memory, NotPcap, Version, LinkType, Cut, LongRecord, Read, BadBlock}}}
 use Rattle.zr_io.specs.Moved.{Rose, Took}
-use Rattle.pcap_reader.specs.Records.{ByteOrder, Records, no_record, with_record, captured_len, header_fault, records_in, records_of}
+use Rattle.pcap_reader.specs.Records.{ByteOrder, Records, no_record, with_record, classic_captured_len, header_fault, records_in, classic_records_of}
 use Rattle.pcap_reader.specs.declared.capture.Record.{Record}
 
 -- a capture as its callers see it: the order of its numbers, and the fault that ended its reading
@@ -46,25 +46,25 @@ pub record HasReadCause {T : Type 0} (before now : ℕ) (result : Result T Fault
   pub still : (IsErrOf result Read → ⊥) → now ≡ before
 
 -- the faults that opening a capture answers
-abbrev pub IsOpeningFault : Fault → Type 0
-IsOpeningFault NotPcap = Unit {0}
-IsOpeningFault Version = Unit {0}
-IsOpeningFault LinkType = Unit {0}
-IsOpeningFault Cut = Unit {0}
-IsOpeningFault Read = Unit {0}
-IsOpeningFault fault = ⊥
+abbrev pub IsClassicOpeningFault : Fault → Type 0
+IsClassicOpeningFault NotPcap = Unit {0}
+IsClassicOpeningFault Version = Unit {0}
+IsClassicOpeningFault LinkType = Unit {0}
+IsClassicOpeningFault Cut = Unit {0}
+IsClassicOpeningFault Read = Unit {0}
+IsClassicOpeningFault fault = ⊥
 
 -- the faults that reading a record answers
-abbrev pub IsRecordFault : Fault → Type 0
-IsRecordFault Memory = Unit {0}
-IsRecordFault Cut = Unit {0}
-IsRecordFault LongRecord = Unit {0}
-IsRecordFault Read = Unit {0}
-IsRecordFault fault = ⊥
+abbrev pub IsClassicRecordFault : Fault → Type 0
+IsClassicRecordFault Memory = Unit {0}
+IsClassicRecordFault Cut = Unit {0}
+IsClassicRecordFault LongRecord = Unit {0}
+IsClassicRecordFault Read = Unit {0}
+IsClassicRecordFault fault = ⊥
 
 -- The header of a record of some bytes, and of no more than a record may have: what memory is asked for.
-abbrev pub WantsMemory : ByteOrder → List ℕ → Type 0
-WantsMemory order header = (length header ≡ 16) × (0 < captured_len order header) × (captured_len order header ≤ longest_record)
+abbrev pub ClassicWantsMemory : ByteOrder → List ℕ → Type 0
+ClassicWantsMemory order header = (length header ≡ 16) × (0 < classic_captured_len order header) × (classic_captured_len order header ≤ longest_record)
 
 -- The file header has this fault. A failed read shows in no byte.
 abbrev pub HeaderShows : Option Fault → Fault → Type 0
@@ -79,34 +79,34 @@ TakenHeaderShows found fault = found ≡ Some fault
 -- `Ok` took a file header: whatever follows it, the capture's records are the records of what follows. A fault is
 -- that of the file header, in all the bytes and in those that were taken. Nothing was taken behind it: each
 -- shorter front of a header is cut.
-abbrev pub Opens : Option (List ℕ) → Option (List ℕ) → Result ClassicReading Fault → Type 0
-Opens old new (Ok capture) =
-    (capture.fault ≡ None) × Took old new (λ taken. (rest : List ℕ) → records_of (taken ++ rest) ≡ records_in capture.order rest)
+abbrev pub OpensClassic : Option (List ℕ) → Option (List ℕ) → Result ClassicReading Fault → Type 0
+OpensClassic old new (Ok capture) =
+    (capture.fault ≡ None) × Took old new (λ taken. (rest : List ℕ) → classic_records_of (taken ++ rest) ≡ records_in capture.order rest)
     × Took old new (OfFronts (λ front. header_fault front ≡ Some Cut))
-Opens old new (Err fault) =
-    IsOpeningFault fault × IfSome old (λ all. HeaderShows (header_fault all) fault)
+OpensClassic old new (Err fault) =
+    IsClassicOpeningFault fault × IfSome old (λ all. HeaderShows (header_fault all) fault)
     × Took old new (λ taken. TakenHeaderShows (header_fault taken) fault)
     × (IsOutOfForm fault → Took old new (OfFronts (λ front. header_fault front ≡ Some Cut)))
 
 -- The same where the first bytes were taken before.
 abbrev pub OpensBehind : List ℕ → Option (List ℕ) → Option (List ℕ) → Result ClassicReading Fault → Type 0
 OpensBehind first old new (Ok capture) =
-    (capture.fault ≡ None) × Took old new (λ taken. (rest : List ℕ) → records_of ((first ++ taken) ++ rest) ≡ records_in capture.order rest)
+    (capture.fault ≡ None) × Took old new (λ taken. (rest : List ℕ) → classic_records_of ((first ++ taken) ++ rest) ≡ records_in capture.order rest)
     × Took old new (OfFronts (λ front. header_fault (first ++ front) ≡ Some Cut))
 OpensBehind first old new (Err fault) =
-    IsOpeningFault fault × IfSome old (λ all. HeaderShows (header_fault (first ++ all)) fault)
+    IsClassicOpeningFault fault × IfSome old (λ all. HeaderShows (header_fault (first ++ all)) fault)
     × Took old new (λ taken. TakenHeaderShows (header_fault (first ++ taken)) fault)
     × (IsOutOfForm fault → Took old new (OfFronts (λ front. header_fault (first ++ front) ≡ Some Cut)))
 
 -- `Ok(Some(_))` took one record and no more: whatever follows it, the first record is this frame, and the others are
 -- those of what follows. `Ok(None)` is the end. A fault is that of all the bytes, and those that were taken show it. Nothing
 -- was taken behind the record, nor behind a header that is out of form: each shorter front breaks off.
-abbrev pub Gives : ByteOrder → Option (List ℕ) → Option (List ℕ) → List ℕ → Result (Option Record) Fault → Type 0
-Gives order old new frame (Ok (Some found)) =
+abbrev pub GivesClassic : ByteOrder → Option (List ℕ) → Option (List ℕ) → List ℕ → Result (Option Record) Fault → Type 0
+GivesClassic order old new frame (Ok (Some found)) =
     (found.captured ≡ length frame) × Took old new
     (λ taken. (rest : List ℕ) → records_in order (taken ++ rest) ≡ with_record frame found.original (records_in order rest))
     × Took old new (OfFronts (λ front. BrokeOff (records_in order front)))
-Gives order old new frame (Ok None) = IsAtEnd old × Keeps old new
-Gives order old new frame (Err fault) =
-    IsRecordFault fault × IfSome old (λ all. ShowsFault (records_in order all) fault) × Took old new (λ taken. TakenShows (records_in order taken) fault)
+GivesClassic order old new frame (Ok None) = IsAtEnd old × Keeps old new
+GivesClassic order old new frame (Err fault) =
+    IsClassicRecordFault fault × IfSome old (λ all. ShowsFault (records_in order all) fault) × Took old new (λ taken. TakenShows (records_in order taken) fault)
     × (IsOutOfForm fault → Took old new (OfFronts (λ front. BrokeOff (records_in order front))))

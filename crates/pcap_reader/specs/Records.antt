@@ -30,25 +30,25 @@ with_record frame original others = record { all = record { frame = frame; origi
 
 -- ---- records
 
-abbrev pub captured_len : ByteOrder → List ℕ → ℕ
-captured_len order bytes = number order 4 (drop 8 bytes)
+abbrev pub classic_captured_len : ByteOrder → List ℕ → ℕ
+classic_captured_len order bytes = number order 4 (drop 8 bytes)
 
-abbrev pub original_len : ByteOrder → List ℕ → ℕ
-original_len order bytes = number order 4 (drop 12 bytes)
+abbrev pub classic_original_len : ByteOrder → List ℕ → ℕ
+classic_original_len order bytes = number order 4 (drop 12 bytes)
 
 -- what is wrong with the record that begins here, of at least one byte
 abbrev pub record_fault : ByteOrder → List ℕ → Option Fault
 record_fault order bytes =
     if nat_lt (length bytes) 16 then Some Cut
-    else if nat_lt longest_record (captured_len order bytes) then Some LongRecord
-    else if nat_lt (length bytes) (16 + captured_len order bytes) then Some Cut
+    else if nat_lt longest_record (classic_captured_len order bytes) then Some LongRecord
+    else if nat_lt (length bytes) (16 + classic_captured_len order bytes) then Some Cut
     else None
 
 -- the fault, or else the record that begins here and the others
 abbrev pub after_record : Option Fault → ByteOrder → List ℕ → Records → Records
 after_record (Some fault) order bytes others = no_record (Some fault)
 after_record None order bytes others =
-    with_record (take (captured_len order bytes) (drop 16 bytes)) (original_len order bytes) others
+    with_record (take (classic_captured_len order bytes) (drop 16 bytes)) (classic_original_len order bytes) others
 
 -- the records behind the next so many bytes
 unfoldable pub records_behind : ByteOrder → ℕ → List ℕ → Records
@@ -56,7 +56,7 @@ records_behind order skip [] = no_record None
 records_behind order (suc skip) (byte ∷ bytes) = records_behind order skip bytes
 records_behind order zero (byte ∷ bytes) =
     after_record (record_fault order (byte ∷ bytes)) order (byte ∷ bytes)
-    (records_behind order (15 + captured_len order (byte ∷ bytes)) bytes)
+    (records_behind order (15 + classic_captured_len order (byte ∷ bytes)) bytes)
 
 -- the records of the bytes behind a file header
 unfoldable pub records_in : ByteOrder → List ℕ → Records
@@ -81,13 +81,13 @@ fields_fault order bytes =
     else if not (number order 4 (drop 20 bytes) % 65536 == 1) then Some LinkType
     else None
 
-abbrev pub fault_behind : Option ByteOrder → List ℕ → Option Fault
-fault_behind None bytes = Some NotPcap
-fault_behind (Some order) bytes = fields_fault order bytes
+abbrev pub classic_fault_behind : Option ByteOrder → List ℕ → Option Fault
+classic_fault_behind None bytes = Some NotPcap
+classic_fault_behind (Some order) bytes = fields_fault order bytes
 
 -- what is wrong with the file header at the begin of these bytes; no byte behind it counts
 abbrev pub header_fault : List ℕ → Option Fault
-header_fault bytes = if nat_lt (length bytes) 4 then Some Cut else fault_behind (order_of bytes) bytes
+header_fault bytes = if nat_lt (length bytes) 4 then Some Cut else classic_fault_behind (order_of bytes) bytes
 
 -- the fault, or else the records
 abbrev pub after_header : Option Fault → ByteOrder → List ℕ → Records
@@ -99,5 +99,5 @@ behind_magic None bytes = no_record (Some NotPcap)
 behind_magic (Some order) bytes = after_header (fields_fault order bytes) order bytes
 
 -- the records of a capture
-unfoldable pub records_of : List ℕ → Records
-records_of bytes = if nat_lt (length bytes) 4 then no_record (Some Cut) else behind_magic (order_of bytes) bytes
+unfoldable pub classic_records_of : List ℕ → Records
+classic_records_of bytes = if nat_lt (length bytes) 4 then no_record (Some Cut) else behind_magic (order_of bytes) bytes

@@ -1,7 +1,7 @@
 ghost use Rattle.std.specs.Prelude.{◌≡◌, ◌≤◌, None, Some, IfOk, IfSome, IsErrOf, MatchResult};
 ghost use Rattle.zr_kinds.specs.{Limits.{longest_record}, declared.fault.Fault.TheVariants.{Memory}};
 ghost use Rattle.zr_io.specs.Moved.{Took};
-ghost use Rattle.pcap_reader.specs.Capture.{Opens, OpensBehind, Gives, HasReadCause, WantsMemory};
+ghost use Rattle.pcap_reader.specs.Capture.{OpensClassic, OpensBehind, GivesClassic, HasReadCause, ClassicWantsMemory};
 
 use crate::filling::fill_whole;
 use crate::header::{order_of, read_fields};
@@ -38,7 +38,7 @@ impl Model for Capture {
 impl Capture {
     /// Reads the file header of 24 bytes, for which no memory is needed.
     pub fn open<S: Source>(source: &mut S) -> Result<Capture, Fault>
-        ensures opens { Opens (S.left source.old) (S.left source.new) result }
+        ensures opens { OpensClassic (S.left source.old) (S.left source.new) result }
         ensures cause { HasReadCause (S.faults source.old) (S.faults source.new) result }
     {
         let mut first = [0; 4];
@@ -63,13 +63,14 @@ impl Capture {
         into: &mut Vec<u8>,
     ) -> Result<Option<Record>, Fault>
         ensures gives { self.old.fault ≡ None →
-            Gives self.old.order (S.left source.old) (S.left source.new) into.new.items result }
+            GivesClassic self.old.order (S.left source.old) (S.left source.new) into.new.items
+            result }
         ensures cause { self.old.fault ≡ None →
             HasReadCause (S.faults source.old) (S.faults source.new) result }
 
         // Memory is asked for once a header was read and its captured length is none too long.
         ensures memory { self.old.fault ≡ None → IsErrOf result Memory →
-            Took (S.left source.old) (S.left source.new) (WantsMemory self.old.order) }
+            Took (S.left source.old) (S.left source.new) (ClassicWantsMemory self.old.order) }
 
         // No record states more captured bytes than a record may have.
         ensures most { IfOk result (λ found. IfSome found (λ one. one.captured ≤ longest_record)) }
@@ -97,10 +98,11 @@ fn read_next<S: Source>(
     order: ByteOrder,
     into: &mut Vec<u8>,
 ) -> Result<Option<Record>, Fault>
-    ensures gives { Gives order (S.left source.old) (S.left source.new) into.new.items result }
+    ensures gives { GivesClassic order (S.left source.old) (S.left source.new) into.new.items
+        result }
     ensures cause { HasReadCause (S.faults source.old) (S.faults source.new) result }
     ensures memory { IsErrOf result Memory →
-        Took (S.left source.old) (S.left source.new) (WantsMemory order) }
+        Took (S.left source.old) (S.left source.new) (ClassicWantsMemory order) }
     ensures most { IfOk result (λ found. IfSome found (λ one. one.captured ≤ longest_record)) }
 {
     let Some(record) = read_record(source, order)? else {

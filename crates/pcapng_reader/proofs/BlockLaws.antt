@@ -6,7 +6,7 @@ use Rattle.zr_kinds.specs.declared.fault.Fault.{Fault, TheVariants.{Cut, BadBloc
 use Rattle.pcap_reader.specs.{declared.order.ByteOrder.{ByteOrder, TheVariants.{Little, Big}}, Records.{number, Records, no_record}}
 use Rattle.pcap_reader.proofs.RecordLaws.{number-append, number_at-append}
 use Rattle.pcapng_reader.specs.declared.kind.Kind.TheVariants.{SectionHeader, InterfaceDescription, EnhancedPacket, SimplePacket, Other}
-use Rattle.pcapng_reader.specs.Blocks.{Section, Kind, is_section_header, kind_of, begin_len, fixed_len, order_told, order_in, total_len, is_too_many, misfits}
+use Rattle.pcapng_reader.specs.Blocks.{Section, Kind, is_section_header, block_kind_of, begin_len, fixed_len, order_told, order_in, total_len, is_too_many, misfits}
 use Rattle.pcapng_reader.specs.Blocks.{fixed_fault, end_fault, or_else, fault_behind, kind_fault, block_fault, section_behind, with_block, after_block}
 use Rattle.pcapng_reader.specs.{Blocks.{blocks_behind, blocks_in}, Steps.{IsBegun, MayCome}}
 
@@ -19,7 +19,7 @@ section_header-append (a ∷ b ∷ []) rest long = absurd (omega arith)
 section_header-append (a ∷ b ∷ c ∷ []) rest long = absurd (omega arith)
 section_header-append (a ∷ b ∷ c ∷ d ∷ xs) rest long = refl
 
-pub kind-append : (order : ByteOrder) (xs rest : List ℕ) → 4 ≤ length xs → kind_of order (xs ++ rest) ≡ kind_of order xs
+pub kind-append : (order : ByteOrder) (xs rest : List ℕ) → 4 ≤ length xs → block_kind_of order (xs ++ rest) ≡ block_kind_of order xs
 kind-append order xs rest long = rw (section_header-append xs rest long, number-append order 4 xs rest long) refl
 
 pub order-append : (s : Section) (kind : Kind) (xs rest : List ℕ) → begin_len kind ≤ length xs → order_told s kind (xs ++ rest) ≡ order_told s kind xs
@@ -117,7 +117,7 @@ section_behind-append s Other xs rest long = refl
 -- ---- what is wrong with a block
 
 -- too few bytes to tell the order and the total length
-pub fault-begin : (s : Section) (kind : Kind) (bytes : List ℕ) → kind_of s.order bytes ≡ kind → length bytes < begin_len kind
+pub fault-begin : (s : Section) (kind : Kind) (bytes : List ℕ) → block_kind_of s.order bytes ≡ kind → length bytes < begin_len kind
     → block_fault s bytes ≡ Some Cut
 unfolding block_fault
 fault-begin s kind bytes is short =
@@ -125,10 +125,10 @@ fault-begin s kind bytes is short =
 
 pub fault-start : (s : Section) (bytes : List ℕ) → length bytes < 8 → block_fault s bytes ≡ Some Cut
 fault-start s bytes short =
-    let least = eight (kind_of s.order bytes) in
-    fault-begin s (kind_of s.order bytes) bytes refl (omega arith)
+    let least = eight (block_kind_of s.order bytes) in
+    fault-begin s (block_kind_of s.order bytes) bytes refl (omega arith)
 
-by_order : (s : Section) (kind : Kind) (bytes : List ℕ) (told : Option ByteOrder) → kind_of s.order bytes ≡ kind → begin_len kind ≤ length bytes
+by_order : (s : Section) (kind : Kind) (bytes : List ℕ) (told : Option ByteOrder) → block_kind_of s.order bytes ≡ kind → begin_len kind ≤ length bytes
     → order_told s kind bytes ≡ told
     → block_fault s bytes ≡ fault_behind s kind told bytes
 unfolding block_fault
@@ -138,7 +138,7 @@ by_order s kind bytes told is long tells =
     ∙ ap (λ (o : Option ByteOrder). fault_behind s kind o bytes) tells
 
 -- a magic of neither order
-pub fault-magic : (s : Section) (kind : Kind) (bytes : List ℕ) → kind_of s.order bytes ≡ kind → begin_len kind ≤ length bytes
+pub fault-magic : (s : Section) (kind : Kind) (bytes : List ℕ) → block_kind_of s.order bytes ≡ kind → begin_len kind ≤ length bytes
     → order_told s kind bytes ≡ None
     → block_fault s bytes ≡ Some BadBlock
 fault-magic s kind bytes is long tells = by_order s kind bytes None is long tells
@@ -255,20 +255,20 @@ pub blocks_in-fault : (s : Section) (bytes : List ℕ) (fault : Fault) → 0 < l
 unfolding blocks_in blocks_behind
 blocks_in-fault s [] fault some e = absurd (omega arith)
 blocks_in-fault s (byte ∷ bytes) fault some e =
-    let kind = kind_of s.order (byte ∷ bytes) in
+    let kind = block_kind_of s.order (byte ∷ bytes) in
     ap (λ (f : Option Fault). after_block f s kind (byte ∷ bytes)
     (blocks_behind (section_behind s kind (byte ∷ bytes)) (total_len (order_in s kind (byte ∷ bytes)) (byte ∷ bytes) - 1) bytes)) e
 
 -- a block without a fault
 blocks_in-step : (s now : Section) (kind : Kind) (order : ByteOrder) (skip byte : ℕ) (bytes : List ℕ) → block_fault s (byte ∷ bytes) ≡ None
-    → kind_of s.order (byte ∷ bytes) ≡ kind → section_behind s kind (byte ∷ bytes) ≡ now → order_told s kind (byte ∷ bytes) ≡ Some order
+    → block_kind_of s.order (byte ∷ bytes) ≡ kind → section_behind s kind (byte ∷ bytes) ≡ now → order_told s kind (byte ∷ bytes) ≡ Some order
     → total_len order (byte ∷ bytes) - 1 ≡ skip
     → blocks_in s (byte ∷ bytes) ≡ with_block s kind (byte ∷ bytes) (blocks_behind now skip bytes)
 unfolding blocks_in blocks_behind
 blocks_in-step s now kind order skip byte bytes good is behind tells total =
     let all = byte ∷ bytes in
-    ap (λ (f : Option Fault). after_block f s (kind_of s.order all) all
-    (blocks_behind (section_behind s (kind_of s.order all) all) (total_len (order_in s (kind_of s.order all) all) all - 1) bytes)) good
+    ap (λ (f : Option Fault). after_block f s (block_kind_of s.order all) all
+    (blocks_behind (section_behind s (block_kind_of s.order all) all) (total_len (order_in s (block_kind_of s.order all) all) all - 1) bytes)) good
     ∙ ap (λ (k : Kind). with_block s k all (blocks_behind (section_behind s k all) (total_len (order_in s k all) all - 1) bytes)) is
     ∙ ap (λ (n : Section). with_block s kind all (blocks_behind n (total_len (order_in s kind all) all - 1) bytes)) behind
     ∙ ap (λ (o : Option ByteOrder). with_block s kind all (blocks_behind now (total_len (unwrap_or o s.order) all - 1) bytes)) tells

@@ -3,7 +3,7 @@ use Rattle.std.proofs.Common.{◌≡◌, ◌≢◌, ℕ, ◌+◌, ◌<◌, List,
 use Rattle.std.proofs.Common.{ap, ◌∙◌, subst, arith, append-nil, append_assoc, length-append}
 use Rattle.zr_kinds.specs.declared.fault.Fault.{Fault, TheVariants.{Memory, Version, LinkType, Cut, LongRecord, Read, BadBlock}}
 use Rattle.zr_io.{specs.Moved.{Took}, proofs.Moved.{Took-nothing, Took-then, Took-weaker}}
-use Rattle.pcap_reader.specs.{declared.order.ByteOrder.{ByteOrder}, Records.{number}, Steps.{BreaksOff}, Capture.{OfFronts}}
+use Rattle.pcap_reader.specs.{declared.order.ByteOrder.{ByteOrder}, Records.{number}, Steps.{StepBreaksOff}, Capture.{OfFronts}}
 use Rattle.pcap_reader.proofs.Joined.{always, all_weaker, all_then, Keeps-same, no-fronts, fronts-short, fronts-weaker, Took-fronts}
 use Rattle.pcapng_reader.specs.{Blocks.{Section, Kind, fixed_len, fixed_fault, block_fault}, Capture.{IsRecordFault}}
 use Rattle.pcapng_reader.specs.Steps.{BlockShows, TakenBlockShows, BlockStops, IsBegun, MayCome, TakesEnd, fault_from, IsHeaderFault, IsInterfaceFault}
@@ -11,13 +11,13 @@ use Rattle.pcapng_reader.{specs.Steps.{IsPacketFault, IsCutBefore}, proofs.Block
 
 -- a later part broke off
 pub breaks-then : (a b c : Option (List ℕ)) (P Q R : List ℕ → Type 0) (fault : Fault) → ((xs ys : List ℕ) → P xs → Q ys → R (xs ++ ys)) → Took a b P
-    → BreaksOff b c Q fault → BreaksOff a c R fault
+    → StepBreaksOff b c Q fault → StepBreaksOff a c R fault
 breaks-then a b c P Q R Read join took broke = Took-then a b c P Q R join took broke
 breaks-then a b c P Q R Cut join took broke = (all_then a b P Q R join took broke.0, Took-then a b c P Q R join took broke.1)
 breaks-then a b c P Q R _ join took broke = absurd broke
 
-pub breaks-weaker : (a b : Option (List ℕ)) (P Q : List ℕ → Type 0) (fault : Fault) → ((xs : List ℕ) → P xs → Q xs) → BreaksOff a b P fault
-    → BreaksOff a b Q fault
+pub breaks-weaker : (a b : Option (List ℕ)) (P Q : List ℕ → Type 0) (fault : Fault) → ((xs : List ℕ) → P xs → Q xs) → StepBreaksOff a b P fault
+    → StepBreaksOff a b Q fault
 breaks-weaker a b P Q Read weaken broke = Took-weaker a b P Q weaken broke
 breaks-weaker a b P Q Cut weaken broke = (all_weaker a P Q weaken broke.0, Took-weaker a b P Q weaken broke.1)
 breaks-weaker a b P Q _ weaken broke = absurd broke
@@ -27,7 +27,7 @@ breaks-weaker a b P Q _ weaken broke = absurd broke
 module _ (Comes : Fault → Type 0) (fault_in : List ℕ → Option Fault) where
   -- what is wanted broke off
   pub stops-broken : (a b : Option (List ℕ)) (P : List ℕ → Type 0) (fault : Fault) → Comes Read → Comes Cut
-      → ((xs : List ℕ) → P xs → fault_in xs ≡ Some Cut) → BreaksOff a b P fault → BlockStops Comes fault_in a b fault
+      → ((xs : List ℕ) → P xs → fault_in xs ≡ Some Cut) → StepBreaksOff a b P fault → BlockStops Comes fault_in a b fault
   stops-broken a b P Read read cut shows broke = (read, always a, Took-weaker a b P _ shows broke, λ is. absurd is)
   stops-broken a b P Cut read cut shows broke = (cut, all_weaker a P _ shows broke.0, Took-weaker a b P _ shows broke.1, λ is. absurd is)
   stops-broken a b P _ read cut shows broke = absurd broke

@@ -7,7 +7,7 @@ use Rattle.zr_kinds.specs.{Limits.{longest_record}, declared.fault.Fault.{Fault,
 use Rattle.pcap_reader.specs.{declared.order.ByteOrder.{ByteOrder}, Records.{number, Records, with_record}}
 use Rattle.pcap_reader.specs.Records as classic_form
 use Rattle.pcapng_reader.specs.declared.kind.Kind.TheVariants.{SectionHeader, InterfaceDescription, EnhancedPacket, SimplePacket, Other}
-use Rattle.pcapng_reader.specs.Blocks.{Section, Kind, Interface, is_section_header, kind_of, begin_len, fixed_len, is_packet, order_told, total_len}
+use Rattle.pcapng_reader.specs.Blocks.{Section, Kind, Interface, is_section_header, block_kind_of, begin_len, fixed_len, is_packet, order_told, total_len}
 use Rattle.pcapng_reader.specs.Blocks.{is_too_many, misfits, padded, packet_fault, interface_of, captured_len, original_len, fixed_fault, end_fault, or_else}
 use Rattle.pcapng_reader.specs.{Blocks.{fault_behind, block_fault, section_behind, blocks_in, no_section}, Records.{records_of}, Steps.{IsBegun, MayCome}}
 use Rattle.pcapng_reader.proofs.BlockLaws.{section_header-append, begins_within, begun-front, fault-begin, fault-magic, fault-refused, fault-short}
@@ -51,7 +51,7 @@ behind-kind s kind (Some order) bytes =
 block-kind : (s : Section) (bytes : List ℕ) → NotMany (block_fault s bytes)
 unfolding block_fault
 block-kind s bytes =
-    let kind = kind_of s.order bytes in
+    let kind = block_kind_of s.order bytes in
     cond_both (nat_lt (length bytes) (begin_len kind)) _ _ NotMany (λ _. λ e. cc) (λ _. behind-kind s kind (order_told s kind bytes) bytes)
 
 -- ---- a whole block
@@ -173,19 +173,19 @@ by_kind s InterfaceDescription order total head more whole h may good none =
 by_kind s Other order total head more whole h may good none = other_block s Other order total head more whole h may good none refl
 
 module _ (s : Section) (bytes : List ℕ) (none : block_fault s bytes ≡ None) where
-  long_begin : begin_len (kind_of s.order bytes) ≤ length bytes
+  long_begin : begin_len (block_kind_of s.order bytes) ≤ length bytes
   long_begin = ⊎_elim
-      (λ (short : length bytes < begin_len (kind_of s.order bytes)). absurd
-      (let cut = fault-begin s (kind_of s.order bytes) bytes refl short in cc))
-      (λ (long : begin_len (kind_of s.order bytes) ≤ length bytes). long)
-      (cases_lt (length bytes) (begin_len (kind_of s.order bytes)))
+      (λ (short : length bytes < begin_len (block_kind_of s.order bytes)). absurd
+      (let cut = fault-begin s (block_kind_of s.order bytes) bytes refl short in cc))
+      (λ (long : begin_len (block_kind_of s.order bytes) ≤ length bytes). long)
+      (cases_lt (length bytes) (begin_len (block_kind_of s.order bytes)))
 
-  by_fixed : (order : ByteOrder) → IsBegun s (kind_of s.order bytes) order (total_len order bytes) bytes
-      → MayCome s (kind_of s.order bytes) (total_len order bytes) → fixed_len (kind_of s.order bytes) ≤ length bytes
-      → (found : Option Fault) → fixed_fault s (kind_of s.order bytes) order (take (fixed_len (kind_of s.order bytes)) bytes) ≡ found
+  by_fixed : (order : ByteOrder) → IsBegun s (block_kind_of s.order bytes) order (total_len order bytes) bytes
+      → MayCome s (block_kind_of s.order bytes) (total_len order bytes) → fixed_len (block_kind_of s.order bytes) ≤ length bytes
+      → (found : Option Fault) → fixed_fault s (block_kind_of s.order bytes) order (take (fixed_len (block_kind_of s.order bytes)) bytes) ≡ found
       → WholeBlock s bytes
   by_fixed order h may long found is =
-      let kind = kind_of s.order bytes in
+      let kind = block_kind_of s.order bytes in
       let total = total_len order bytes in
       let head = take (fixed_len kind) bytes in
       let more = drop (fixed_len kind) bytes in
@@ -205,11 +205,11 @@ module _ (s : Section) (bytes : List ℕ) (none : block_fault s bytes ≡ None) 
       judged kind order total head more whole begun may (Some fault) is none_here =
           absurd (let wrong = head-fault s kind order total head whole begun may fault is more in cc)
 
-  by_refusal : (order : ByteOrder) → IsBegun s (kind_of s.order bytes) order (total_len order bytes) bytes → (refused : Bool)
-      → (is_too_many s (kind_of s.order bytes) || misfits (kind_of s.order bytes) (total_len order bytes)) ≡ refused → WholeBlock s bytes
-  by_refusal order h true is = absurd (let bad = fault-refused s (kind_of s.order bytes) order (total_len order bytes) bytes h is in cc)
+  by_refusal : (order : ByteOrder) → IsBegun s (block_kind_of s.order bytes) order (total_len order bytes) bytes → (refused : Bool)
+      → (is_too_many s (block_kind_of s.order bytes) || misfits (block_kind_of s.order bytes) (total_len order bytes)) ≡ refused → WholeBlock s bytes
+  by_refusal order h true is = absurd (let bad = fault-refused s (block_kind_of s.order bytes) order (total_len order bytes) bytes h is in cc)
   by_refusal order h false is =
-      let kind = kind_of s.order bytes in
+      let kind = block_kind_of s.order bytes in
       let total = total_len order bytes in
       let may = may_come s kind total false (sym is) refl in
       ⊎_elim
@@ -217,14 +217,14 @@ module _ (s : Section) (bytes : List ℕ) (none : block_fault s bytes ≡ None) 
       (λ (long : fixed_len kind ≤ length bytes). by_fixed order h may long (fixed_fault s kind order (take (fixed_len kind) bytes)) refl)
       (cases_lt (length bytes) (fixed_len kind))
 
-  by_order : (told : Option ByteOrder) → order_told s (kind_of s.order bytes) bytes ≡ told → WholeBlock s bytes
-  by_order None tells = absurd (let bad = fault-magic s (kind_of s.order bytes) bytes refl long_begin tells in cc)
+  by_order : (told : Option ByteOrder) → order_told s (block_kind_of s.order bytes) bytes ≡ told → WholeBlock s bytes
+  by_order None tells = absurd (let bad = fault-magic s (block_kind_of s.order bytes) bytes refl long_begin tells in cc)
   by_order (Some order) tells = by_refusal order (record { long = long_begin; is = refl; tells = tells; states = refl })
-      (is_too_many s (kind_of s.order bytes) || misfits (kind_of s.order bytes) (total_len order bytes)) refl
+      (is_too_many s (block_kind_of s.order bytes) || misfits (block_kind_of s.order bytes) (total_len order bytes)) refl
 
   -- a block without a fault is whole
   whole_block : WholeBlock s bytes
-  whole_block = by_order (order_told s (kind_of s.order bytes) bytes) refl
+  whole_block = by_order (order_told s (block_kind_of s.order bytes) bytes) refl
 
 -- ---- more bytes
 
@@ -265,7 +265,7 @@ blocks-form : (bytes : List ℕ) → is_section_header bytes ≡ true → record
 unfolding records_of
 blocks-form bytes is = cond-true (is_section_header bytes) _ _ is
 
-classic-form : (bytes : List ℕ) → is_section_header bytes ≡ false → records_of bytes ≡ classic_form.records_of bytes
+classic-form : (bytes : List ℕ) → is_section_header bytes ≡ false → records_of bytes ≡ classic_form.classic_records_of bytes
 unfolding records_of
 classic-form bytes is = cond-false (is_section_header bytes) _ _ is
 

@@ -5,8 +5,8 @@ use Rattle.std.proofs.{Common.{append_assoc, length-append, length-drop, lt-ltb,
 use Rattle.std.{proofs.lemmas.List.{drop-append-le, length-take-le, take-append-drop, take-append-le}, specs.List.{starts_with}}
 use Rattle.zr_kinds.specs.{Limits.{longest_record}, declared.fault.Fault.{Fault, TheVariants.{Cut, LinkType, LongRecord, NotPcap, TooManyFlows, Version}}}
 use Rattle.pcap_reader.specs.declared.order.ByteOrder.{ByteOrder}
-use Rattle.pcap_reader.specs.Records.{Captured, Records, after_header, behind_magic, captured_len, fields_fault, no_record, number, order_of}
-use Rattle.pcap_reader.specs.Records.{original_len, records_in, records_of, with_record}
+use Rattle.pcap_reader.specs.Records.{Captured, Records, after_header, behind_magic, classic_captured_len, fields_fault, no_record, number, order_of}
+use Rattle.pcap_reader.specs.Records.{classic_original_len, records_in, classic_records_of, with_record}
 use Rattle.pcap_reader.proofs.RecordLaws.{number_at-append, records_in-bodiless, records_in-headless, records_in-long, records_in-none, records_in-whole}
 use Rattle.pcap_reader.proofs.HeaderLaws.{order-same as order-alike}
 
@@ -40,24 +40,24 @@ behind-header : (order : ByteOrder) (header body rest : List ℕ) → length hea
     → ((tail : List ℕ) → length tail ≤ length body → GoOn (records_in order tail) (records_in order (tail ++ rest)))
     → GoOn (records_in order (header ++ body)) (records_in order ((header ++ body) ++ rest))
 behind-header order header body rest whole go = ⊎_elim
-    (λ (long : longest_record < captured_len order header). no-first (Some LongRecord) _ _ (records_in-long order header body whole long) (λ e. cc))
-    (λ (fits : captured_len order header ≤ longest_record). ⊎_elim
-    (λ (short : length body < captured_len order header). no-first (Some Cut) _ _ (records_in-bodiless order header body whole fits short) (λ e. cc))
-    (λ (enough : captured_len order header ≤ length body).
-    let n : ℕ = captured_len order header in
+    (λ (long : longest_record < classic_captured_len order header). no-first (Some LongRecord) _ _ (records_in-long order header body whole long) (λ e. cc))
+    (λ (fits : classic_captured_len order header ≤ longest_record). ⊎_elim
+    (λ (short : length body < classic_captured_len order header). no-first (Some Cut) _ _ (records_in-bodiless order header body whole fits short) (λ e. cc))
+    (λ (enough : classic_captured_len order header ≤ length body).
+    let n : ℕ = classic_captured_len order header in
     let frame : List ℕ = take n body in
     let tail : List ℕ = drop n body in
-    let size : captured_len order header ≡ length frame = sym (length-take-le n body enough) in
+    let size : classic_captured_len order header ≡ length frame = sym (length-take-le n body enough) in
     let parts : header ++ body ≡ (header ++ frame) ++ tail =
     ap (λ l. header ++ l) (sym (take-append-drop n body)) ∙ sym (append_assoc header frame tail) in
     let later : (header ++ body) ++ rest ≡ (header ++ frame) ++ (tail ++ rest) =
     ap (λ l. l ++ rest) parts ∙ append_assoc (header ++ frame) tail rest in
-    one-first frame (original_len order header) _ _ (records_in order tail) (records_in order (tail ++ rest))
+    one-first frame (classic_original_len order header) _ _ (records_in order tail) (records_in order (tail ++ rest))
     (ap (records_in order) parts ∙ records_in-whole order header frame tail whole size (omega (arith, size, fits)))
     (ap (records_in order) later ∙ records_in-whole order header frame (tail ++ rest) whole size (omega (arith, size, fits)))
     (go tail (omega (arith, length-drop n body))))
-    (cases_lt (length body) (captured_len order header)))
-    (cases_lt longest_record (captured_len order header))
+    (cases_lt (length body) (classic_captured_len order header)))
+    (cases_lt longest_record (classic_captured_len order header))
 
 records-go : (order : ByteOrder) (n : ℕ) (bytes rest : List ℕ) → length bytes ≤ n → GoOn (records_in order bytes) (records_in order (bytes ++ rest))
 records-go order n [] rest few = no-first None _ _ (records_in-none order) (λ e. cc)
@@ -133,22 +133,22 @@ short-magic (Some order) bytes later short =
     let cut : fields_fault order bytes ≡ Some Cut = cond-true (nat_lt (length bytes) 24) _ _ (lt-ltb (length bytes) 24 short) in
     no-first (Some Cut) _ _ (ap (λ found. after_header found order bytes) cut) (λ e. cc)
 
-by-order : (bytes : List ℕ) → 4 ≤ length bytes → records_of bytes ≡ behind_magic (order_of bytes) bytes
-unfolding records_of
+by-order : (bytes : List ℕ) → 4 ≤ length bytes → classic_records_of bytes ≡ behind_magic (order_of bytes) bytes
+unfolding classic_records_of
 by-order bytes enough = cond-false (nat_lt (length bytes) 4) _ _ (le-ltb (length bytes) 4 enough)
 
-few-bytes : (bytes : List ℕ) → length bytes < 4 → records_of bytes ≡ no_record (Some Cut)
-unfolding records_of
+few-bytes : (bytes : List ℕ) → length bytes < 4 → classic_records_of bytes ≡ no_record (Some Cut)
+unfolding classic_records_of
 few-bytes bytes few = cond-true (nat_lt (length bytes) 4) _ _ (lt-ltb (length bytes) 4 few)
 
-pub classic-goes : (bytes rest : List ℕ) → GoOn (records_of bytes) (records_of (bytes ++ rest))
+pub classic-goes : (bytes rest : List ℕ) → GoOn (classic_records_of bytes) (classic_records_of (bytes ++ rest))
 classic-goes bytes rest = ⊎_elim
     (λ (few : length bytes < 4). no-first (Some Cut) _ _ (few-bytes bytes few) (λ e. cc))
     (λ (enough : 4 ≤ length bytes).
-    subst (λ first. GoOn first (records_of (bytes ++ rest))) (sym (by-order bytes enough)) (⊎_elim
-    (λ (short : length bytes < 24). short-magic (order_of bytes) bytes (records_of (bytes ++ rest)) short)
+    subst (λ first. GoOn first (classic_records_of (bytes ++ rest))) (sym (by-order bytes enough)) (⊎_elim
+    (λ (short : length bytes < 24). short-magic (order_of bytes) bytes (classic_records_of (bytes ++ rest)) short)
     (λ (whole : 24 ≤ length bytes).
-    let later : records_of (bytes ++ rest) ≡ behind_magic (order_of bytes) (bytes ++ rest) =
+    let later : classic_records_of (bytes ++ rest) ≡ behind_magic (order_of bytes) (bytes ++ rest) =
     by-order (bytes ++ rest) (omega (arith, enough, length-append bytes rest))
     ∙ ap (λ told. behind_magic told (bytes ++ rest)) (order-same bytes rest enough) in
     subst (λ all. GoOn (behind_magic (order_of bytes) bytes) all) (sym later) (magic-go (order_of bytes) bytes rest whole))

@@ -2,7 +2,7 @@
 use Rattle.std.{proofs.Common.{◌≡◌, ℕ, ◌<◌, Bool, true, false, List, ◌++◌, length, Option, Some, None, IfSome, Result, Ok, Err, refl, sym}, specs.Result.{MatchResult}}
 use Rattle.std.{proofs.Common.{append_assoc, ap, ◌∙◌, subst, arith, if◌then◌else◌}, specs.Io.KnownBytes.{Keeps, IsAtEnd, Consumes}}
 use Rattle.std.proofs.lemmas.Bool.{cond-true, cond-false}
-use Rattle.pcap_reader.specs.{Steps.{BreaksOff}, declared.{order.ByteOrder.{ByteOrder}, capture.Record.{Record}}, Records.{with_record}}
+use Rattle.pcap_reader.specs.{Steps.{StepBreaksOff}, declared.{order.ByteOrder.{ByteOrder}, capture.Record.{Record}}, Records.{with_record}}
 use Rattle.pcap_reader.{specs.Capture.{HeaderShows, TakenHeaderShows, IsOutOfForm, OfFronts}, proofs.{HeaderLaws.{header_fault-cut}, RecordLaws.{records_in-none}}}
 use Rattle.pcap_reader.proofs.Joined.{always, all_weaker, all_then, fronts-then, fronts-short, fronts-weaker}
 use Rattle.zr_kinds.specs.declared.fault.Fault.{Fault, TheVariants.{Memory, NotPcap, Version, LinkType, Cut, LongRecord, Read, BadBlock}}
@@ -37,7 +37,7 @@ module _ (first : List ℕ) (four : length first ≡ 4) where
   unfolding records_of
   records-blocks is rest = cond-true (is_section_header (first ++ rest)) _ _ (is_first true is rest)
 
-  records-classic : is_section_header first ≡ false → (rest : List ℕ) → records_of (first ++ rest) ≡ classic_form.records_of (first ++ rest)
+  records-classic : is_section_header first ≡ false → (rest : List ℕ) → records_of (first ++ rest) ≡ classic_form.classic_records_of (first ++ rest)
   unfolding records_of
   records-classic is rest = cond-false (is_section_header (first ++ rest)) _ _ (is_first false is rest)
 
@@ -50,7 +50,7 @@ header_opens Read is = tt
 header_opens BadBlock is = tt
 header_opens _ is = absurd is
 
-classic_opens : (fault : Fault) → classic_capture.IsOpeningFault fault → IsOpeningFault fault
+classic_opens : (fault : Fault) → classic_capture.IsClassicOpeningFault fault → IsOpeningFault fault
 classic_opens NotPcap is = tt
 classic_opens Version is = tt
 classic_opens LinkType is = tt
@@ -135,16 +135,16 @@ module _ (a b c : Option (List ℕ)) (first : List ℕ) (four : length first ≡
       took_first took
 
   pub took-classic : (order : ByteOrder) → is_section_header first ≡ false
-      → Took b c (λ ys. (rest : List ℕ) → classic_form.records_of ((first ++ ys) ++ rest) ≡ classic_form.records_in order rest)
+      → Took b c (λ ys. (rest : List ℕ) → classic_form.classic_records_of ((first ++ ys) ++ rest) ≡ classic_form.records_in order rest)
       → Took a c (λ taken. (rest : List ℕ) → records_of (taken ++ rest) ≡ classic_form.records_in order rest)
   took-classic order is took =
       Took-then a b c (λ xs. xs ≡ first) _ _
       (λ xs ys e opens rest. ap (λ (l : List ℕ). records_of ((l ++ ys) ++ rest)) e ∙ ap records_of (append_assoc first ys rest)
-      ∙ records-classic first four is (ys ++ rest) ∙ ap classic_form.records_of (sym (append_assoc first ys rest)) ∙ opens rest)
+      ∙ records-classic first four is (ys ++ rest) ∙ ap classic_form.classic_records_of (sym (append_assoc first ys rest)) ∙ opens rest)
       took_first took
 
 -- the first four bytes couldn't be read
-pub opening-broken : (a b : Option (List ℕ)) (room : ℕ) (fault : Fault) → room ≡ 4 → BreaksOff a b (λ xs. length xs < room) fault → Opens a b (Err fault)
+pub opening-broken : (a b : Option (List ℕ)) (room : ℕ) (fault : Fault) → room ≡ 4 → StepBreaksOff a b (λ xs. length xs < room) fault → Opens a b (Err fault)
 opening-broken a b room Read four broke = (tt, always a, Took-weaker a b _ _ (λ xs short. opening-short xs (omega arith)) broke, λ is. absurd is)
 opening-broken a b room Cut four broke = (
   tt,
@@ -156,7 +156,7 @@ opening-broken a b room _ four broke = absurd broke
 
 -- ---- the next record of the classic form
 
-classic_comes : (fault : Fault) → classic_capture.IsRecordFault fault → IsRecordFault fault
+classic_comes : (fault : Fault) → classic_capture.IsClassicRecordFault fault → IsRecordFault fault
 classic_comes Memory is = tt
 classic_comes Cut is = tt
 classic_comes LongRecord is = tt
@@ -169,7 +169,7 @@ at_end (Some xs) None end kept = absurd kept
 at_end (Some xs) (Some ys) end kept = kept ∙ end
 
 pub classic-gives : (order later : ByteOrder) (old new : Option (List ℕ)) (frame : List ℕ) (result : Result (Option Record) Fault) → later ≡ order
-    → classic_capture.Gives order old new frame result
+    → classic_capture.GivesClassic order old new frame result
     → Gives (classic order) (classic later) old new frame result
 classic-gives order later old new frame (Ok (Some found)) same gives = (
   gives.0,

@@ -7,7 +7,7 @@ use Rattle.pcap_reader.specs.{Records.{no_record}, Capture.{ShowsFault, BrokeOff
 use Rattle.pcap_reader.proofs.{RecordLaws.{records_in-none, records_in-bodiless}, Joined.{all_weaker, fronts-weaker}}
 use Rattle.pcap_reader.proofs.HeaderLaws as classic_header
 use Rattle.pcapng_reader.specs.declared.kind.Kind.TheVariants.{SectionHeader, InterfaceDescription, EnhancedPacket, SimplePacket, Other}
-use Rattle.pcapng_reader.specs.Blocks.{Kind, is_section_header, kind_of, fixed_len, block_fault, blocks_in, no_section}
+use Rattle.pcapng_reader.specs.Blocks.{Kind, is_section_header, block_kind_of, fixed_len, block_fault, blocks_in, no_section}
 use Rattle.pcapng_reader.specs.{Records.{Going, classic, blocks, records_from, records_of, opening_fault}, Capture.{IsOpeningFault, WantsMemory, Opens}}
 use Rattle.pcapng_reader.proofs.BlockLaws.{blocks_in-none, blocks_in-fault}
 
@@ -31,7 +31,7 @@ wanting-cut (classic order) header (whole, some, short) =
     ap (classic_form.records_in order) (sym (append-nil header)) ∙ records_in-bodiless order header [] whole short some
 wanting-cut (blocks section) taken wants =
     let whole = wants.here.whole in
-    let some = some_fixed (kind_of wants.now.order wants.head) in
+    let some = some_fixed (block_kind_of wants.now.order wants.head) in
     ap (blocks_in section) wants.parts ∙ wants.over wants.head ∙ blocks_in-fault wants.now wants.head Cut (omega (arith, whole, some)) wants.here.cut
 
 -- ---- the file header, or the first section header
@@ -47,7 +47,7 @@ opening-records bytes fault shows = by_form (is_section_header bytes) refl shows
   where
     by_form : (form : Bool) → is_section_header bytes ≡ form
         → (if form then block_fault no_section bytes else classic_form.header_fault bytes) ≡ Some fault
-        → (if form then blocks_in no_section bytes else classic_form.records_of bytes) ≡ no_record (Some fault)
+        → (if form then blocks_in no_section bytes else classic_form.classic_records_of bytes) ≡ no_record (Some fault)
     by_form true is shows = blocks_in-fault no_section bytes fault (some_bytes bytes is) shows
     by_form false is shows = classic_header.records_of-fault bytes fault shows
 

@@ -5,7 +5,7 @@ use Rattle.std.{specs.{Option.{ok_or}, Slice.{IsItemAt}, List.{slice_get}}, proo
 use Rattle.std.proofs.lemmas.List.{take-append-drop, take-append-le, take_all}
 use Rattle.zr_kinds.specs.declared.fault.Fault.{Fault, TheVariants.{Cut, BadBlock}}
 use Rattle.pcap_reader.{specs.{declared.order.ByteOrder.{ByteOrder}, Records.{number}}, proofs.RecordLaws.{number_at-append}}
-use Rattle.pcapng_reader.specs.Blocks.{Section, Kind, is_section_header, kind_of, begin_len, fixed_len, order_told, total_len, is_too_many, misfits, block_fault}
+use Rattle.pcapng_reader.specs.Blocks.{Section, Kind, is_section_header, block_kind_of, begin_len, fixed_len, order_told, total_len, is_too_many, misfits, block_fault}
 use Rattle.pcapng_reader.specs.{declared.{kind.Kind.TheVariants.{SectionHeader}, head.Head.{Head}}, Steps.{IsBegun, MayCome, IsHead, head_bytes, IsCutBefore}}
 use Rattle.pcapng_reader.proofs.BlockLaws.{eight, begins_within, fixed_most, kind-append, order-append, begun-append, begun-front, fault-begin, fault-magic}
 use Rattle.pcapng_reader.proofs.BlockLaws.{fault-refused, fault-short, fault-start, section_header-append}
@@ -62,7 +62,7 @@ may_come s kind total refused is may =
 
 -- a section header, by its first four bytes
 pub kind_of_first : (order : ByteOrder) (first bytes : List ℕ) → length first ≡ 4 → take 4 bytes ≡ first → is_section_header first ≡ true
-    → kind_of order bytes ≡ SectionHeader
+    → block_kind_of order bytes ≡ SectionHeader
 kind_of_first order first bytes four front is =
     let all : bytes ≡ first ++ drop 4 bytes = sym (take-append-drop 4 bytes) ∙ ap (λ (l : List ℕ). l ++ drop 4 bytes) front in
     cond-true (is_section_header bytes) _ _ (ap is_section_header all ∙ section_header-append first (drop 4 bytes) (omega arith) ∙ is)
@@ -80,8 +80,8 @@ head-cuts s kind order total head whole h may front more e some = ⊎_elim
     (cases_lt (length front) (begin_len kind)))
     (cases_lt (length front) 8)
   where
-    kind_here : 8 ≤ length front → kind_of s.order front ≡ kind
-    kind_here long = sym (kind-append s.order front more (omega arith)) ∙ ap (kind_of s.order) (sym e) ∙ h.is
+    kind_here : 8 ≤ length front → block_kind_of s.order front ≡ kind
+    kind_here long = sym (kind-append s.order front more (omega arith)) ∙ ap (block_kind_of s.order) (sym e) ∙ h.is
 
 pub head_cut : (s : Section) (head : Head) → IsHead s head → IsCutBefore (block_fault s) (head_bytes head)
 head_cut s head h = head-cuts s head.kind head.order head.total (head_bytes head) h.whole h.begun h.may
@@ -90,15 +90,15 @@ head_cut s head h = head-cuts s head.kind head.order head.total (head_bytes head
 
 module _ (s : Section) (start : List ℕ) (eight_of : length start ≡ 8) where
   -- too few bytes behind them to tell the order
-  pub start-cut : (kind : Kind) (more : List ℕ) → kind ≡ kind_of s.order start → length more < begin_len kind - 8
+  pub start-cut : (kind : Kind) (more : List ℕ) → kind ≡ block_kind_of s.order start → length more < begin_len kind - 8
       → block_fault s (start ++ more) ≡ Some Cut
   start-cut kind more is short =
       fault-begin s kind (start ++ more) (kind-append s.order start more (omega arith) ∙ sym is) (omega (arith, length-append start more))
 
-  module _ (kind : Kind) (is : kind ≡ kind_of s.order start) (bytes : List ℕ) (size : length bytes ≡ 28) (front : take 8 bytes ≡ start) where
-    kind_here : kind_of s.order bytes ≡ kind
+  module _ (kind : Kind) (is : kind ≡ block_kind_of s.order start) (bytes : List ℕ) (size : length bytes ≡ 28) (front : take 8 bytes ≡ start) where
+    kind_here : block_kind_of s.order bytes ≡ kind
     kind_here =
-        ap (kind_of s.order) (sym (take-append-drop 8 bytes) ∙ ap (λ (l : List ℕ). l ++ drop 8 bytes) front)
+        ap (block_kind_of s.order) (sym (take-append-drop 8 bytes) ∙ ap (λ (l : List ℕ). l ++ drop 8 bytes) front)
         ∙ kind-append s.order start (drop 8 bytes) (omega arith) ∙ sym is
 
     begin_fits : begin_len kind ≤ 28
@@ -131,7 +131,7 @@ module _ (s : Section) (start : List ℕ) (eight_of : length start ≡ 8) where
           let least = eight kind in
           let here = len_here in
           let whole = take-append-drop (begin_len kind) bytes in
-          let is_kind = sym (kind-append s.order head (drop (begin_len kind) bytes) (omega arith)) ∙ ap (kind_of s.order) whole ∙ kind_here in
+          let is_kind = sym (kind-append s.order head (drop (begin_len kind) bytes) (omega arith)) ∙ ap (block_kind_of s.order) whole ∙ kind_here in
           let none = sym (order-append s kind head (drop (begin_len kind) bytes) (omega arith)) ∙ ap (order_told s kind) whole ∙ tells in
           ap (block_fault s) (sym (parts rest))
           ∙ fault-magic s kind (head ++ rest) (kind-append s.order head rest (omega arith) ∙ is_kind) (omega (arith, length-append head rest))

@@ -33,8 +33,8 @@ kind_of_type n =
     else if n == 3 then SimplePacket
     else Other
 
-abbrev pub kind_of : ByteOrder → List ℕ → Kind
-kind_of order bytes = if is_section_header bytes then SectionHeader else kind_of_type (number order 4 bytes)
+abbrev pub block_kind_of : ByteOrder → List ℕ → Kind
+block_kind_of order bytes = if is_section_header bytes then SectionHeader else kind_of_type (number order 4 bytes)
 
 -- How many bytes a block has at least before its packet's bytes or its options. Its last number is four more.
 abbrev pub fixed_len : Kind → ℕ
@@ -160,7 +160,7 @@ kind_fault s kind bytes =
 
 -- what is wrong with the block that begins here, of at least one byte
 unfoldable pub block_fault : Section → List ℕ → Option Fault
-block_fault s bytes = kind_fault s (kind_of s.order bytes) bytes
+block_fault s bytes = kind_fault s (block_kind_of s.order bytes) bytes
 
 -- ---- the records of blocks
 
@@ -186,7 +186,7 @@ after_block None s kind bytes others = with_block s kind bytes others
 unfoldable pub blocks_behind : Section → ℕ → List ℕ → Records
 blocks_behind s skip [] = no_record None
 blocks_behind s (suc skip) (byte ∷ bytes) = blocks_behind s skip bytes
-blocks_behind s zero (byte ∷ bytes) = let kind = kind_of s.order (byte ∷ bytes) in
+blocks_behind s zero (byte ∷ bytes) = let kind = block_kind_of s.order (byte ∷ bytes) in
     after_block (block_fault s (byte ∷ bytes)) s kind (byte ∷ bytes)
     (blocks_behind (section_behind s kind (byte ∷ bytes)) (total_len (order_in s kind (byte ∷ bytes)) (byte ∷ bytes) - 1) bytes)
 

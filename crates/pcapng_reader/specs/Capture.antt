@@ -5,7 +5,7 @@ use Rattle.zr_io.specs.Moved.{Took}
 use Rattle.pcap_reader.specs.{Records.{no_record, with_record}, Capture.{ShowsFault, BrokeOff, TakenShows, HeaderShows, TakenHeaderShows, IsOutOfForm, OfFronts}}
 use Rattle.pcap_reader.specs.declared.capture.Record.{Record}
 use Rattle.pcap_reader.specs.Capture as classic_form
-use Rattle.pcapng_reader.specs.Blocks.{Section, Kind, kind_of, fixed_len, captured_len, block_fault, blocks_in}
+use Rattle.pcapng_reader.specs.Blocks.{Section, Kind, block_kind_of, fixed_len, captured_len, block_fault, blocks_in}
 use Rattle.pcapng_reader.specs.declared.kind.Kind.TheVariants.{InterfaceDescription, EnhancedPacket, SimplePacket}
 use Rattle.pcapng_reader.specs.Records.{classic, blocks, records_from, records_of, opening_fault}
 pub use Rattle.pcapng_reader.specs.Records.{Going}
@@ -47,9 +47,9 @@ WantsBytes s kind bytes = ⊥
 
 -- the first bytes of a packet or of an interface's block, which alone are cut: what memory is asked for
 pub record WantsHere (s : Section) (head : List ℕ) : Type 0 where
-  pub whole : length head ≡ fixed_len (kind_of s.order head)
+  pub whole : length head ≡ fixed_len (block_kind_of s.order head)
   pub cut : block_fault s head ≡ Some Cut
-  pub wants : WantsBytes s (kind_of s.order head) head
+  pub wants : WantsBytes s (block_kind_of s.order head) head
 
 -- the same behind blocks that are no packets
 pub record WantsAt (before : Section) (taken : List ℕ) : Type 0 where
@@ -61,7 +61,7 @@ pub record WantsAt (before : Section) (taken : List ℕ) : Type 0 where
   pub here : WantsHere now head
 
 abbrev pub WantsMemory : Going → List ℕ → Type 0
-WantsMemory (classic order) taken = classic_form.WantsMemory order taken
+WantsMemory (classic order) taken = classic_form.ClassicWantsMemory order taken
 WantsMemory (blocks section) taken = WantsAt section taken
 
 -- ---- the calls

@@ -18,7 +18,7 @@ records_from (blocks section) bytes = blocks_in section bytes
 
 -- The records of a capture. A pcapng capture begins with a section header.
 unfoldable pub records_of : List ℕ → Records
-records_of bytes = if is_section_header bytes then blocks_in no_section bytes else classic_form.records_of bytes
+records_of bytes = if is_section_header bytes then blocks_in no_section bytes else classic_form.classic_records_of bytes
 
 -- what is wrong with the file header, or with the first section header
 abbrev pub opening_fault : List ℕ → Option Fault

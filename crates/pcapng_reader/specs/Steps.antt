@@ -3,11 +3,11 @@ use Rattle.std.specs.Prelude.{◌≡◌, ◌≢◌, ℕ, ◌+◌, ◌-◌, ◌<�
 use Rattle.std.specs.Io.KnownBytes.{Keeps, IsAtEnd, Consumes}
 use Rattle.zr_kinds.specs.{Limits.{longest_record}, declared.fault.Fault.{Fault, TheVariants.{Memory, Version, LinkType, Cut, LongRecord, Read, BadBlock}}}
 use Rattle.zr_io.specs.Moved.{Took}
-use Rattle.pcap_reader.specs.{declared.order.ByteOrder.{ByteOrder}, Records.{number, with_record}, Capture.{IsOutOfForm, OfFronts}, Steps.{BreaksOff}}
+use Rattle.pcap_reader.specs.{declared.order.ByteOrder.{ByteOrder}, Records.{number, with_record}, Capture.{IsOutOfForm, OfFronts}, Steps.{StepBreaksOff}}
 use Rattle.pcap_reader.specs.declared.capture.Record.{Record}
 use Rattle.pcapng_reader.specs.declared.section as code
 use Rattle.pcapng_reader.specs.declared.{head.Head.{Head}, blocks.BlockCapture.{BlockCapture}}
-use Rattle.pcapng_reader.specs.Blocks.{Section, Kind, Interface, kind_of, begin_len, fixed_len, order_told, total_len, is_too_many, misfits}
+use Rattle.pcapng_reader.specs.Blocks.{Section, Kind, Interface, block_kind_of, begin_len, fixed_len, order_told, total_len, is_too_many, misfits}
 use Rattle.pcapng_reader.specs.Blocks.{interface_of, captured_len, original_len, packet_fault, fixed_fault, block_fault, blocks_in, no_section}
 use Rattle.pcapng_reader.specs.Capture.{IsRecordFault}
 
@@ -20,18 +20,18 @@ told s = record { order = s.order; interfaces = s.interfaces.items; others = s.o
 -- `Ok` took the bytes that stand from one place to another now; those before stayed.
 abbrev pub FillsPart : ℕ → ℕ → Option (List ℕ) → Option (List ℕ) → List ℕ → List ℕ → Result (Unit {0}) Fault → Type 0
 FillsPart from to old new before after (Ok _) = Took old new (λ taken. take to after ≡ take from before ++ taken)
-FillsPart from to old new before after (Err fault) = BreaksOff old new (λ taken. length taken < to - from) fault
+FillsPart from to old new before after (Err fault) = StepBreaksOff old new (λ taken. length taken < to - from) fault
 
 abbrev pub Skips : ℕ → Option (List ℕ) → Option (List ℕ) → Result (Unit {0}) Fault → Type 0
 Skips count old new (Ok _) = Took old new (λ taken. length taken ≡ count)
-Skips count old new (Err fault) = BreaksOff old new (λ taken. length taken < count) fault
+Skips count old new (Err fault) = StepBreaksOff old new (λ taken. length taken < count) fault
 
 -- `Ok` took so many bytes and the total length behind them. `BadBlock` took another number there.
 abbrev pub TakesEnd : ByteOrder → ℕ → ℕ → Option (List ℕ) → Option (List ℕ) → Result (Unit {0}) Fault → Type 0
 TakesEnd order total count old new (Ok _) = Took old new (λ taken. (length taken ≡ count + 4) × (number order 4 (drop count taken) ≡ total))
 TakesEnd order total count old new (Err BadBlock) =
     Took old new (λ taken. (length taken ≡ count + 4) × (number order 4 (drop count taken) ≢ total))
-TakesEnd order total count old new (Err fault) = BreaksOff old new (λ taken. length taken < count + 4) fault
+TakesEnd order total count old new (Err fault) = StepBreaksOff old new (λ taken. length taken < count + 4) fault
 
 -- ---- a block
 
@@ -72,7 +72,7 @@ IsHeaderFault fault = ⊥
 -- the first bytes of a block of this kind, order and total length
 pub record IsBegun (s : Section) (kind : Kind) (order : ByteOrder) (total : ℕ) (bytes : List ℕ) : Type 0 where
   pub long : begin_len kind ≤ length bytes
-  pub is : kind_of s.order bytes ≡ kind
+  pub is : block_kind_of s.order bytes ≡ kind
   pub tells : order_told s kind bytes ≡ Some order
   pub states : total_len order bytes ≡ total
 
@@ -122,10 +122,10 @@ IsPacketOf s head interface found =
     × (found.original ≡ original_len s head.kind (head_bytes head))
 
 -- what is said of a packet, of this interface and with so much room
-abbrev pub Judges : Option Interface → ℕ → ℕ → Result (Unit {0}) Fault → Type 0
-Judges interface captured room (Ok _) =
+abbrev pub JudgesPacket : Option Interface → ℕ → ℕ → Result (Unit {0}) Fault → Type 0
+JudgesPacket interface captured room (Ok _) =
     (packet_fault interface captured room ≡ None) × (captured ≤ longest_record) × (captured ≤ room)
-Judges interface captured room (Err fault) = IsPacketFault fault × (packet_fault interface captured room ≡ Some fault)
+JudgesPacket interface captured room (Err fault) = IsPacketFault fault × (packet_fault interface captured room ≡ Some fault)
 
 -- the lengths of a packet, or its fault
 abbrev pub IsPacket : Section → Head → Result Record Fault → Type 0

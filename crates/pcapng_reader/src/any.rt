@@ -25,11 +25,11 @@ pub(crate) enum Form {
 }
 
 impl Model for AnyCapture {
-    ghost use Rattle.pcapng_reader.specs.{Capture.{Reading}, Forms.{reading_of}};
+    ghost use Rattle.pcapng_reader.specs.{Capture.{Reading}, Forms.{reading_of_form}};
 
     ghost Value = { Reading };
 
-    ghost view = { λ c. reading_of c.form };
+    ghost view = { λ c. reading_of_form c.form };
 }
 
 impl AnyCapture {

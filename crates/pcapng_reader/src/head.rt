@@ -1,6 +1,6 @@
 ghost use Rattle.std.specs.Prelude.{◌≡◌, ◌≤◌, ◌+◌, ◌-◌, length, IfOk};
 ghost use Rattle.pcap_reader.specs.Capture.{HasReadCause};
-ghost use Rattle.pcapng_reader.specs.{Blocks.{fixed_len, kind_of, magic_order, order_told}, Steps.{told, IsHead, TakesHead}};
+ghost use Rattle.pcapng_reader.specs.{Blocks.{fixed_len, block_kind_of, magic_order, order_told}, Steps.{told, IsHead, TakesHead}};
 
 use crate::fill::fill_part;
 use crate::kind::Kind;
@@ -42,7 +42,7 @@ pub(crate) fn read_head<S: Source>(
     section: &OpenSection,
     start: [u8; START_LEN],
 ) -> Result<Head, Fault>
-    ensures kind { IfOk result (λ head. head.kind ≡ kind_of section.now.order start) }
+    ensures kind { IfOk result (λ head. head.kind ≡ block_kind_of section.now.order start) }
     ensures is { IfOk result (IsHead (told section.now)) }
     ensures takes { TakesHead (told section.now) start (S.left source.old)
         (S.left source.new) result }

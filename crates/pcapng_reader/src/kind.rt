@@ -1,5 +1,5 @@
 ghost use Rattle.std.specs.Prelude.{◌≡◌, ◌≤◌, ◌||◌, length};
-ghost use Rattle.pcapng_reader.specs.Blocks.{is_section_header, kind_of, fixed_len, begin_len, is_packet, misfits};
+ghost use Rattle.pcapng_reader.specs.Blocks.{is_section_header, block_kind_of, fixed_len, begin_len, is_packet, misfits};
 
 use pcap_reader::ByteOrder;
 
@@ -32,7 +32,7 @@ impl Kind {
     /// The kind of the block that begins with these bytes, in a section of this order.
     pub(crate) fn of(order: ByteOrder, bytes: &[u8]) -> Kind
         requires { 4 ≤ length bytes.now }
-        ensures { result ≡ kind_of order bytes.now }
+        ensures { result ≡ block_kind_of order bytes.now }
     {
         if is_section_header(bytes) {
             return Kind::SectionHeader;

@@ -1,5 +1,5 @@
 ghost use Rattle.std.specs.Prelude.{◌≡◌, IsTrue, option_copied};
-ghost use Rattle.pcapng_reader.specs.{Blocks.{is_packet}, Steps.{told, IsHead, IsPacket, Judges, IsPacketOf}, declared.kind.Kind.TheVariants.{EnhancedPacket, SimplePacket}};
+ghost use Rattle.pcapng_reader.specs.{Blocks.{is_packet}, Steps.{told, IsHead, IsPacket, JudgesPacket, IsPacketOf}, declared.kind.Kind.TheVariants.{EnhancedPacket, SimplePacket}};
 
 use crate::head::Head;
 use crate::kind::Kind;
@@ -52,7 +52,7 @@ fn simple<'a>(section: &'a OpenSection, head: &Head) -> (Option<&'a Interface>, 
 
 /// The interface is there and Ethernet, and the captured bytes have room.
 fn judge(interface: Option<&Interface>, captured: u32, room: u32) -> Result<(), Fault>
-    ensures { Judges (option_copied interface.entry) captured room result }
+    ensures { JudgesPacket (option_copied interface.entry) captured room result }
 {
     let interface = interface.ok_or(Fault::BadBlock)?;
     if interface.link_type != ETHERNET {

@@ -1,7 +1,7 @@
 -- A loan is abandoned: it is out no more, and owed for good, so no count of holders or users changes.
 use Rattle.std.proofs.{Common.{◌≡◌, ℕ, ◌-◌, ◌<◌, List, length, set, get_or, refl, ◌∙◌, arith, inl}, lemmas.List.{length-set}}
 use Rattle.zr_kinds.specs.declared.place.Place.{Place}
-use Rattle.area_layout.specs.Layout.{total}
+use Rattle.area_layout.specs.Layout.{all_buffers}
 use Rattle.board_face.specs.{Sides.{IsApp, app_at}, AppEvents.{abandoned}, AppCalls.{HasLoan}, declared.views.app.AppSide.{AppSide}}
 use Rattle.board_face.proofs.{AppLemmas.{app_count-abandoned, user_part-abandoned, EndedWereReturned-abandoned}, RelayLemmas.{Relayed-app}}
 use Rattle.board_face.proofs.{IsFilledByOneLemmas.{IsFilledByOne-abandoned}, OwnBufferLemmas.{AppLiesInOwn-abandoned}, FillingsFitLemmas.{FillingsFit-same}}
@@ -23,7 +23,7 @@ module _ (board : Stand) (a : ℕ) (x : AppSide) (place : Place) (sound : IsSoun
   abbrev loans_then : ℕ → List ℕ
   loans_then n = set board.arrays.loans user n
 
-  within : place.buffer < total board.arrays.layout
+  within : place.buffer < all_buffers board.arrays.layout
   within = (loan-lies board a x sound here place out).0.buffer
 
   app-within : a < board.arrays.layout.reserves
@@ -37,12 +37,12 @@ module _ (board : Stand) (a : ℕ) (x : AppSide) (place : Place) (sound : IsSoun
   loan-counted = omega (arith, was-booked_loans board a x now sound here place.buffer within, loan-some board a x sound here place out)
 
   -- each count of loans is right then
-  pub loans-rest : (n : ℕ) → n ≡ get_or board.arrays.loans user 0 - 1 → (b : ℕ) → b < total board.arrays.layout
+  pub loans-rest : (n : ℕ) → n ≡ get_or board.arrays.loans user 0 - 1 → (b : ℕ) → b < all_buffers board.arrays.layout
       → get_or (loans_then n) (user_at board.arrays.layout a b) 0 ≡ loans_out b now
   loans-rest n less b inside =
       omega (
         arith,
-        user-lowered (total board.arrays.layout) board.arrays.loans a place.buffer n within loan-there (omega (arith, less, loan-counted)) b inside,
+        user-lowered (all_buffers board.arrays.layout) board.arrays.loans a place.buffer n within loan-there (omega (arith, less, loan-counted)) b inside,
         was-booked_loans board a x now sound here b inside,
         loans-fewer b x place out,
       )
@@ -90,7 +90,7 @@ module _ (board : Stand) (a : ℕ) (x : AppSide) (place : Place) (sound : IsSoun
         judged = sound.judged;
         booked = AreBooked-app board a x now sound here arr refl
             (record { loans = loans-rest n less; filled = was-booked_filled board a x now sound here; raw = was-booked_raw board a x now sound here })
-            (λ k b ne app inside. user-other (total board.arrays.layout) board.arrays.loans a place.buffer n within k b inside (inl ne))
+            (λ k b ne app inside. user-other (all_buffers board.arrays.layout) board.arrays.loans a place.buffer n within k b inside (inl ne))
             (λ k y ne it. sound.booked.filled k y it)
             (λ k ne. refl);
         phased = ArePhased-app board a x now sound here (record {

@@ -3,15 +3,16 @@ use Rattle.std.proofs.Common.{◌≡◌, ℕ, ◌+◌, ◌<◌, ◌≤◌, Bool,
 use Rattle.std.specs.{Prelude.{◌≢◌, ◌⊎◌, nat_eq, count_by, All}, List.{flat_map}}
 use Rattle.std.proofs.{lemmas.List.{get_or-set_same, get_or-set_other, length-set, map-set, set-set, Elements.{All-set}}, Math.Seq.{map-set_same}}
 use Rattle.std.proofs.lemmas.Bool.Decides.{eqb_tells}
-use Rattle.area_layout.specs.Layout.{total, pool_buffers}
+use Rattle.area_layout.specs.Layout.{all_buffers, pool_buffers}
 use Rattle.board_face.specs.{Sides.{IsApp, side_in}, Counts.{pool_count, user_count, EndedWereReturned}, FreeOnce.{AreFreeOnce, free_places}, Relay.{Relayed}}
 use Rattle.board_face.specs.{Texts.{unsplit_bytes}, Used.{picked_buffers, used_buffers, HasFewPicks, PicksAreGiven}, OwnBuffers.{AppLiesInOwn, LieInOwn}}
 use Rattle.board_face.{specs.declared.views.{nic.NicSide.{NicSide}, app.AppSide.{AppSide}}, proofs.{ListLemmas.{not-eqb}, SideLemmas.{AreNumbered-set, IsApp-at}}}
 use Rattle.board_face.proofs.{AppLemmas.{pool_count-app, user_count-app}, Parts.{app_count, user_part, count-tally}, OwnBufferLemmas.{LieInOwn-app, LieInOwn-side}}
-use Rattle.board_face.{proofs.{Tallies.{weight, tally, tally-flat, total-set}, Counting.{count-append}}, specs.Blank.{blank_app}}
+use Rattle.board_face.{proofs.{Tallies.{one_if, tally, tally-flat, total-set}, Counting.{count-append}}, specs.Blank.{blank_app}}
 use Rattle.board_parts.specs.Counts.{user_at}
-use Rattle.plain_board.specs.{declared.others.Others.{Others}, Stand.{Arrays, Stand, setting_of, side_of}, Returns.{AreReturns, entries_on_way, loans_out, reach_of}}
-use Rattle.plain_board.specs.Sound.{IsSound, IsRing, IsSet, IsAtRest, AreCounted, AreRelayed, AreFlags, AreKept, AreDue, AreBooked, IsPhased, ArePhased}
+use Rattle.plain_board.specs.{declared.others.Others.{Others}, Stand.{Arrays, Stand, setting_of_arrays, side_of}, Returns.{AreReturns, entries_on_way, loans_out}}
+use Rattle.plain_board.specs.Returns.{reach_of}
+use Rattle.plain_board.specs.Sound.{IsSound, IsRing, IsSet, IsAppAtRest, AreCounted, AreRelayed, AreFlags, AreKept, AreDue, AreBooked, IsPhased, ArePhased}
 use Rattle.plain_board.specs.Sound.{notes_of, refills_of, taken_of}
 
 -- the card's pool is the board's
@@ -47,43 +48,43 @@ module _ (board : Stand) (a : ℕ) (x now : AppSide) (sound : IsSound board) (he
       ))
       (eqb_tells k a)
 
-  pub IsSet-app : now.view.setting ≡ x.view.setting → now.view.app ≡ x.view.app → IsAtRest now
-      → IsSet (setting_of board.arrays) board.nic (set board.apps a now)
+  pub IsSet-app : now.view.setting ≡ x.view.setting → now.view.app ≡ x.view.app → IsAppAtRest now
+      → IsSet (setting_of_arrays board.arrays) board.nic (set board.apps a now)
   IsSet-app setting number rest = record {
     card = sound.set.card;
     card_rest = sound.set.card_rest;
     many = length-set board.apps a now ∙ sound.set.many;
     numbers = AreNumbered-set 0 board.apps a now (let n = here.number in omega (arith, number)) sound.set.numbers;
-    roles = All-set (λ app. app.view.setting ≡ setting_of board.arrays) board.apps a now
-        (setting ∙ subst (λ app. app.view.setting ≡ setting_of board.arrays) here.is (sound.set.roles a x here.there)) sound.set.roles;
-    roles_rest = All-set IsAtRest board.apps a now rest sound.set.roles_rest;
+    roles = All-set (λ app. app.view.setting ≡ setting_of_arrays board.arrays) board.apps a now
+        (setting ∙ subst (λ app. app.view.setting ≡ setting_of_arrays board.arrays) here.is (sound.set.roles a x here.there)) sound.set.roles;
+    roles_rest = All-set IsAppAtRest board.apps a now rest sound.set.roles_rest;
   }
 
   -- the application was at rest before
-  pub was-at_rest : IsAtRest x
-  was-at_rest = subst IsAtRest here.is (sound.set.roles_rest a x here.there)
+  pub was-at_rest : IsAppAtRest x
+  was-at_rest = subst IsAppAtRest here.is (sound.set.roles_rest a x here.there)
 
   -- its setting is the board's
-  pub has-setting : x.view.setting ≡ setting_of board.arrays
-  has-setting = subst (λ app. app.view.setting ≡ setting_of board.arrays) here.is (sound.set.roles a x here.there)
+  pub has-setting : x.view.setting ≡ setting_of_arrays board.arrays
+  has-setting = subst (λ app. app.view.setting ≡ setting_of_arrays board.arrays) here.is (sound.set.roles a x here.there)
 
   part-other : (k b : ℕ) (app : AppSide) → app.view.app ≢ k → user_part k b board.nic app ≡ 0
   part-other k b app other = rw (not-eqb app.view.app k other) refl
 
   pub AreCounted-app : (arr : Arrays) → arr.layout ≡ board.arrays.layout → now.view.app ≡ x.view.app
-      → ((b : ℕ) → b < total board.arrays.layout → get_or arr.pool b 0 + app_count b board.nic x
+      → ((b : ℕ) → b < all_buffers board.arrays.layout → get_or arr.pool b 0 + app_count b board.nic x
       ≡ get_or board.arrays.pool b 0 + app_count b board.nic now)
-      → ((b : ℕ) → b < total board.arrays.layout → get_or arr.users (user_at board.arrays.layout a b) 0 + user_part a b board.nic x
+      → ((b : ℕ) → b < all_buffers board.arrays.layout → get_or arr.users (user_at board.arrays.layout a b) 0 + user_part a b board.nic x
       ≡ get_or board.arrays.users (user_at board.arrays.layout a b) 0 + user_part a b board.nic now)
-      → ((k b : ℕ) → k ≢ a → k < length board.apps → b < total board.arrays.layout
+      → ((k b : ℕ) → k ≢ a → k < length board.apps → b < all_buffers board.arrays.layout
       → get_or arr.users (user_at board.arrays.layout k b) 0 ≡ get_or board.arrays.users (user_at board.arrays.layout k b) 0)
-      → ((b : ℕ) → total board.arrays.layout ≤ b → app_count b board.nic now ≤ app_count b board.nic x)
+      → ((b : ℕ) → all_buffers board.arrays.layout ≤ b → app_count b board.nic now ≤ app_count b board.nic x)
       → ((b : ℕ) → EndedWereReturned b board.nic now)
       → AreCounted arr board.nic (set board.apps a now)
   AreCounted-app arr layout number pool users others few returned = record {
-    pool = λ b within. let inside : b < total board.arrays.layout = rw (← layout) within in
+    pool = λ b within. let inside : b < all_buffers board.arrays.layout = rw (← layout) within in
         omega (arith, pool b inside, sound.counted.pool b inside, pool_count-app b board.nic board.apps a x now here);
-    users = λ k b app within. let inside : b < total board.arrays.layout = rw (← layout) within in
+    users = λ k b app within. let inside : b < all_buffers board.arrays.layout = rw (← layout) within in
         let there : k < length board.apps = omega (arith, app, length-set board.apps a now) in
         ⊎_elim
         (λ t. let same : k ≡ a = t.1 in
@@ -97,7 +98,7 @@ module _ (board : Stand) (a : ℕ) (x now : AppSide) (sound : IsSound board) (he
         omega (arith, others k b ne there inside, sound.counted.users k b there inside, user_count-app k b board.nic board.apps a x now here, one, two) in
         rw layout at_k)
         (eqb_tells k a);
-    beyond = λ b past. let past' : total board.arrays.layout ≤ b = rw (← layout) past in
+    beyond = λ b past. let past' : all_buffers board.arrays.layout ≤ b = rw (← layout) past in
         omega (arith, few b past', sound.counted.beyond b past', pool_count-app b board.nic board.apps a x now here);
     returned = λ b. All-set (EndedWereReturned b board.nic) board.apps a now (returned b) (sound.counted.returned b);
   }
@@ -148,7 +149,7 @@ module _ (board : Stand) (a : ℕ) (x now : AppSide) (sound : IsSound board) (he
     left = left ∙ (sound.flags.left ∙ sym (map-set_same (λ app. app.view.left) board.apps a now x (same ∙ ap (λ app. app.view.left) (sym here.is))));
   }
 
-  hands-count : (b : ℕ) → IsAtRest now → count_by (nat_eq b) (flat_map (λ app. app.inside.hands) (set board.apps a now))
+  hands-count : (b : ℕ) → IsAppAtRest now → count_by (nat_eq b) (flat_map (λ app. app.inside.hands) (set board.apps a now))
       ≡ count_by (nat_eq b) (flat_map (λ app. app.inside.hands) board.apps)
   hands-count b rest =
       let hands : AppSide → List ℕ = λ app. app.inside.hands in
@@ -165,12 +166,12 @@ module _ (board : Stand) (a : ℕ) (x now : AppSide) (sound : IsSound board) (he
       )
 
   -- free places change by the free list alone
-  pub free_places-side : (listed listed' : ℕ → Bool) (b : ℕ) → IsAtRest now
-      → free_places listed' b board.nic (set board.apps a now) + weight (listed b) ≡ free_places listed b board.nic board.apps + weight (listed' b)
+  pub free_places-side : (listed listed' : ℕ → Bool) (b : ℕ) → IsAppAtRest now
+      → free_places listed' b board.nic (set board.apps a now) + one_if (listed b) ≡ free_places listed b board.nic board.apps + one_if (listed' b)
   free_places-side listed listed' b rest = omega (arith, hands-count b rest)
 
   -- where its holdings have the number that they had, and no buffer is listed or taken off the list
-  pub AreFreeOnce-app : (listed : ℕ → Bool) → IsAtRest now → ((b : ℕ) → app_count b board.nic now ≡ app_count b board.nic x)
+  pub AreFreeOnce-app : (listed : ℕ → Bool) → IsAppAtRest now → ((b : ℕ) → app_count b board.nic now ≡ app_count b board.nic x)
       → AreFreeOnce listed board.nic board.apps → AreFreeOnce listed board.nic (set board.apps a now)
   AreFreeOnce-app listed rest same free = record {
     pool = λ b within. let kept : pool_count b board.nic (set board.apps a now)
@@ -196,7 +197,7 @@ module _ (board : Stand) (a : ℕ) (x now : AppSide) (sound : IsSound board) (he
       )
 
   -- where no buffer left the free list
-  pub AreKept-app : (listed listed' : ℕ → Bool) → now.view.picked ≡ x.view.picked → ((b : ℕ) → weight (listed b) ≤ weight (listed' b))
+  pub AreKept-app : (listed listed' : ℕ → Bool) → now.view.picked ≡ x.view.picked → ((b : ℕ) → one_if (listed b) ≤ one_if (listed' b))
       → AreKept listed board.nic board.apps → AreKept listed' board.nic (set board.apps a now)
   AreKept-app listed listed' picks more kept = record {
     kept = λ b within. omega (
@@ -233,18 +234,18 @@ module _ (board : Stand) (a : ℕ) (x now : AppSide) (sound : IsSound board) (he
 
   -- its own part of what the arrays keep of it
   pub record IsBooked (arr : Arrays) : Type 0 where
-    pub loans : (b : ℕ) → b < total board.arrays.layout → get_or arr.loans (user_at board.arrays.layout a b) 0 ≡ loans_out b now
+    pub loans : (b : ℕ) → b < all_buffers board.arrays.layout → get_or arr.loans (user_at board.arrays.layout a b) 0 ≡ loans_out b now
     pub filled : All (λ s. get_or arr.filled s.own.buffer 0 ≡ length s.bytes) now.view.owns
     pub raw : get_or arr.raw a 0 ≡ reach_of (entries_on_way board.nic now)
 
   pub AreBooked-app : (arr : Arrays) → arr.layout ≡ board.arrays.layout → IsBooked arr
-      → ((k b : ℕ) → k ≢ a → k < length board.apps → b < total board.arrays.layout
+      → ((k b : ℕ) → k ≢ a → k < length board.apps → b < all_buffers board.arrays.layout
       → get_or arr.loans (user_at board.arrays.layout k b) 0 ≡ get_or board.arrays.loans (user_at board.arrays.layout k b) 0)
       → ((k : ℕ) (y : AppSide) → k ≢ a → IsApp board.apps k y → All (λ s. get_or arr.filled s.own.buffer 0 ≡ length s.bytes) y.view.owns)
       → ((k : ℕ) → k ≢ a → get_or arr.raw k 0 ≡ get_or board.arrays.raw k 0)
       → AreBooked arr board.nic (set board.apps a now)
   AreBooked-app arr layout mine loans filled raw = record {
-    loans = λ k b y it within. let inside : b < total board.arrays.layout = rw (← layout) within in
+    loans = λ k b y it within. let inside : b < all_buffers board.arrays.layout = rw (← layout) within in
         ⊎_elim
         (λ t. rw (layout, t.0, t.1) (mine.loans b inside))
         (λ t. rw layout (loans k b t.0 t.1.there inside ∙ sound.booked.loans k b y t.1 inside))
@@ -254,7 +255,7 @@ module _ (board : Stand) (a : ℕ) (x now : AppSide) (sound : IsSound board) (he
   }
 
   -- what the arrays kept of it before
-  pub was-booked_loans : (b : ℕ) → b < total board.arrays.layout → get_or board.arrays.loans (user_at board.arrays.layout a b) 0 ≡ loans_out b x
+  pub was-booked_loans : (b : ℕ) → b < all_buffers board.arrays.layout → get_or board.arrays.loans (user_at board.arrays.layout a b) 0 ≡ loans_out b x
   was-booked_loans b within = sound.booked.loans a b x here within
 
   pub was-booked_filled : All (λ s. get_or board.arrays.filled s.own.buffer 0 ≡ length s.bytes) x.view.owns

@@ -1,7 +1,7 @@
 -- What an event of the card leaves that sends nothing, deals with nothing and keeps the setting.
 use Rattle.std.{proofs.{Common.{◌≡◌, ℕ, ◌<◌, ◌≤◌, true, List, length, set, ap, sym, ◌∙◌, arith}, lemmas.Bool.{false≢true}}, specs.Prelude.{◌≢◌, All}}
 use Rattle.std.proofs.lemmas.List.Elements.{All-weaker}
-use Rattle.area_layout.specs.Layout.{total}
+use Rattle.area_layout.specs.Layout.{all_buffers}
 use Rattle.board_face.specs.{Sides.{nic_at}, Holders.{lowered_in_hand}, Counts.{pool_count, EndedWereReturned}, NicCalls.{apps_of, IsOpen, HasNoToken}}
 use Rattle.board_face.specs.declared.views.{parts.Setting.{Setting}, nic.{NicView.{NicView}, NicSide.{NicSide}}, app.AppSide.{AppSide}}
 use Rattle.board_face.proofs.{NicLemmas.{user_count-nic}, RelayLemmas.{Relayed-nic}}
@@ -41,14 +41,14 @@ AreRelayed-nic arrays now nic v apps sents deals notes refills places h = record
 -- Where a count is set to what the holders of one buffer came to be, and no other buffer's changed, counts are holders.
 pub AreCounted-nic : (arrays now : Arrays) (nic : NicSide) (v : NicView) (apps : List AppSide) (i n : ℕ) → v.dealt ≡ nic.view.dealt
     → now.layout ≡ arrays.layout → now.users ≡ arrays.users → now.pool ≡ set arrays.pool i n
-    → i < total arrays.layout → length arrays.pool ≡ total arrays.layout → n ≡ pool_count i (nic_at nic v) apps
+    → i < all_buffers arrays.layout → length arrays.pool ≡ all_buffers arrays.layout → n ≡ pool_count i (nic_at nic v) apps
     → ((b : ℕ) → b ≢ i → pool_count b (nic_at nic v) apps ≡ pool_count b nic apps)
     → AreCounted arrays nic apps → AreCounted now (nic_at nic v) apps
 AreCounted-nic arrays now nic v apps i n deals layout users pool there many here others h = record {
-  pool = λ b within. rw pool (counts-set (total arrays.layout) arrays.pool (λ b. pool_count b nic apps) (λ b. pool_count b (nic_at nic v) apps) i n
+  pool = λ b within. rw pool (counts-set (all_buffers arrays.layout) arrays.pool (λ b. pool_count b nic apps) (λ b. pool_count b (nic_at nic v) apps) i n
       (omega arith) h.pool here others b (rw (← layout) within));
   users = λ a b app within. rw (users, layout) (h.users a b app (rw (← layout) within) ∙ sym (user_count-nic a b nic v apps deals));
-  beyond = λ b past. others b (λ e. absurd (let past' : total arrays.layout ≤ b = rw (← layout) past in omega arith))
+  beyond = λ b past. others b (λ e. absurd (let past' : all_buffers arrays.layout ≤ b = rw (← layout) past in omega arith))
       ∙ h.beyond b (rw (← layout) past);
   returned = λ b. EndedWereReturned-nic nic v apps deals b (h.returned b);
 }

@@ -3,7 +3,7 @@ use Rattle.std.{proofs.Common.{◌≡◌, ℕ, ◌+◌, ◌<◌, set, get_or, re
 use Rattle.std.proofs.lemmas.List.{length-set}
 use Rattle.zr_kinds.specs.declared.place.Place.{Place}
 use Rattle.board_face.specs.{Sides.{IsApp, app_at}, Counts.{pool_count}, AppCalls.{IsHere, HasHeld}, AppEvents.{cut}, FreeOnce.{AreFreeOnce, free_places}}
-use Rattle.board_face.{specs.declared.views.app.AppSide.{AppSide}, proofs.{ListLemmas.{not-eqb}, Tallies.{weight}, AppLemmas.{pool_count-app, app_count-cut}}}
+use Rattle.board_face.{specs.declared.views.app.AppSide.{AppSide}, proofs.{ListLemmas.{not-eqb}, Tallies.{one_if}, AppLemmas.{pool_count-app, app_count-cut}}}
 use Rattle.board_face.proofs.{IsFilledByOneLemmas.{IsFilledByOne-cut}, OwnBufferLemmas.{AppLiesInOwn-cut}, AreShownLemmas.{AreShown-cut}, Counting.{weight-other}}
 use Rattle.board_parts.specs.Free.{listed_in}
 use Rattle.plain_board.{specs.{Stand.{Stand, byte_of}, Sound.{IsSound}}, proofs.{Lists.{same-or-other, raised}, AppFrames.{free_places-side, was-own}}}
@@ -15,7 +15,7 @@ once-more : (p p' f f' w : ℕ) → f ≡ (if p == 0 then 1 else 0) → f' ≡ f
 once-more p p' f f' w e free more which =
     ⊎_elim
     (λ none. let same : p' ≡ p = omega arith in rw same (free ∙ e))
-    (λ some. let before = ap weight (not-eqb p 0 (λ z. absurd (omega arith))) in let after = ap weight (not-eqb p' 0 (λ z. absurd (omega arith))) in omega
+    (λ some. let before = ap one_if (not-eqb p 0 (λ z. absurd (omega arith))) in let after = ap one_if (not-eqb p' 0 (λ z. absurd (omega arith))) in omega
     (arith, e, before, after))
     which
 
@@ -29,7 +29,7 @@ module _ (board : Stand) (a : ℕ) (x : AppSide) (place : Place) (at : ℕ) (sou
       let resting = at-rest board a x cut_side.view.helds board.arrays.pool board.arrays.listed sound here stays in
       record {
         pool = λ b within. once-more (pool_count b board.nic board.apps) _ (free_places (listed_in board.arrays.listed) b board.nic board.apps) _
-            (weight (place.buffer == b)) (sound.free.pool b within)
+            (one_if (place.buffer == b)) (sound.free.pool b within)
             (omega (arith, free_places-side board a x cut_side sound here (listed_in board.arrays.listed) (listed_in board.arrays.listed) b resting))
             (omega (arith, pool_count-app b board.nic board.apps a x cut_side here, app_count-cut b board.nic x place at out))
             (⊎_elim (λ same. let e : b ≡ place.buffer = same.1 in inr (rw e (is_held board a x place sound here out))) (λ other. inl other)

@@ -2,19 +2,19 @@
 use Rattle.std.proofs.Common.{◌≡◌, ℕ, ◌+◌, ◌*◌, ◌<◌, ◌≤◌, List, [], ◌++◌, length, map, get_or, refl, ap, sym, ◌∙◌, arith, ⊎_elim, length-drop}
 use Rattle.std.{specs.{Prelude.{◌==◌, ◌/◌, ◌%◌, All, nat_eq, count_by, if◌then◌else◌}, List.{flat_map}}, proofs.Math.Nat.{mul-le-mul_left}}
 use Rattle.std.proofs.lemmas.{List.{append-nil, get_or_default}, Bool.{cases_lt}}
-use Rattle.area_layout.specs.Layout.{pool_buffers, total as all_buffers}
+use Rattle.area_layout.specs.Layout.{pool_buffers, all_buffers}
 use Rattle.board_face.specs.{Sides.{IsApp}, AppCalls.{CanLeave}, Counts.{pool_count, user_count}, Holders.{on_way, ended_in, returned_in, returning_count}}
 use Rattle.board_face.{specs.{Relay.{as_taken, dealt_entries}, declared.views.app.{WrittenEntry.{WrittenEntry}, AppSide.{AppSide}}}, proofs.SideLemmas.{IsApp-at}}
-use Rattle.board_face.proofs.Tallies.{weight, tally, tally-flat}
+use Rattle.board_face.proofs.Tallies.{one_if, tally, tally-flat}
 use Rattle.board_face.proofs.Parts.{nic_count, app_count, helds_in, spares_in, loans_in, notes_in, owed_count, returned_in-count, pool_count-parts, count-tally}
 use Rattle.board_face.proofs.{FreeLemmas.{user_count-le}, RelayLemmas.{way-taken}, Counting.{total-zero}}
 use Rattle.board_parts.{specs.Free.{listed_in, listed_below}, proofs.FreeLists.{IsEachOnce-free, free-fit}}
-use Rattle.plain_board.specs.{Stand.{Stand}, Finish.{IsOver, free_of, IsEachOnce, HasNoCounts, IsServed, BoardsEndWell}, Sound.{IsSound, IsPhased}}
+use Rattle.plain_board.specs.{Stand.{Stand}, Finish.{IsBoardOver, free_buffers_of, IsEachOnce, HasNoCounts, IsServed, BoardsEndWell}, Sound.{IsSound, IsPhased}}
 use Rattle.plain_board.proofs.{Dealing.{entries-relayed}, AppFrames.{pools}}
 
 -- ---- nobody has anything
 
-module _ (board : Stand) (sound : IsSound board) (over : IsOver board) where
+module _ (board : Stand) (sound : IsSound board) (over : IsBoardOver board) where
   module _ (k : ℕ) (d : AppSide) (there : k < length board.apps) where
     abbrev app : AppSide
     app = get_or board.apps k d
@@ -121,7 +121,7 @@ module _ (board : Stand) (sound : IsSound board) (over : IsOver board) where
 
   -- a buffer is cached or listed, and not both, and no reserve is cached
   once-there : (b : ℕ) → b < pool_buffers board.arrays.layout
-      → count_by (nat_eq b) board.arrays.cache + weight (listed_in board.arrays.listed b) ≡ 1
+      → count_by (nat_eq b) board.arrays.cache + one_if (listed_in board.arrays.listed b) ≡ 1
   once-there b within =
       let one = sound.free.pool b (rw (pools sound) within) ∙ ap (λ n. if n == 0 then 1 else 0) (holders-none b) in
       omega (arith, ap (count_by (nat_eq b)) sound.cached, one, card-hands b, hands-none b)
@@ -129,7 +129,7 @@ module _ (board : Stand) (sound : IsSound board) (over : IsOver board) where
   none-past : (b : ℕ) → pool_buffers board.arrays.layout ≤ b → count_by (nat_eq b) board.arrays.cache ≡ 0
   none-past b past = omega (arith, ap (count_by (nat_eq b)) sound.cached, sound.free.reserves b (rw (pools sound) past))
 
-  pub IsEachOnce-over : IsEachOnce (pool_buffers board.arrays.layout) (free_of board.arrays)
+  pub IsEachOnce-over : IsEachOnce (pool_buffers board.arrays.layout) (free_buffers_of board.arrays)
   IsEachOnce-over =
       IsEachOnce-free (pool_buffers board.arrays.layout) board.arrays.cache board.arrays.listed sound.sizes.listed once-there none-past
 

@@ -3,7 +3,7 @@ use Rattle.std.{proofs.Common.{◌≡◌, ℕ, ◌-◌, ◌<◌, true, List, [],
 use Rattle.std.proofs.lemmas.List.{length-set, get_or-set_same, get_or-set_other, Elements.{All-set}}
 use Rattle.circular_buffer.specs.Buffer.{Buffer, buffer}
 use Rattle.zr_kinds.specs.declared.{place.Place.{Place}, ring.Rqe.{Rqe}}
-use Rattle.area_layout.{specs.Layout.{total, judged, LiesIn}, proofs.Words.{place_judged}}
+use Rattle.area_layout.{specs.Layout.{all_buffers, judged, LiesIn}, proofs.Words.{place_judged}}
 use Rattle.board_face.specs.{Sides.{IsApp, app_at}, AppEvents.{gave, entry_of}, AppCalls.{HasLoan}, Relay.{Relayed}, declared.views.app.WrittenEntry.{WrittenEntry}}
 use Rattle.board_face.{specs.declared.views.app.AppSide.{AppSide}, proofs.AppLemmas.{app_count-gave, user_part-gave, EndedWereReturned-abandoned}}
 use Rattle.board_face.proofs.{RelayLemmas.{Relayed-wrote}, IsFilledByOneLemmas.{IsFilledByOne-gave}, OwnBufferLemmas.{AppLiesInOwn-abandoned}}
@@ -68,7 +68,7 @@ module _ (board : Stand) (a : ℕ) (x : AppSide) (place : Place) (sound : IsSoun
   way-then : entries_on_way board.nic now ≡ entries_on_way board.nic x ++ written ∷ []
   way-then = way-longer board.nic x _ _ written (was-relayed board a x now sound here)
 
-  within : place.buffer < total board.arrays.layout
+  within : place.buffer < all_buffers board.arrays.layout
   within = lies.buffer
 
   returns-then : AreReturns board.nic now
@@ -126,7 +126,7 @@ module _ (board : Stand) (a : ℕ) (x : AppSide) (place : Place) (sound : IsSoun
               filled = was-booked_filled board a x now sound here;
               raw = was-booked_raw board a x now sound here ∙ sym (ap reach_of way-then ∙ reach-longer (entries_on_way board.nic x) written refl);
             })
-            (λ k b ne app inside. user-other (total board.arrays.layout) board.arrays.loans a place.buffer n within k b inside (inl ne))
+            (λ k b ne app inside. user-other (all_buffers board.arrays.layout) board.arrays.loans a place.buffer n within k b inside (inl ne))
             (λ k y ne it. sound.booked.filled k y it)
             (λ k ne. refl);
         phased = ArePhased-app board a x now sound here (record {

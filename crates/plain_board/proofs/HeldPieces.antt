@@ -2,15 +2,15 @@
 use Rattle.std.{proofs.Common.{◌≡◌, ℕ, ◌+◌, ◌<◌, ◌≤◌, Bool, List, length, set, get_or, refl, ap, ◌∙◌, arith, ⊎_elim}, specs.Prelude.{count_by}}
 use Rattle.std.proofs.lemmas.Bool.{cases_lt, lt-ltb}
 use Rattle.zr_kinds.specs.declared.place.Place.{Place}
-use Rattle.area_layout.{specs.Layout.{size_of, total as all_buffers}, proofs.Words.{words_apart}}
+use Rattle.area_layout.{specs.Layout.{size_of, all_buffers}, proofs.Words.{words_apart}}
 use Rattle.board_face.specs.{Lists.{same_place}, Sides.{IsApp, app_at}, Counts.{pool_count}, Places.{places_of, ends_behind}, FreeOnce.{AreFreeOnce}}
 use Rattle.board_face.specs.{Fillings.{IsFilledByOne}, OwnBuffers.{AppLiesInOwn}, Shown.{AreShown}, AppCalls.{IsHere, HasHeld}}
 use Rattle.board_face.{specs.declared.views.app.{HeldPiece.{HeldPiece}, AppSide.{AppSide}}, proofs.ListLemmas.{eqb_same, same_place-refl, same_place-is}}
-use Rattle.board_face.proofs.{Tallies.{weight, tally-without}, Parts.{app_count, pool_count-parts, count-tally}}
+use Rattle.board_face.proofs.{Tallies.{one_if, tally-without}, Parts.{app_count, pool_count-parts, count-tally}}
 use Rattle.board_face.proofs.{PlaceTallies.{in_buffer, app_places, places-parts, in-own}, AppLemmas.{app_count-released}, RelayLemmas.{Relayed-app}}
 use Rattle.board_face.proofs.{FewLemmas.{pool_count-few}, FillingsFitLemmas.{FillingsFit-same}, LiesLemmas.{total-at}}
 use Rattle.board_parts.specs.Free.{listed_in}
-use Rattle.plain_board.specs.{Stand.{Arrays, Stand, byte_of}, Sound.{IsSound, IsAtRest}}
+use Rattle.plain_board.specs.{Stand.{Arrays, Stand, byte_of}, Sound.{IsSound, IsAppAtRest}}
 use Rattle.plain_board.proofs.AppFrames.{IsSet-app, was-at_rest, AreCounted-app, was-returned, AreRelayed-kept, was-relayed, returns-app, was-returns}
 use Rattle.plain_board.proofs.AppFrames.{AreFlags-kept, AreKept-app, AreDue-app, was-given, was-due, AreBooked-kept, ArePhased-app, was-phased, OwnBuffers-app}
 
@@ -24,7 +24,7 @@ module _ (board : Stand) (a : ℕ) (x : AppSide) (place : Place) (sound : IsSoun
         pool_count-parts place.buffer board.nic board.apps,
         total-at (app_count place.buffer board.nic) board.apps a x here.there here.is,
         app_count-released place.buffer board.nic x place out,
-        ap weight (eqb_same place.buffer),
+        ap one_if (eqb_same place.buffer),
       )
 
   pub of_area : place.buffer < all_buffers board.arrays.layout
@@ -53,7 +53,7 @@ module _ (board : Stand) (a : ℕ) (x : AppSide) (place : Place) (sound : IsSoun
     sizes-most,
   )
 
-  held-in : (b : ℕ) (test : Place → Bool) → weight (in_buffer b test place) ≤ count_by test (places_of b board.nic board.apps)
+  held-in : (b : ℕ) (test : Place → Bool) → one_if (in_buffer b test place) ≤ count_by test (places_of b board.nic board.apps)
   held-in b test =
       omega (
         arith,
@@ -73,8 +73,8 @@ module _ (board : Stand) (a : ℕ) (x : AppSide) (place : Place) (sound : IsSoun
         arith,
         held-in b (ends_behind n),
         (sound.shown.places b).within,
-        ap weight (in-own (ends_behind n) place),
-        ap weight (lt-ltb n (place.offset + place.len) behind),
+        ap one_if (in-own (ends_behind n) place),
+        ap one_if (lt-ltb n (place.offset + place.len) behind),
       )))
       (λ inside. omega (arith, sizes-same, sizes-most))
       (cases_lt n (place.offset + place.len))
@@ -96,12 +96,12 @@ module _ (board : Stand) (a : ℕ) (x : AppSide) (helds : List HeldPiece) (pool 
         → get_or pool b 0 + app_count b board.nic x ≡ get_or board.arrays.pool b 0 + app_count b board.nic side_then
     pub few : (b : ℕ) → all_buffers board.arrays.layout ≤ b → app_count b board.nic side_then ≤ app_count b board.nic x
     pub free : AreFreeOnce (listed_in listed) board.nic (set board.apps a side_then)
-    pub more : (b : ℕ) → weight (listed_in board.arrays.listed b) ≤ weight (listed_in listed b)
+    pub more : (b : ℕ) → one_if (listed_in board.arrays.listed b) ≤ one_if (listed_in listed b)
     pub by_one : (b : ℕ) → IsFilledByOne b board.nic (set board.apps a side_then)
     pub shown : AreShown (byte_of board.arrays) board.nic (set board.apps a side_then)
     pub own_buffers : AppLiesInOwn side_then.view
 
-  pub at-rest : IsAtRest side_then
+  pub at-rest : IsAppAtRest side_then
   at-rest = assumption (was-at_rest board a x side_then sound here)
 
   pub IsSound-helds : IsMove → IsSound (record { arrays = arrays_then; nic = board.nic; apps = set board.apps a side_then })

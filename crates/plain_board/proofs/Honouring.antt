@@ -4,14 +4,14 @@ use Rattle.std.{proofs.Common.{sym, ◌∙◌, subst, arith, ⊎_elim, inl, inr,
 use Rattle.std.proofs.lemmas.{List.{get_or_default, length-set, get_or-set_same, get_or-set_other, Elements.{All-push, All-contains}}, Nat.{mul-add-lt}}
 use Rattle.std.proofs.lemmas.Bool.{cases_Bool, cases_lt, ltb-true, lt-ltb, Decides.{eqb_tells}}
 use Rattle.zr_kinds.{specs.declared.ring.Rqe.{Rqe}, proofs.{Lists.{counts-set}, Booleans.{and-true}}}
-use Rattle.area_layout.specs.Layout.{pool_buffers, total, judged}
+use Rattle.area_layout.specs.Layout.{pool_buffers, all_buffers, judged}
 use Rattle.board_face.specs.{NicEvents.{honoured, gave_up, holder_look}, Looks.{NicRose}, Judged.{IsHonouredAsNamed}, NicCalls.{FreedEntry, HonouredEntry}}
 use Rattle.board_face.{specs.declared.views.nic.NicLook.TheVariants.{Owed}, proofs.LookLemmas.{NicRose-nic_saw, NicRose-before, NicRose-later, NicLooksStay-nic_saw}}
 use Rattle.board_face.specs.{Sides.{nic_at, IsApp}, Holders.{lowered_in_hand, ended_in, owed_in, returned_in}, Counts.{pool_count, user_count, EndedWereReturned}}
 use Rattle.board_face.specs.{FreeOnce.{free_places}, declared.views.nic.{Dealt.{Dealt}, Fate.TheVariants.{Honoured}, NicView.{NicView}, NicSide.{NicSide}}}
 use Rattle.board_face.{specs.declared.views.app.AppSide.{AppSide}, proofs.ListLemmas.{eqb_same, not-eqb}}
 use Rattle.board_face.proofs.NicLemmas.{Owes, pool_count-honoured, user_count-honoured, honoured-other, honoured-target}
-use Rattle.board_face.proofs.{Parts.{returned_in-count, loans_in, owed_count, count-tally, user_count-own, owed-count}, Tallies.{weight}}
+use Rattle.board_face.proofs.{Parts.{returned_in-count, loans_in, owed_count, count-tally, user_count-own, owed-count}, Tallies.{one_if}}
 use Rattle.board_face.proofs.{FillingsFitLemmas.{FillingsFit-nic}, IsFilledByOneLemmas.{IsFilledByOne-honoured, IsFilledByOne-gave_up}, OwnBufferLemmas.{LieInOwn-nic}}
 use Rattle.board_face.proofs.{AreShownLemmas.{AreShown-honoured, AreShown-gave_up}, SideLemmas.{IsApp-at}}
 use Rattle.board_face.proofs.Counting.{weight-same, weight-other, weight-none, count-first, once-freed}
@@ -30,23 +30,23 @@ pub nothing : (last : Bool) {f w : ℕ} → w ≡ 0 → f + (if last then w else
 nothing true none = omega (arith, none)
 nothing false none = omega arith
 
-pub and-one : (a i : ℕ) → weight ((a == a) && (i == i)) ≡ 1
+pub and-one : (a i : ℕ) → one_if ((a == a) && (i == i)) ≡ 1
 and-one a i = rw (eqb_same a, eqb_same i) refl
 
-and-case : (c d : Bool) → d ≡ false → weight (c && d) ≡ 0
-and-case true d e = ap weight e
+and-case : (c d : Bool) → d ≡ false → one_if (c && d) ≡ 0
+and-case true d e = ap one_if e
 and-case false d e = refl
 
-pub and-none : (a c i b : ℕ) → ((c ≡ a) × (b ≡ i) → ⊥) → weight ((a == c) && (i == b)) ≡ 0
+pub and-none : (a c i b : ℕ) → ((c ≡ a) × (b ≡ i) → ⊥) → one_if ((a == c) && (i == b)) ≡ 0
 and-none a c i b apart =
     ⊎_elim
     (λ t. and-case (a == c) (i == b) (not-eqb i b (λ e. apart (sym t.1, sym e))))
-    (λ t. let other : (a == c) ≡ false = t.0 in ap (λ z. weight (z && (i == b))) other)
+    (λ t. let other : (a == c) ≡ false = t.0 in ap (λ z. one_if (z && (i == b))) other)
     (eqb_tells a c)
 
 module _ (board : Stand) (a i : ℕ) (x : AppSide) (e : Rqe) (es : List Rqe) (sound : IsSound board) (here : IsApp board.apps a x)
     (found : refills_of board.arrays a ≡ e ∷ es)
-    (named : judged board.arrays.layout e ≡ Some i) (inside : i < total board.arrays.layout)
+    (named : judged board.arrays.layout e ≡ Some i) (inside : i < all_buffers board.arrays.layout)
     (some : 0 < get_or board.arrays.users (user_at board.arrays.layout a i) 0) where
   pub same_layout : x.view.setting.layout ≡ board.arrays.layout
   same_layout = subst (λ app. app.view.setting.layout ≡ board.arrays.layout) here.is (ap (λ s. s.layout) (sound.set.roles a x here.there))
@@ -82,7 +82,7 @@ module _ (board : Stand) (a i : ℕ) (x : AppSide) (e : Rqe) (es : List Rqe) (so
         rw front.way at (h.owed i),
         idle i,
         count-first (returns x.view.setting.layout i) front.first front.others,
-        ap weight counted,
+        ap one_if counted,
         owed-count i board.nic x,
       ))
       (λ raw. let none = ((rw front.way at (h.clear i)).0 raw names_it).0 in
@@ -101,10 +101,10 @@ module _ (board : Stand) (a i : ℕ) (x : AppSide) (e : Rqe) (es : List Rqe) (so
   abbrev pub nic_then : Bool → NicSide
   nic_then last = nic_at board.nic (honoured_if board.nic.view a e i last)
 
-  pub less : (last : Bool) (b : ℕ) → pool_count b (nic_then last) board.apps + weight (i == b) ≡ pool_count b board.nic board.apps
+  pub less : (last : Bool) (b : ℕ) → pool_count b (nic_then last) board.apps + one_if (i == b) ≡ pool_count b board.nic board.apps
   less last b = pool_count-honoured b board.nic board.apps a i e x sound.set.numbers here owes
 
-  pub fewer : (last : Bool) (c b : ℕ) → user_count c b (nic_then last) board.apps + weight ((a == c) && (i == b)) ≡ user_count c b board.nic board.apps
+  pub fewer : (last : Bool) (c b : ℕ) → user_count c b (nic_then last) board.apps + one_if ((a == c) && (i == b)) ≡ user_count c b board.nic board.apps
   fewer last c b = user_count-honoured c b board.nic board.apps a i e x sound.set.numbers here owes
 
   pub is_held : 0 < get_or board.arrays.pool i 0
@@ -130,15 +130,15 @@ module _ (board : Stand) (a i : ℕ) (x : AppSide) (e : Rqe) (es : List Rqe) (so
   came-pool last free = let of_pool = ltb-true i (pool_buffers board.nic.view.setting.layout) (and-right last _ free) in let p = pools sound in omega arith
 
   places_if : (free : Bool) → (free ≡ true → i < pool_buffers board.arrays.layout) → (b : ℕ)
-      → weight (listed_in (listed_after free board.arrays.cache board.arrays.listed i) b) + count_by (nat_eq b) (cache_after free board.arrays.cache i)
-      ≡ weight (listed_in board.arrays.listed b) + count_by (nat_eq b) board.arrays.cache + (if free then weight (i == b) else 0)
+      → one_if (listed_in (listed_after free board.arrays.cache board.arrays.listed i) b) + count_by (nat_eq b) (cache_after free board.arrays.cache i)
+      ≡ one_if (listed_in board.arrays.listed b) + count_by (nat_eq b) board.arrays.cache + (if free then one_if (i == b) else 0)
   places_if true of_pool b = places-after true board.arrays.cache board.arrays.listed i b (omega (arith, of_pool refl, sound.sizes.listed))
       (unlisted (of_pool refl))
   places_if false of_pool b = omega arith
 
   free_then : (last : Bool) → (came last ≡ true → i < pool_buffers board.arrays.layout) → (b : ℕ)
       → free_places (listed_in (listed_after (came last) board.arrays.cache board.arrays.listed i)) b (nic_then last) board.apps
-      ≡ free_places (listed_in board.arrays.listed) b board.nic board.apps + (if came last then weight (i == b) else 0)
+      ≡ free_places (listed_in board.arrays.listed) b board.nic board.apps + (if came last then one_if (i == b) else 0)
   free_then last of_pool b = omega (
     arith,
     places_if (came last) of_pool b,
@@ -148,7 +148,7 @@ module _ (board : Stand) (a i : ℕ) (x : AppSide) (e : Rqe) (es : List Rqe) (so
 
   -- ---- what each application owes then
 
-  ended_then : (last : Bool) (b : ℕ) → ended_in b (nic_then last) x ≡ ended_in b board.nic x + weight (i == b)
+  ended_then : (last : Bool) (b : ℕ) → ended_in b (nic_then last) x ≡ ended_in b board.nic x + one_if (i == b)
   ended_then last b = honoured-target b board.nic a i e x here.number
 
   ended_others : (last : Bool) (b : ℕ) (app : AppSide) → app.view.app ≢ a → ended_in b (nic_then last) app ≡ ended_in b board.nic app
@@ -187,21 +187,21 @@ module _ (board : Stand) (a i : ℕ) (x : AppSide) (e : Rqe) (es : List Rqe) (so
   as_named b honoured = ap (λ s. judged s.layout e) sound.set.card ∙ (named ∙ ap Some (let same : i ≡ b = cc in same))
 
   users_then : (last : Bool) (m : ℕ) → m ≡ get_or board.arrays.users (user_at board.arrays.layout a i) 0 - 1 → (c b : ℕ) → c < length board.apps
-      → b < total board.arrays.layout
+      → b < all_buffers board.arrays.layout
       → get_or (set board.arrays.users (user_at board.arrays.layout a i) m) (user_at board.arrays.layout c b) 0 ≡ user_count c b (nic_then last) board.apps
   users_then last m is c b app within =
       let users = board.arrays.users in
       let spot = user_at board.arrays.layout a i in
       let there : spot < length users = let many = sound.set.many in let h = here.there in let size = sound.sizes.users in omega
-      (arith, mul-add-lt a (total board.arrays.layout) i board.arrays.layout.reserves (omega arith) inside, size) in
+      (arith, mul-add-lt a (all_buffers board.arrays.layout) i board.arrays.layout.reserves (omega arith) inside, size) in
       ⊎_elim
-      (λ t. let both = same-user (total board.arrays.layout) c a b i within inside t.1 in
+      (λ t. let both = same-user (all_buffers board.arrays.layout) c a b i within inside t.1 in
       subst (λ c'. get_or (set users spot m) (user_at board.arrays.layout c' b) 0 ≡ user_count c' b (nic_then last) board.apps) (sym both.0)
       (subst (λ b'. get_or (set users spot m) (user_at board.arrays.layout a b') 0 ≡ user_count a b' (nic_then last) board.apps) (sym both.1)
       (get_or-set_same users spot m 0 there ∙ omega (arith, is, fewer last a i, and-one a i, sound.counted.users a i here.there inside))))
       (λ t. let ne : user_at board.arrays.layout c b ≢ spot = t.1 in
-      let apart = and-none a c i b (λ both. ne (ap (λ n. n * total board.arrays.layout + b) both.0
-      ∙ ap (λ n. a * total board.arrays.layout + n) both.1)) in
+      let apart = and-none a c i b (λ both. ne (ap (λ n. n * all_buffers board.arrays.layout + b) both.0
+      ∙ ap (λ n. a * all_buffers board.arrays.layout + n) both.1)) in
       get_or-set_other users spot (user_at board.arrays.layout c b) m 0 ne ∙ omega (arith, fewer last c b, apart, sound.counted.users c b app within))
       (eqb_tells (user_at board.arrays.layout c b) spot)
 
@@ -219,7 +219,7 @@ module _ (board : Stand) (a i : ℕ) (x : AppSide) (e : Rqe) (es : List Rqe) (so
         rw front.way at (h.owed i),
         idle i,
         count-first (returns x.view.setting.layout i) front.first front.others,
-        ap weight counted,
+        ap one_if counted,
         owed-count i board.nic x,
         owed-count i (nic_then last) x,
         ended_then last i,
@@ -241,11 +241,11 @@ module _ (board : Stand) (a i : ℕ) (x : AppSide) (e : Rqe) (es : List Rqe) (so
       (same-or-other b i)
 
   -- the entry gives back no more than one loan, in its buffer
-  gives-case : (of_loan names_b : Bool) (b : ℕ) → names_b ≡ (i == b) → weight (if of_loan then names_b else false) ≤ weight (i == b)
-  gives-case true names_b b is = omega (arith, ap weight is)
+  gives-case : (of_loan names_b : Bool) (b : ℕ) → names_b ≡ (i == b) → one_if (if of_loan then names_b else false) ≤ one_if (i == b)
+  gives-case true names_b b is = omega (arith, ap one_if is)
   gives-case false names_b b is = omega arith
 
-  gives-one : (b : ℕ) → weight (returns x.view.setting.layout b front.first) ≤ weight (i == b)
+  gives-one : (b : ℕ) → one_if (returns x.view.setting.layout b front.first) ≤ one_if (i == b)
   gives-one b = gives-case front.first.of_loan (names x.view.setting.layout b front.first) b (ap (λ o. is_some_of o b) first_judged)
 
   no_more : (last : Bool) (b : ℕ) → length (owed_in b (nic_then last) x) ≤ count_by (returns x.view.setting.layout b) front.others + abandoned_in b x
@@ -283,10 +283,10 @@ module _ (board : Stand) (a i : ℕ) (x : AppSide) (e : Rqe) (es : List Rqe) (so
       let before = sound.free.pool b (rw (pools sound) within) in
       ⊎_elim
       (λ inside. once-freed (came last) (pool_count b board.nic board.apps) _ (free_places (listed_in board.arrays.listed) b board.nic board.apps) _
-      (weight (i == b)) (weight (i == b)) n before (less last b) (free_then last of_pool b)
+      (one_if (i == b)) (one_if (i == b)) n before (less last b) (free_then last of_pool b)
       (⊎_elim (λ same. inr (omega (arith, same.0), same.0, ap (λ y. pool_count y (nic_then last) board.apps) same.1 ∙ sym now, is inside))
       (λ other. inl (other, other)) (same-or-other b i)))
-      (λ beyond. let apart : weight (i == b) ≡ 0 = weight-other i b (λ e. absurd (omega arith)) in
+      (λ beyond. let apart : one_if (i == b) ≡ 0 = weight-other i b (λ e. absurd (omega arith)) in
       let kept : pool_count b (nic_then last) board.apps ≡ pool_count b board.nic board.apps = omega (arith, less last b, apart) in
       free_then last of_pool b ∙ (nothing (came last) apart ∙ (before ∙ ap (λ p. if p == 0 then 1 else 0) (sym kept))))
       (cases_lt i (pool_buffers board.arrays.layout))
@@ -321,7 +321,7 @@ module _ (board : Stand) (a i : ℕ) (x : AppSide) (e : Rqe) (es : List Rqe) (so
         cached = ap (λ cache. cache_after (came last) cache i) sound.cached;
         set = IsSet-nic _ board.nic (honoured_if board.nic.view a e i last) board.apps refl sound.set;
         counted = record {
-          pool = counts-set (total board.arrays.layout) board.arrays.pool (λ b. pool_count b board.nic board.apps)
+          pool = counts-set (all_buffers board.arrays.layout) board.arrays.pool (λ b. pool_count b board.nic board.apps)
               (λ b. pool_count b (nic_then last) board.apps) i n (omega (arith, sound.sizes.pool)) sound.counted.pool now
               (λ b other. omega (arith, less last b, weight-other i b (λ e. other (sym e))));
           users = users_then last m some_users;
@@ -362,7 +362,7 @@ module _ (board : Stand) (a i : ℕ) (x : AppSide) (e : Rqe) (es : List Rqe) (so
       }
     where
       beyond_pool : (free : Bool) → (free ≡ true → i < pool_buffers board.arrays.layout) → (b : ℕ) → pool_buffers board.arrays.layout ≤ b
-          → {f : ℕ} → f ≡ 0 → f + (if free then weight (i == b) else 0) ≡ 0
+          → {f : ℕ} → f ≡ 0 → f + (if free then one_if (i == b) else 0) ≡ 0
       beyond_pool true of_pool b past empty = omega (arith, of_pool refl, empty, weight-other i b (λ e. absurd (omega (arith, of_pool refl))))
       beyond_pool false of_pool b past empty = omega (arith, empty)
 

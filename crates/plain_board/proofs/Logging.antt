@@ -2,23 +2,23 @@
 use Rattle.std.proofs.Common.{◌≡◌, ℕ, ◌^◌, ◌<◌, Bool, true, false, List, [], length, map, set, refl, ap, sym, ◌∙◌, arith}
 use Rattle.std.{specs.{Prelude.{MatchBool, MatchResult, Result, Ok, Err}, List.{AllByRecursion}}, proofs.{lemmas.List.{length-set}, Common.{subst}}}
 use Rattle.run_records.specs.{declared.event.Event.{Event}, LegalRun.{HasSmallNumbers}, Setting.{total_buffers}}
-use Rattle.area_layout.specs.Layout.{total as all_buffers}
+use Rattle.area_layout.specs.Layout.{all_buffers}
 use Rattle.board_face.specs.{Blank.{blank_app}, Laws.{AllSides, Scrubs, pool_of, scrubbed_by}, Counts.{EndedWereReturned}, NicCalls.{DealtWith}, NicEvents.{nic_saw}, Opened.{new_nic}}
 use Rattle.board_face.specs.declared.{answers.Entry.{Entry, TheVariants.{Freed, Honoured, Stray, Empty}}, views.nic.NicLook.TheVariants.{RingEmpty}}
 use Rattle.board_face.specs.{Sides.{app_at, nic_at}, declared.views.{nic.{NicView.{NicView}, NicSide.{NicSide}}, app.{AppView.{AppView}, AppSide.{AppSide}}}}
 use Rattle.board_face.{proofs.CountLaws.{scrub_law}, specs.BoardSteps.{CardStep, AppStep, Step, AppCan, CardCan, Can, apply, app_view, card_view, card, app}}
-use Rattle.event_log.specs.{IsLogged.{AreSound, run_of}, Logs.{Kept, all_logged}, ScrubLaw.{scrub_logged, scrub_of, scrubbed_sides}}
+use Rattle.event_log.specs.{IsLogged.{AreSound, setting_of_sides}, Logs.{KeptEvents, all_logged}, ScrubLaw.{scrub_logged, scrub_of, scrubbed_sides}}
 use Rattle.event_log.{specs.StepEvents.{MayTell, app_events, card_events, events_of}, proofs.StepLaw.{step-law}}
 use Rattle.event_log.proofs.{OneSide.{one_side-law}, Scrubs.{scrubbed-law}, Settings.{total-same}, ShortFills.{fills-law}, SoundSides.{sound-law}}
 use Rattle.plain_board.specs.{Board.{Board, Part}, Events.{IsNoReturn, TookOwed}, OneSide.{OnlyCard, OnlyView}, Recorded.{IsRecorded, IsSoundAndRecorded, IsSoundPart}}
-use Rattle.plain_board.specs.Stand.{Stand, setting_of, sides_of, side_of, others_of}
+use Rattle.plain_board.specs.Stand.{Stand, setting_of_arrays, sides_of, side_of, others_of}
 use Rattle.plain_board.{specs.Sound.{IsSound, taken_of, notes_of, refills_of}, proofs.{AppFrames.{here-of}, Counting.{holders-few}}}
 
 -- the board with this log, and the same in the hands of an application
-abbrev pub with_log : Stand → Kept → Board
+abbrev pub with_log : Stand → KeptEvents → Board
 with_log stand log = record { arrays = stand.arrays; nic = stand.nic; apps = stand.apps; log = log }
 
-abbrev pub part_with : Stand → ℕ → Kept → Part
+abbrev pub part_with : Stand → ℕ → KeptEvents → Part
 part_with stand a log = record { board = with_log stand log; app = a }
 
 -- what holds of a board's contents makes its sides sound
@@ -41,7 +41,7 @@ sides-sound board sound =
     sound.shown.places sound.by_one sound.filled
 
 -- where a step was made, the log that has its events tells of the board
-module _ (step : Step) (old new : Stand) (log : Kept) (was : IsSoundAndRecorded (with_log old log)) (can : Can step (sides_of old))
+module _ (step : Step) (old new : Stand) (log : KeptEvents) (was : IsSoundAndRecorded (with_log old log)) (can : Can step (sides_of old))
     (may : MayTell step (sides_of old)) (sound : IsSound new) (made : sides_of new ≡ apply step (sides_of old)) where
   step-told : (events : List Event) → events ≡ events_of step (sides_of old) (sides_of new) → AllByRecursion HasSmallNumbers events
       → IsSoundAndRecorded (with_log new (all_logged log events))
@@ -62,7 +62,7 @@ module _ (step : Step) (old new : Stand) (log : Kept) (was : IsSoundAndRecorded 
 pub nic-by : (old new : Stand) (v : NicView) → IsSound old → IsSound new → new.nic.view ≡ v → v.setting ≡ old.nic.view.setting
     → new.nic ≡ nic_at old.nic v
 nic-by old new v before after view setting =
-    let settings : setting_of new.arrays ≡ setting_of old.arrays =
+    let settings : setting_of_arrays new.arrays ≡ setting_of_arrays old.arrays =
     sym after.set.card ∙ (ap (λ w. w.setting) view ∙ (setting ∙ before.set.card)) in
     let inside : new.nic.inside ≡ old.nic.inside =
     after.set.card_rest ∙ (ap (λ s. (new_nic s).inside) settings ∙ sym before.set.card_rest) in
@@ -76,7 +76,7 @@ pub card-made : (step : CardStep) (old new : Stand) → new.nic ≡ nic_at old.n
     → sides_of new ≡ apply (card step) (sides_of old)
 card-made step old new nic only = sides-are new.nic (nic_at old.nic (card_view step old.nic.view)) new.apps old.apps nic only.apps
 
-module _ (step : CardStep) (old new : Stand) (log : Kept) (was : IsSoundAndRecorded (with_log old log)) (can : CardCan step (sides_of old))
+module _ (step : CardStep) (old new : Stand) (log : KeptEvents) (was : IsSoundAndRecorded (with_log old log)) (can : CardCan step (sides_of old))
     (may : MayTell (card step) (sides_of old)) (nic : new.nic ≡ nic_at old.nic (card_view step old.nic.view)) (only : OnlyCard old new) where
   pub card-told : (events : List Event) → events ≡ card_events step (sides_of new) → AllByRecursion HasSmallNumbers events
       → IsSoundAndRecorded (with_log new (all_logged log events))
@@ -112,7 +112,7 @@ app-sides old new a now before within others side =
     omega (arith, ap (λ o. length o.apps) others, length-set new.apps a blank_app, length-set old.apps a blank_app, here.there) in
     one_side-law (sides_of old) (sides_of new) a now (ap (λ o. o.card) others) (ap (λ o. o.apps) others) there side
 
-module _ (step : AppStep) (old new : Stand) (a : ℕ) (log : Kept) (was : IsSoundPart (part_with old a log)) (can : AppCan step old.nic (side_of old a))
+module _ (step : AppStep) (old new : Stand) (a : ℕ) (log : KeptEvents) (was : IsSoundPart (part_with old a log)) (can : AppCan step old.nic (side_of old a))
     (may : MayTell (app a step) (sides_of old)) (only : OnlyView old new a) (view : (side_of new a).view ≡ app_view step (side_of old a).view) where
   pub app-told : (events : List Event) → events ≡ app_events a step (side_of old a).view (sides_of new) → AllByRecursion HasSmallNumbers events
       → IsSoundPart (part_with new a (all_logged log events))
@@ -125,11 +125,11 @@ module _ (step : AppStep) (old new : Stand) (a : ℕ) (log : Kept) (was : IsSoun
         board = step-told (app a step) old new log was.board (here-of old a was.board.sound was.app, can) may only.sound made events are small;
       }
 
-pub ended-returned : (old : Stand) (a : ℕ) (log : Kept) → IsSoundPart (part_with old a log) → (b : ℕ) → EndedWereReturned b old.nic (side_of old a)
+pub ended-returned : (old : Stand) (a : ℕ) (log : KeptEvents) → IsSoundPart (part_with old a log) → (b : ℕ) → EndedWereReturned b old.nic (side_of old a)
 ended-returned old a log was b = (sides-sound old was.board.sound).fit.ended a b (side_of old a) (here-of old a was.board.sound was.app)
 
 -- a scrub, which is logged before it takes what the application owes
-module _ (old new : Stand) (a : ℕ) (kept : Kept) (was : IsSoundPart (part_with old a kept)) (others : others_of new a ≡ others_of old a)
+module _ (old new : Stand) (a : ℕ) (kept : KeptEvents) (was : IsSoundPart (part_with old a kept)) (others : others_of new a ≡ others_of old a)
     (loans : (side_of old a).view.loans ≡ []) (took : TookOwed old new a) where
   before : IsSound old
   before = was.board.sound
@@ -143,10 +143,10 @@ module _ (old new : Stand) (a : ℕ) (kept : Kept) (was : IsSoundPart (part_with
   is-scrub : Scrubs a (sides_of old) after
   is-scrub = scrub_law (sides_of old) (sides-sound old before).fit a (side_of old a) (here-of old a before within) loans took.total took.all
 
-  all-there : total_buffers (run_of (sides_of old)) ≡ all_buffers old.arrays.layout
+  all-there : total_buffers (setting_of_sides (sides_of old)) ≡ all_buffers old.arrays.layout
   all-there = total-same old.nic.view.setting.layout ∙ ap (λ s. all_buffers s.layout) before.set.card
 
-  small-scrub : (b : ℕ) → b < total_buffers (run_of (sides_of old)) → HasSmallNumbers (scrub_of after a b)
+  small-scrub : (b : ℕ) → b < total_buffers (setting_of_sides (sides_of old)) → HasSmallNumbers (scrub_of after a b)
   small-scrub b lies =
       let good = before.sizes.layout in
       let number : a < 2 ^ 32 = omega (arith, within, good.reserves.1) in
@@ -157,12 +157,12 @@ module _ (old new : Stand) (a : ℕ) (kept : Kept) (was : IsSoundPart (part_with
   scrubbed-made : sides_of new ≡ after
   scrubbed-made = app-sides old new a (scrubbed_by (side_of old a) took.total) before within others took.side
 
-  pub scrub-told : (said : Kept)
+  pub scrub-told : (said : KeptEvents)
       → ((later : AllSides) → Scrubs a (sides_of old) later → said ≡ scrub_logged (sides_of old) later a kept (all_buffers old.arrays.layout))
       → said ≡ scrub_logged (sides_of old) (sides_of new) a kept (all_buffers old.arrays.layout)
   scrub-told said tells = tells (sides_of new) (subst (Scrubs a (sides_of old)) (sym scrubbed-made) is-scrub)
 
-  scrub-logs : (said : Kept)
+  scrub-logs : (said : KeptEvents)
       → ((then : AllSides) → Scrubs a (sides_of old) then → said ≡ scrub_logged (sides_of old) then a kept (all_buffers old.arrays.layout))
       → IsRecorded (sides_of new) said
   scrub-logs said tells =
@@ -174,7 +174,7 @@ module _ (old new : Stand) (a : ℕ) (kept : Kept) (was : IsSoundPart (part_with
       rw (scrubbed-made, tells after is-scrub)
       (record { logged = rw all-there at logged; short = fills-law.same old.apps a x now here refl recorded.short })
 
-  pub scrubbed-part : new.arrays.layout ≡ old.arrays.layout → IsSound new → (said : Kept)
+  pub scrubbed-part : new.arrays.layout ≡ old.arrays.layout → IsSound new → (said : KeptEvents)
       → ((then : AllSides) → Scrubs a (sides_of old) then → said ≡ scrub_logged (sides_of old) then a kept (all_buffers old.arrays.layout))
       → IsSoundPart (part_with new a said)
   scrubbed-part layout sound said tells =

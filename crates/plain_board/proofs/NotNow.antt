@@ -2,7 +2,7 @@
 use Rattle.std.proofs.Common.{◌≡◌, ℕ, ◌<◌, ◌≤◌, Bool, true, false, List, [], ◌∷◌, length, drop, get_or, refl, ap, sym, ◌∙◌, arith, ⊎_elim, length-drop, zero, suc}
 use Rattle.std.{proofs.lemmas.List.{length-map}, specs.Prelude.{◌+◌, ◌==◌}}
 use Rattle.circular_buffer.specs.Buffer.{buffer}
-use Rattle.area_layout.specs.Layout.{pool_buffers, total}
+use Rattle.area_layout.specs.Layout.{pool_buffers, all_buffers}
 use Rattle.board_face.specs.{Sides.{IsApp, side_in}, NotNow.{HasSentRingful, HasWrittenRingful, HasWritten, HasPushedRaw, HasUsedReserve}, Returns.{is_raw}}
 use Rattle.board_face.specs.{Holders.{sent_to}, Counts.{pool_count}, Relay.{dealt_entries}, AppEvents.{app_gist, reserve_of}, Blank.{blank_app}}
 use Rattle.board_face.{specs.declared.views.app.{LentPiece.{LentPiece}, AppSide.{AppSide}}, proofs.{Tallies.{tally}, Parts.{count-tally}, SideLemmas.{IsApp-at}}}
@@ -72,7 +72,7 @@ module _ (board : Stand) (a : ℕ) (x : AppSide) (sound : IsSound board) (here :
   used-reserve held =
       let mine = has-setting board a x x sound here in
       let reserve : reserve_of x.view ≡ pool_buffers board.arrays.layout + a = omega (arith, ap (λ s. pool_buffers s.layout) mine, here.number) in
-      let inside : pool_buffers board.arrays.layout + a < total board.arrays.layout = let many = sound.set.many in let h = here.there in omega arith in
+      let inside : pool_buffers board.arrays.layout + a < all_buffers board.arrays.layout = let many = sound.set.many in let h = here.there in omega arith in
       omega (
         arith,
         held,

@@ -1,9 +1,9 @@
 -- What was held or filled is on loan: one user more, and no holder more or less.
 use Rattle.std.{proofs.Common.{◌≡◌, ℕ, ◌+◌, ◌<◌, ◌^◌, true, false, List, length, set, get_or, refl, sym, ◌∙◌, arith, inl}, specs.Prelude.{◌==◌, All}}
 use Rattle.std.proofs.lemmas.List.{length-set}
-use Rattle.area_layout.specs.Layout.{total}
+use Rattle.area_layout.specs.Layout.{all_buffers}
 use Rattle.board_face.specs.{Sides.{IsApp, app_at}, AppCalls.{CanLend}, Fillings.{FillingsFit, IsFilledByOne}, OwnBuffers.{AppLiesInOwn}, Shown.{AreShown}}
-use Rattle.board_face.{specs.declared.views.app.{HeldPiece.{HeldPiece}, LentPiece.{LentPiece}, SpareOwn.{SpareOwn}, AppSide.{AppSide}}, proofs.Tallies.{weight}}
+use Rattle.board_face.{specs.declared.views.app.{HeldPiece.{HeldPiece}, LentPiece.{LentPiece}, SpareOwn.{SpareOwn}, AppSide.{AppSide}}, proofs.Tallies.{one_if}}
 use Rattle.board_face.proofs.{Parts.{app_count, user_part, count-tally}, FreeLemmas.{user_count-le}, RelayLemmas.{Relayed-app}}
 use Rattle.board_parts.specs.Counts.{user_at}
 use Rattle.plain_board.specs.{Stand.{Arrays, Stand, byte_of}, Returns.{loans_out, IsClear, entries_on_way}, Sound.{IsSound}}
@@ -14,7 +14,7 @@ use Rattle.plain_board.proofs.{TokensLie.{part-le}, Counting.{holders-few}}
 pub use Rattle.board_face.proofs.ReturnLemmas.{IsClear-of_loans}
 
 module _ (board : Stand) (a : ℕ) (x : AppSide) (buffer : ℕ) (sound : IsSound board) (here : IsApp board.apps a x)
-    (within : buffer < total board.arrays.layout) where
+    (within : buffer < all_buffers board.arrays.layout) where
   abbrev user : ℕ
   user = user_at board.arrays.layout a buffer
 
@@ -50,8 +50,8 @@ module _ (board : Stand) (a : ℕ) (x : AppSide) (buffer : ℕ) (sound : IsSound
 
     pub IsSound-on_loan : (n m : ℕ) → n ≡ get_or board.arrays.users user 0 + 1 → m ≡ get_or board.arrays.loans user 0 + 1
         → ((b : ℕ) → app_count b board.nic loaned ≡ app_count b board.nic x)
-        → ((b : ℕ) → user_part a b board.nic loaned ≡ user_part a b board.nic x + weight (buffer == b))
-        → ((b : ℕ) → loans_out b loaned ≡ loans_out b x + weight (buffer == b))
+        → ((b : ℕ) → user_part a b board.nic loaned ≡ user_part a b board.nic x + one_if (buffer == b))
+        → ((b : ℕ) → loans_out b loaned ≡ loans_out b x + one_if (buffer == b))
         → All (λ s. get_or board.arrays.filled s.own.buffer 0 ≡ length s.bytes) owns
         → FillingsFit board.nic (set board.apps a loaned)
         → ((b : ℕ) → IsFilledByOne b board.nic (set board.apps a loaned))
@@ -74,8 +74,13 @@ module _ (board : Stand) (a : ℕ) (x : AppSide) (buffer : ℕ) (sound : IsSound
           set = IsSet-app board a x loaned sound here refl refl (assumption at_rest);
           counted = AreCounted-app board a x loaned sound here arr refl refl
               (λ b inside. omega (arith, holders b))
-              (λ b inside. omega (arith, users b, user-raised (total board.arrays.layout) board.arrays.users a buffer n within user-there user_more b inside))
-              (λ k b ne app inside. user-other (total board.arrays.layout) board.arrays.users a buffer n within k b inside (inl ne))
+              (λ b inside. omega (
+                arith,
+                users b,
+                user-raised (all_buffers board.arrays.layout) board.arrays.users a buffer n within user-there user_more b
+                    inside,
+              ))
+              (λ k b ne app inside. user-other (all_buffers board.arrays.layout) board.arrays.users a buffer n within k b inside (inl ne))
               (λ b past. omega (arith, holders b))
               (λ b. assumption (was-returned board a x loaned sound here b));
           free = AreFreeOnce-app board a x loaned sound here _ (assumption at_rest) holders sound.free;
@@ -97,14 +102,14 @@ module _ (board : Stand) (a : ℕ) (x : AppSide) (buffer : ℕ) (sound : IsSound
               (record {
                 loans = λ b inside. omega (
                   arith,
-                  user-raised (total board.arrays.layout) board.arrays.loans a buffer m within loan-there loan_more b inside,
+                  user-raised (all_buffers board.arrays.layout) board.arrays.loans a buffer m within loan-there loan_more b inside,
                   was-booked_loans board a x loaned sound here b inside,
                   more b,
                 );
                 filled = filled;
                 raw = was-booked_raw board a x loaned sound here;
               })
-              (λ k b ne app inside. user-other (total board.arrays.layout) board.arrays.loans a buffer m within k b inside (inl ne))
+              (λ k b ne app inside. user-other (all_buffers board.arrays.layout) board.arrays.loans a buffer m within k b inside (inl ne))
               (λ k y ne it. sound.booked.filled k y it)
               (λ k ne. refl);
           phased = ArePhased-app board a x loaned sound here (record {

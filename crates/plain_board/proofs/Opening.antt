@@ -3,15 +3,15 @@ use Rattle.std.proofs.Common.{◌≡◌, ℕ, zero, suc, ◌*◌, ◌<◌, ◌�
 use Rattle.std.{proofs.{Common.{refl, ap, sym, ◌∙◌, subst, arith, length-drop}, lemmas.Bool.{false≢true}}, specs.Prelude.{◌==◌, All}}
 use Rattle.std.proofs.{lemmas.List.{length-replicate, get_or-replicate, Elements.{All-nil, All-replicate}}, Math.ListN.{get_or-eq_default}}
 use Rattle.circular_buffer.specs.Buffer.{Buffer, buffer}
-use Rattle.area_layout.specs.Layout.{Shape, IsLayout, pool_buffers, total, begin_of}
+use Rattle.area_layout.specs.Layout.{Shape, IsLayout, pool_buffers, all_buffers, begin_of}
 use Rattle.board_face.specs.{Opened.{new_nic, new_app}, Sides.{IsApp}, Holders.{ended_in}, Counts.{EndedWereReturned}, Relay.{Relayed}, OwnBuffers.{AppLiesInOwn}}
 use Rattle.board_face.specs.{Judged.{IsHonouredAsNamed}, Used.{HasFewPicks, PicksAreGiven}, declared.views.{parts.Setting.{Setting}, app.AppSide.{AppSide}}}
-use Rattle.board_face.proofs.{Tallies.{weight}, OpenedLemmas.{length-new_apps, numbered-new_apps, All-new, hands-new, count-new, users-new}}
+use Rattle.board_face.proofs.{Tallies.{one_if}, OpenedLemmas.{length-new_apps, numbered-new_apps, All-new, hands-new, count-new, users-new}}
 use Rattle.board_face.proofs.OpenedLemmas.{all-alike, IsNew, FillingsFit-opened, IsFilledByOne-opened, AreShown-opened}
 use Rattle.zr_kinds.specs.declared.{place.Place.{Place}, ring.Rqe.{Rqe}}
 use Rattle.board_parts.specs.{declared.slots.NoteSlot.{NoteSlot}, Opened.{new_apps}, Free.{listed_in}, Counts.{user_at}}
 use Rattle.plain_board.specs.{Returns.{AreReturns, entries_on_way, loans_out, reach_of}, Stand.{Stand, new_stand, byte_of}}
-use Rattle.plain_board.specs.Sound.{IsRing, IsSound, IsAtRest, IsProper, IsPhased}
+use Rattle.plain_board.specs.Sound.{IsRing, IsSound, IsAppAtRest, IsProper, IsPhased}
 
 left-new : (s : Setting) (first n : ℕ) → replicate n false ≡ map (λ app. app.view.left) (new_apps s first n)
 left-new s first zero = refl
@@ -21,11 +21,11 @@ module _ (layout : Shape) (places : ℕ) (good : IsLayout layout) (some : 1 ≤ 
   abbrev s : Setting
   s = record { layout = layout; places = places }
 
-  listed-new : (b : ℕ) → b < pool_buffers layout → weight (listed_in (replicate (pool_buffers layout) true) b) ≡ 1
-  listed-new b within = ap weight (get_or-replicate (pool_buffers layout) b true false within)
+  listed-new : (b : ℕ) → b < pool_buffers layout → one_if (listed_in (replicate (pool_buffers layout) true) b) ≡ 1
+  listed-new b within = ap one_if (get_or-replicate (pool_buffers layout) b true false within)
 
-  unlisted-new : (b : ℕ) → pool_buffers layout ≤ b → weight (listed_in (replicate (pool_buffers layout) true) b) ≡ 0
-  unlisted-new b past = ap weight (get_or-eq_default (replicate (pool_buffers layout) true) false (omega (arith, length-replicate (pool_buffers layout) true)))
+  unlisted-new : (b : ℕ) → pool_buffers layout ≤ b → one_if (listed_in (replicate (pool_buffers layout) true) b) ≡ 0
+  unlisted-new b past = ap one_if (get_or-eq_default (replicate (pool_buffers layout) true) false (omega (arith, length-replicate (pool_buffers layout) true)))
 
   relayed-new : (a : ℕ) (app : AppSide) → IsApp (new_apps s 0 layout.reserves) a app → Relayed (new_nic s) app [] []
   relayed-new a app here =
@@ -49,15 +49,15 @@ module _ (layout : Shape) (places : ℕ) (good : IsLayout layout) (some : 1 ≤ 
     sizes = record {
       layout = good;
       places = (some, few);
-      area = length-replicate (begin_of layout (total layout)) 0;
-      pool = length-replicate (total layout) 0;
-      users = length-replicate (layout.reserves * total layout) 0;
+      area = length-replicate (begin_of layout (all_buffers layout)) 0;
+      pool = length-replicate (all_buffers layout) 0;
+      users = length-replicate (layout.reserves * all_buffers layout) 0;
       listed = length-replicate (pool_buffers layout) true;
       cache = omega arith;
       notes = length-replicate layout.reserves _;
       refills = length-replicate layout.reserves _;
-      loans = length-replicate (layout.reserves * total layout) 0;
-      filled = length-replicate (total layout) 0;
+      loans = length-replicate (layout.reserves * all_buffers layout) 0;
+      filled = length-replicate (all_buffers layout) 0;
       raw = length-replicate layout.reserves 0;
       left = length-replicate layout.reserves false;
     };
@@ -68,21 +68,21 @@ module _ (layout : Shape) (places : ℕ) (good : IsLayout layout) (some : 1 ≤ 
       many = length-new_apps s 0 layout.reserves;
       numbers = numbered-new_apps s 0 layout.reserves;
       roles = All-new (λ app. app.view.setting ≡ s) s 0 layout.reserves (λ a. refl);
-      roles_rest = All-new IsAtRest s 0 layout.reserves (λ a. record {
+      roles_rest = All-new IsAppAtRest s 0 layout.reserves (λ a. record {
         hands = refl;
-        owes = λ b. all-alike (total layout) b 0;
-        unscrubbed = λ _ b. all-alike (total layout) b 0;
+        owes = λ b. all-alike (all_buffers layout) b 0;
+        unscrubbed = λ _ b. all-alike (all_buffers layout) b 0;
       });
     };
     counted = record {
-      pool = λ b within. get_or-replicate (total layout) b 0 0 within ∙ sym (count-new b s layout.reserves);
-      users = λ a b app within. all-alike (layout.reserves * total layout) (user_at layout a b) 0 ∙ sym (users-new a b s layout.reserves);
+      pool = λ b within. get_or-replicate (all_buffers layout) b 0 0 within ∙ sym (count-new b s layout.reserves);
+      users = λ a b app within. all-alike (layout.reserves * all_buffers layout) (user_at layout a b) 0 ∙ sym (users-new a b s layout.reserves);
       beyond = λ b past. count-new b s layout.reserves;
       returned = λ b. All-new (EndedWereReturned b (new_nic s)) s 0 layout.reserves
-          (λ a. record { ended = omega (arith, all-alike (total layout) b 0); returning = omega (arith, all-alike (total layout) b 0) });
+          (λ a. record { ended = omega (arith, all-alike (all_buffers layout) b 0); returning = omega (arith, all-alike (all_buffers layout) b 0) });
     };
     free = record {
-      pool = λ b within. omega (arith, listed-new b within, hands-new b s 0 layout.reserves, ap (λ n. weight (n == 0)) (count-new b s layout.reserves));
+      pool = λ b within. omega (arith, listed-new b within, hands-new b s 0 layout.reserves, ap (λ n. one_if (n == 0)) (count-new b s layout.reserves));
       reserves = λ b past. omega (arith, unlisted-new b past, hands-new b s 0 layout.reserves);
     };
     relayed = record {
@@ -124,7 +124,7 @@ module _ (layout : Shape) (places : ℕ) (good : IsLayout layout) (some : 1 ≤ 
     };
     judged = All-nil (IsHonouredAsNamed layout);
     booked = record {
-      loans = λ a b app here within. all-alike (layout.reserves * total layout) (user_at layout a b) 0
+      loans = λ a b app here within. all-alike (layout.reserves * all_buffers layout) (user_at layout a b) 0
           ∙ subst (λ x. 0 ≡ loans_out b x) here.is (All-new (λ x. 0 ≡ loans_out b x) s 0 layout.reserves (λ n. refl) a app here.there);
       filled = λ a app here. subst AreLengths here.is (All-new AreLengths s 0 layout.reserves (λ n. All-nil _) a app here.there);
       raw = λ a app here. all-alike layout.reserves a 0

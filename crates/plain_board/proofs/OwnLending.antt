@@ -4,7 +4,7 @@ use Rattle.std.{specs.Prelude.{◌==◌, ◌&&◌, All, Contains}, proofs.lemmas
 use Rattle.board_face.specs.{Lists.{at_first}, Tokens.{same_filling}, Sides.{IsApp, app_at}, AppEvents.{lent_own, own_bytes, owns_without, begin_place}}
 use Rattle.board_face.specs.{AppCalls.{HasSpare, CanLend, IsFilled}, declared.views.{parts.Filling.{Filling}, app.Origin.TheVariants.{Copied as of_copy}}}
 use Rattle.board_face.specs.declared.views.app.{LentPiece.{LentPiece}, SpareOwn.{SpareOwn}, AppSide.{AppSide}}
-use Rattle.board_face.proofs.{ListLemmas.{All-without, same_filling-is, same_filling-refl}, Tallies.{weight, tally-push}, Parts.{count-tally}}
+use Rattle.board_face.proofs.{ListLemmas.{All-without, same_filling-is, same_filling-refl}, Tallies.{one_if, tally-push}, Parts.{count-tally}}
 use Rattle.board_face.proofs.{AppLemmas.{app_count-lent_own, user_part-lent_own}, IsFilledByOneLemmas.{IsFilledByOne-lent_own}, OwnBufferLemmas.{AppLiesInOwn-lent_own}}
 use Rattle.board_face.proofs.{FillingsFitLemmas.{FillingsFit-lent_own}, AreShownLemmas.{AreShown-lent_own}}
 use Rattle.board_parts.specs.Counts.{user_at}
@@ -53,8 +53,8 @@ module _ (board : Stand) (a : ℕ) (x : AppSide) (own : Filling) (sound : IsSoun
         apps = set board.apps a (app_at x (lent_own x.view own));
       })
   IsSound-lent_own can some n m user_more loan_more =
-      let mine : (b : ℕ) → weight ((x.view.app == a) && (own.buffer == b))
-      ≡ weight (own.buffer == b) = λ b. ap (λ c. weight (c && (own.buffer == b))) (eq-eqb x.view.app a here.number) in
+      let mine : (b : ℕ) → one_if ((x.view.app == a) && (own.buffer == b))
+      ≡ one_if (own.buffer == b) = λ b. ap (λ c. one_if (c && (own.buffer == b))) (eq-eqb x.view.app a here.number) in
       let one : LentPiece = record { place = begin_place own.buffer (length (own_bytes x.view own)); origin = of_copy (own_bytes x.view own) } in
       IsSound-on_loan board a x own.buffer sound here (spare-within board a x sound here own out) x.view.helds (owns_without x.view own)
       (x.view.loans ++ one ∷ []) can n m user_more loan_more

@@ -1,9 +1,9 @@
 -- A text is placed: its buffer has one holder more, and the area has the text where the buffer's next bytes go.
 use Rattle.std.proofs.Common.{◌≡◌, ℕ, ◌+◌, ◌^◌, ◌<◌, ◌≤◌, List, length, set, get_or, refl, ap, sym, ◌∙◌, subst, arith, ⊎_elim, inl, inr}
 use Rattle.std.{specs.Prelude.{◌⊎◌, ◌==◌, if◌then◌else◌}, proofs.lemmas.List.{length-set}}
-use Rattle.area_layout.{specs.Layout.{pool_buffers, total, size_of, begin_of, LiesIn}, proofs.Words.{words_apart}}
+use Rattle.area_layout.{specs.Layout.{pool_buffers, all_buffers, size_of, begin_of, LiesIn}, proofs.Words.{words_apart}}
 use Rattle.board_face.specs.{NicEvents.{placed}, NicCalls.{IsOpen, HasOwn}, Sides.{nic_at}, Counts.{pool_count}, FreeOnce.{free_places}}
-use Rattle.board_face.{specs.declared.views.parts.Filling.{Filling}, proofs.{Tallies.{weight}, NicLemmas.{pool_count-placed}, FreeLemmas.{free_places-nic}}}
+use Rattle.board_face.{specs.declared.views.parts.Filling.{Filling}, proofs.{Tallies.{one_if}, NicLemmas.{pool_count-placed}, FreeLemmas.{free_places-nic}}}
 use Rattle.board_face.proofs.{FewLemmas.{pool_count-few}, FillingsFitLemmas.{FillingsFit-own, FillingsFit-placed}, IsFilledByOneLemmas.{IsFilledByOne-placed}}
 use Rattle.board_face.proofs.{OwnBufferLemmas.{LieInOwn-placed}, AreShownLemmas.{AreShown-placed}, Counting.{weight-same, weight-other}}
 use Rattle.board_parts.specs.{Area.{stored}, Free.{listed_in}}
@@ -21,7 +21,7 @@ once-placed p p' f w e more which =
 
 module _ (board : Stand) (own : Filling) (bytes : List ℕ) (sound : IsSound board) (out : HasOwn board.nic.view own)
     (fits : own.start + length bytes ≤ own.size) where
-  pub inside : own.buffer < total board.arrays.layout
+  pub inside : own.buffer < all_buffers board.arrays.layout
   inside = let p = of_pool board own sound out in omega arith
 
   lies : own.start + length bytes ≤ size_of board.arrays.layout own.buffer
@@ -41,7 +41,7 @@ module _ (board : Stand) (own : Filling) (bytes : List ℕ) (sound : IsSound boa
       omega (arith, few, ap (λ s. size_of s.layout own.buffer) sound.set.card, most, sound.counted.pool own.buffer inside)
 
   more : (b : ℕ) → pool_count b (nic_at board.nic (placed board.nic.view own bytes)) board.apps
-      ≡ pool_count b board.nic board.apps + weight (own.buffer == b)
+      ≡ pool_count b board.nic board.apps + one_if (own.buffer == b)
   more b = pool_count-placed b board.nic board.apps own bytes out
 
   holds : 0 < pool_count own.buffer board.nic board.apps
@@ -74,7 +74,7 @@ module _ (board : Stand) (own : Filling) (bytes : List ℕ) (sound : IsSound boa
         free = record {
           pool = λ b within. free_places-nic (listed_in board.arrays.listed) b board.nic v board.apps refl
               ∙ once-placed (pool_count b board.nic board.apps) _ (free_places (listed_in board.arrays.listed) b board.nic board.apps)
-              (weight (own.buffer == b)) (sound.free.pool b within) (more b)
+              (one_if (own.buffer == b)) (sound.free.pool b within) (more b)
               (⊎_elim (λ same. inr (subst (λ x. 0 < pool_count x board.nic board.apps) (sym same.1) holds)) (λ other. inl other)
               (same-or-other b own.buffer));
           reserves = λ b past. free_places-nic (listed_in board.arrays.listed) b board.nic v board.apps refl ∙ sound.free.reserves b past;

@@ -13,7 +13,7 @@ use Rattle.board_face.proofs.{IsFilledByOneLemmas.{IsFilledByOne-took_note, IsFi
 use Rattle.board_face.{proofs.AreShownLemmas.{AreShown-took_note, AreShown-took_linear}, specs.Laws.{IsNextNote}}
 use Rattle.board_parts.specs.{declared.slots.NoteSlot.{NoteSlot}, Rings.{popped}}
 use Rattle.plain_board.{specs.{Stand.{Arrays, Stand, others_of, byte_of}, Seen.{IsSeenBy}}, proofs.RingSlots.{IsRing-popped}}
-use Rattle.plain_board.specs.Sound.{IsRing, IsSound, IsAtRest, notes_of, refills_of, taken_of}
+use Rattle.plain_board.specs.Sound.{IsRing, IsSound, IsAppAtRest, notes_of, refills_of, taken_of}
 use Rattle.plain_board.proofs.AppFrames.{IsSet-app, was-at_rest, AreCounted-app, was-returned, AreRelayed-app, returns-app, was-returns, AreFlags-kept}
 use Rattle.plain_board.proofs.AppFrames.{AreFreeOnce-app, AreKept-app, AreDue-app, was-given, was-due, AreBooked-kept}
 use Rattle.plain_board.proofs.AppFrames.{ArePhased-app, was-phased, was-own, OwnBuffers-app}
@@ -89,7 +89,7 @@ module _ (board : Stand) (a : ℕ) (x : AppSide) (slot : NoteSlot) (rest : List 
   IsSound-took t helds is same by_one shown own =
       let now = took helds t in
       let rest_before = was-at_rest board a x now sound here in
-      let at_rest : IsAtRest now = assumption rest_before in
+      let at_rest : IsAppAtRest now = assumption rest_before in
       let phase = was-phased board a x now sound here in
       let back = was-returns board a x now sound here in
       record {

@@ -8,7 +8,7 @@ use Rattle.board_face.specs.declared.views.{nic.NicSide.{NicSide}, app.{AppLook.
 use Rattle.board_face.{proofs.RelayLemmas.{NoteComesNext-relayed}, specs.BoardSteps.{AppStep, AppCan, app, app_view, polls, polls_linear, sees, is_told}}
 use Rattle.run_records.specs.{declared.event.Event.{Event}, LegalRun.{HasSmallNumbers}}
 use Rattle.run_records.specs.declared.event.Event.TheVariants as event
-use Rattle.event_log.specs.{Logs.{Kept, all_logged, logged}, StepEvents.{MayTell, app_events}}
+use Rattle.event_log.specs.{Logs.{KeptEvents, all_logged, logged}, StepEvents.{MayTell, app_events}}
 use Rattle.plain_board.specs.{Board.{Part}, Told.{PollTells}, OneSide.{OnlyView}, Recorded.{IsSoundPart}, Stand.{Stand, side_of, sides_of}}
 use Rattle.plain_board.proofs.{AppFrames.{here-of}, Logging.{app-told, part_with}}
 
@@ -22,7 +22,7 @@ next-note nic x t ns us es sent was =
 abbrev pub HasNoNote : Polled → Type 0
 HasNoNote polled = (note : Note) (held : Place) → polled ≡ got_note note held → ⊥
 
-module _ (old new : Stand) (a : ℕ) (log : Kept) (was : IsSoundPart (part_with old a log)) (only : OnlyView old new a) where
+module _ (old new : Stand) (a : ℕ) (log : KeptEvents) (was : IsSoundPart (part_with old a log)) (only : OnlyView old new a) where
   here : IsApp old.apps a (side_of old a)
   here = here-of old a was.board.sound was.app
 

@@ -2,7 +2,7 @@
 use Rattle.std.proofs.Common.{◌≡◌, ℕ, ◌+◌, ◌<◌, ◌≤◌, List, [], ◌∷◌, length, map, take, drop, set, get_or, refl, ap, sym, ◌∙◌, subst, arith}
 use Rattle.std.proofs.lemmas.List.{length-take, length-take-le, length-drop, get_or-take, get_or-drop, ext_get_or, drop-drop}
 use Rattle.zr_kinds.specs.declared.{place.Place.{Place}, ring.Rqe.{Rqe}}
-use Rattle.area_layout.{specs.Layout.{total, begin_of, LiesIn}, proofs.Words.{in_order}}
+use Rattle.area_layout.{specs.Layout.{all_buffers, begin_of, LiesIn}, proofs.Words.{in_order}}
 use Rattle.board_face.specs.{Sides.{IsApp, app_at}, Texts.{further}, Holders.{sent_to}, Shown.{AppIsShown, origin_bytes, bytes_sent}, Relay.{Relayed}}
 use Rattle.board_face.specs.{AppEvents.{has_read, loan_origin}, AppCalls.{HasLoan, ShowsCopy}, declared.views.nic.{SentNote.{SentNote}, NicSide.{NicSide}}}
 use Rattle.board_face.specs.declared.views.app.{Origin.{Origin, TheVariants.{Note as of_note, Copied as of_copy}}, TakenNote.{TakenNote}, AppSide.{AppSide}}
@@ -69,7 +69,7 @@ module _ (board : Stand) (a : ℕ) (x : AppSide) (place : Place) (sound : IsSoun
   -- the bytes lie in the area
   pub bytes-there : (from n : ℕ) → from + n ≤ place.len → at + from + n ≤ length board.arrays.area
   bytes-there from n within =
-      let row = (in_order board.arrays.layout sound.sizes.layout).apart place.buffer (total board.arrays.layout) lies.buffer in
+      let row = (in_order board.arrays.layout sound.sizes.layout).apart place.buffer (all_buffers board.arrays.layout) lies.buffer in
       let inside = lies.bytes in
       omega (arith, row, sound.sizes.area)
 

@@ -4,7 +4,7 @@ use Rattle.std.{specs.Prelude.{◌==◌, ◌&&◌, nat_lt, if◌then◌else◌},
 use Rattle.zr_kinds.{specs.declared.place.Place.{Place}, proofs.Booleans.{and-true}}
 use Rattle.area_layout.specs.Layout.{pool_buffers}
 use Rattle.board_face.specs.{Sides.{IsApp, app_at}, Counts.{pool_count}, AppCalls.{IsHere, HasHeld}, AppEvents.{released}, FreeOnce.{AreFreeOnce, free_places}}
-use Rattle.board_face.{specs.declared.views.app.AppSide.{AppSide}, proofs.{ListLemmas.{not-eqb}, Tallies.{weight}, AppLemmas.{pool_count-app, app_count-released}}}
+use Rattle.board_face.{specs.declared.views.app.AppSide.{AppSide}, proofs.{ListLemmas.{not-eqb}, Tallies.{one_if}, AppLemmas.{pool_count-app, app_count-released}}}
 use Rattle.board_face.proofs.{IsFilledByOneLemmas.{IsFilledByOne-released}, OwnBufferLemmas.{AppLiesInOwn-released}, AreShownLemmas.{AreShown-released}}
 use Rattle.board_face.proofs.Counting.{weight-other, weight-none, once-freed}
 use Rattle.board_parts.specs.Free.{listed_in}
@@ -17,7 +17,7 @@ abbrev pub listed_then : Bool → List Bool → ℕ → List Bool
 listed_then came listed i = if came then set listed i true else listed
 
 pub listed-then : (came : Bool) (listed : List Bool) (i b : ℕ) → (came ≡ true → (i < length listed) × (listed_in listed i ≡ false))
-    → weight (listed_in (listed_then came listed i) b) ≡ weight (listed_in listed b) + (if came then weight (i == b) else 0)
+    → one_if (listed_in (listed_then came listed i) b) ≡ one_if (listed_in listed b) + (if came then one_if (i == b) else 0)
 listed-then true listed i b was = let both = was refl in listed-set listed i b both.0 both.1
 listed-then false listed i b was = omega arith
 
@@ -26,7 +26,7 @@ length-then true listed i = length-set listed i true
 length-then false listed i = refl
 
 -- none comes to be listed that is none of the pool
-past-pool : (came : Bool) (i b m : ℕ) → (came ≡ true → i < m) → m ≤ b → (if came then weight (i == b) else 0) ≡ 0
+past-pool : (came : Bool) (i b m : ℕ) → (came ≡ true → i < m) → m ≤ b → (if came then one_if (i == b) else 0) ≡ 0
 past-pool true i b m inside past = weight-other i b (λ e. absurd (let less = inside refl in omega arith))
 past-pool false i b m inside past = refl
 
@@ -50,24 +50,24 @@ module _ (board : Stand) (a : ℕ) (x : AppSide) (place : Place) (sound : IsSoun
   unlisted inside =
       let once = sound.free.pool place.buffer (rw (pools sound) inside) in
       let some = is_held board a x place sound here out in
-      let none = ap weight (not-eqb (pool_count place.buffer board.nic board.apps) 0 (λ z. absurd (omega (arith, some)))) in
+      let none = ap one_if (not-eqb (pool_count place.buffer board.nic board.apps) 0 (λ z. absurd (omega (arith, some)))) in
       weight-none (listed_in board.arrays.listed place.buffer) (omega (arith, once, none))
 
-  lists : (b : ℕ) → weight (listed_in (listed_then came board.arrays.listed place.buffer) b)
-      ≡ weight (listed_in board.arrays.listed b) + (if came then weight (place.buffer == b) else 0)
+  lists : (b : ℕ) → one_if (listed_in (listed_then came board.arrays.listed place.buffer) b)
+      ≡ one_if (listed_in board.arrays.listed b) + (if came then one_if (place.buffer == b) else 0)
   lists b = listed-then came board.arrays.listed place.buffer b (λ e. let inside = came-pool e in (omega (arith, sound.sizes.listed), unlisted inside))
 
   some : 0 < get_or board.arrays.pool place.buffer 0
   some = omega (arith, held-count board a x place sound here out, is_held board a x place sound here out)
 
-  less : (b : ℕ) → pool_count b board.nic (set board.apps a released_side) + weight (place.buffer == b) ≡ pool_count b board.nic board.apps
+  less : (b : ℕ) → pool_count b board.nic (set board.apps a released_side) + one_if (place.buffer == b) ≡ pool_count b board.nic board.apps
   less b = omega (arith, pool_count-app b board.nic board.apps a x released_side here, app_count-released b board.nic x place out)
 
   free-then : AreFreeOnce (listed_in (listed_then came board.arrays.listed place.buffer)) board.nic (set board.apps a released_side)
   free-then =
       let resting = at-rest board a x released_side.view.helds board.arrays.pool board.arrays.listed sound here stays in
       let places : (b : ℕ) → free_places (listed_in (listed_then came board.arrays.listed place.buffer)) b board.nic (set board.apps a released_side)
-      ≡ free_places (listed_in board.arrays.listed) b board.nic board.apps + (if came then weight (place.buffer == b) else 0) =
+      ≡ free_places (listed_in board.arrays.listed) b board.nic board.apps + (if came then one_if (place.buffer == b) else 0) =
       λ b. omega (
         arith,
         free_places-side board a x released_side sound here (listed_in board.arrays.listed)
@@ -76,7 +76,7 @@ module _ (board : Stand) (a : ℕ) (x : AppSide) (place : Place) (sound : IsSoun
       ) in
       record {
         pool = λ b within. once-freed came (pool_count b board.nic board.apps) _ (free_places (listed_in board.arrays.listed) b board.nic board.apps) _
-            (weight (place.buffer == b)) (weight (place.buffer == b)) left (sound.free.pool b within)
+            (one_if (place.buffer == b)) (one_if (place.buffer == b)) left (sound.free.pool b within)
             (less b)
             (places b)
             (⊎_elim

@@ -4,7 +4,7 @@ use Rattle.std.{specs.Prelude.{◌==◌, All, slice_index}, proofs.lemmas.{Bool.
 use Rattle.zr_kinds.specs.declared.place.Place.{Place}
 use Rattle.board_face.specs.{BoardSteps.{OwesFirst, apply, card, honours}, Holders.{ended_in, owed_in, returned_in, returning_count}, Laws.{AllSides}}
 use Rattle.board_face.specs.{Sides.{IsApp, nic_at}, declared.{answers.Entry.{Entry, TheVariants.{Freed, Honoured, Stray, Empty}}, views.app.AppSide.{AppSide}}}
-use Rattle.event_log.specs.{IsLogged.{NoneReturns}, Logs.{Kept, all_logged, logged}, StepEvents.{card_events}}
+use Rattle.event_log.specs.{IsLogged.{NoneReturns}, Logs.{KeptEvents, all_logged, logged}, StepEvents.{card_events}}
 use Rattle.plain_board.specs.{Board.{Board}, Events.{GaveBack, IsNoReturn, IsReturn}, Sound.{IsSound}, Stand.{Stand, side_of, sides_of}, Told.{EntryTells, HonourTells}}
 use Rattle.board_face.specs.{BoardSteps.{CardCan, card_view}, Laws.{pool_of, user_of}, NicEvents.{gave_up, honoured}}
 use Rattle.run_records.specs.{declared.event.Event.{Event}, LegalRun.{HasSmallNumbers}}
@@ -54,7 +54,7 @@ was-owed old new a b sound here gave =
 
 -- ---- what the log tells
 
-module _ (old new : Stand) (a b : ℕ) (log : Kept) (was : IsSoundAndRecorded (with_log old log)) (here : IsApp old.apps a (side_of old a))
+module _ (old new : Stand) (a b : ℕ) (log : KeptEvents) (was : IsSoundAndRecorded (with_log old log)) (here : IsApp old.apps a (side_of old a))
     (gave : GaveBack old new a b) (only : OnlyCard old new) where
   sound : IsSound old
   sound = was.sound
@@ -86,7 +86,7 @@ module _ (old new : Stand) (a b : ℕ) (log : Kept) (was : IsSoundAndRecorded (w
       card-told (honours a gave.entry owed.place gave.last) old new log was can tt honoured-nic only (honour pool user ∷ [])
       (honour-is pool user pools users) (small, tt)
 
-  pub honour-tells : (now : Kept) (pool user : ℕ) → pool ≡ pool_of (sides_of new) b → user ≡ user_of (sides_of new) a b
+  pub honour-tells : (now : KeptEvents) (pool user : ℕ) → pool ≡ pool_of (sides_of new) b → user ≡ user_of (sides_of new) a b
       → now ≡ logged log (honour pool user) → HonourTells a (with_log old log) (with_log new now)
   honour-tells now pool user pools users is = record {
     entry = gave.entry;

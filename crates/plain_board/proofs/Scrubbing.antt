@@ -2,14 +2,14 @@
 use Rattle.std.proofs.Common.{◌≡◌, ℕ, zero, suc, ◌+◌, ◌<◌, ◌≤◌, Bool, true, false, List, length, drop, set, get_or, refl, ap, sym}
 use Rattle.std.{proofs.Common.{◌∙◌, arith, ⊎_elim, length-take, length-drop}, specs.Prelude.{◌==◌, ◌&&◌, nat_lt, if◌then◌else◌}}
 use Rattle.std.proofs.lemmas.{List.{get_or-take, get_or-drop, get_or_past}, Bool.{cases_lt, lt-ltb}}
-use Rattle.area_layout.specs.Layout.{Shape, pool_buffers, total as all_buffers}
+use Rattle.area_layout.specs.Layout.{Shape, pool_buffers, all_buffers}
 use Rattle.board_face.specs.{Sides.{IsApp}, AppCalls.{CanScrub}, Counts.{pool_count}, FreeOnce.{AreFreeOnce, free_places}, Holders.{ended_in, owed_in, returned_in}}
-use Rattle.board_face.{specs.{Laws.{TookAll}, declared.views.app.AppSide.{AppSide}}, proofs.{ListLemmas.{eqb_same, not-eqb}, Tallies.{weight}}}
+use Rattle.board_face.{specs.{Laws.{TookAll}, declared.views.app.AppSide.{AppSide}}, proofs.{ListLemmas.{eqb_same, not-eqb}, Tallies.{one_if}}}
 use Rattle.board_face.proofs.Parts.{app_count, user_part, loans_in, owed_count, returned_in-count, user_count-own}
 use Rattle.board_face.proofs.AppLemmas.{scrubbed_side, pool_count-app, app_count-scrubbed, user_part-scrubbed, EndedWereReturned-scrubbed}
 use Rattle.board_face.proofs.{IsFilledByOneLemmas.{IsFilledByOne-scrubbed}, FillingsFitLemmas.{FillingsFit-same}, AreShownLemmas.{AreShown-scrubbed}}
 use Rattle.board_parts.specs.{Area.{loaded}, Counts.{user_at, HasFewUsers, came_back, TakesBack}, Free.{listed_in}}
-use Rattle.plain_board.specs.{Stand.{Stand, byte_of}, Sound.{IsSound, IsAtRest}}
+use Rattle.plain_board.specs.{Stand.{Stand, byte_of}, Sound.{IsSound, IsAppAtRest}}
 use Rattle.plain_board.proofs.AppFrames.{has-setting, IsSet-app, was-at_rest, AreCounted-app, was-returned, AreRelayed-kept, was-relayed, returns-app, pools}
 use Rattle.plain_board.proofs.AppFrames.{was-returns, AreFlags-kept, free_places-side, AreKept-app, AreDue-app, was-given, was-due, AreBooked-kept}
 use Rattle.plain_board.proofs.{AppFrames.{ArePhased-app, was-phased, OwnBuffers-kept}, Card.{none-lowered}, TokensLie.{part-le}}
@@ -20,25 +20,25 @@ took_of layout a users = loaded users (user_at layout a 0) (all_buffers layout)
 
 -- Of a buffer of the pool so many references were taken back and so many are left. It is free once where none is left.
 once-back : (owed left f f' : ℕ) (inside was now : Bool) → inside ≡ true → now ≡ (if nat_lt 0 owed && (left == 0) && inside then true else was)
-    → f ≡ (if (left + owed) == 0 then 1 else 0) → weight was ≤ f → f' + weight was ≡ f + weight now
+    → f ≡ (if (left + owed) == 0 then 1 else 0) → one_if was ≤ f → f' + one_if was ≡ f + one_if now
     → f' ≡ (if left == 0 then 1 else 0)
 once-back zero left f f' inside was now is lists e in_places change =
     let same : left + 0 ≡ left = omega arith in
-    omega (arith, change, ap weight lists, e, ap (λ n. weight (n == 0)) same)
+    omega (arith, change, ap one_if lists, e, ap (λ n. one_if (n == 0)) same)
 once-back (suc n) zero f f' inside was now is lists e in_places change =
     let listed : now ≡ true = rw (lt-ltb 0 (suc n) (omega arith), is) at lists in
-    let none : f ≡ 0 = e ∙ ap weight (not-eqb (0 + suc n) 0 (λ wrong. absurd (omega (arith, wrong)))) in
-    omega (arith, change, ap weight listed, none, in_places)
+    let none : f ≡ 0 = e ∙ ap one_if (not-eqb (0 + suc n) 0 (λ wrong. absurd (omega (arith, wrong)))) in
+    omega (arith, change, ap one_if listed, none, in_places)
 once-back (suc n) (suc m) f f' inside was now is lists e in_places change =
     let some : ((suc m) == 0) ≡ false = not-eqb (suc m) 0 (λ wrong. absurd (omega (arith, wrong))) in
     let same : now ≡ was = rw (lt-ltb 0 (suc n) (omega arith), some) at lists in
-    let none : f ≡ 0 = e ∙ ap weight (not-eqb (suc m + suc n) 0 (λ wrong. absurd (omega (arith, wrong)))) in
-    rw some (omega (arith, change, ap weight same, none))
+    let none : f ≡ 0 = e ∙ ap one_if (not-eqb (suc m + suc n) 0 (λ wrong. absurd (omega (arith, wrong)))) in
+    rw some (omega (arith, change, ap one_if same, none))
 
-more-case : (c was now : Bool) → now ≡ (if c then true else was) → weight was ≤ weight now
+more-case : (c was now : Bool) → now ≡ (if c then true else was) → one_if was ≤ one_if now
 more-case true false now e = omega arith
-more-case true true now e = omega (arith, ap weight e)
-more-case false was now e = omega (arith, ap weight e)
+more-case true true now e = omega (arith, ap one_if e)
+more-case false was now e = omega (arith, ap one_if e)
 
 module _ (board : Stand) (a : ℕ) (x : AppSide) (sound : IsSound board) (here : IsApp board.apps a x) where
   same_layout : x.view.setting.layout ≡ board.arrays.layout
@@ -111,7 +111,7 @@ module _ (board : Stand) (a : ℕ) (x : AppSide) (sound : IsSound board) (here :
         pool_count-app b board.nic board.apps a x scrubbed_then here,
       )
 
-      at-rest : IsAtRest scrubbed_then
+      at-rest : IsAppAtRest scrubbed_then
       at-rest = let rest = was-at_rest board a x scrubbed_then sound here in record {
         hands = rest.hands;
         owes = rest.owes;
@@ -128,7 +128,7 @@ module _ (board : Stand) (a : ℕ) (x : AppSide) (sound : IsSound board) (here :
             (arith, pool-then b within, users-mine b within, sound.counted.pool b within) in
             let was : free_places (listed_in board.arrays.listed) b board.nic board.apps
             ≡ (if (get_or pool' b 0 + owed) == 0 then 1 else 0) = rw (← before) (sound.free.pool b inside) in
-            let some : weight (listed_in board.arrays.listed b) ≤ free_places (listed_in board.arrays.listed) b board.nic board.apps = omega arith in
+            let some : one_if (listed_in board.arrays.listed b) ≤ free_places (listed_in board.arrays.listed) b board.nic board.apps = omega arith in
             let kept : pool_count b board.nic (set board.apps a scrubbed_then) ≡ get_or pool' b 0 = sym (holders-then b within) in
             let change = free_places-side board a x scrubbed_then sound here (listed_in board.arrays.listed) (listed_in listed') b at-rest in
             rw kept
@@ -142,17 +142,17 @@ module _ (board : Stand) (a : ℕ) (x : AppSide) (sound : IsSound board) (here :
               sound.free.reserves b past,
               free_places-side board a x scrubbed_then sound here (listed_in board.arrays.listed)
                   (listed_in listed') b at-rest,
-              ap weight none,
+              ap one_if none,
             );
       }
 
-      listed-more : (b : ℕ) → weight (listed_in board.arrays.listed b) ≤ weight (listed_in listed' b)
+      listed-more : (b : ℕ) → one_if (listed_in board.arrays.listed b) ≤ one_if (listed_in listed' b)
       listed-more b =
           ⊎_elim
           (λ within. more-case (came_back board.arrays.layout b (get_or board.arrays.users (user_at board.arrays.layout a b) 0) (get_or pool' b 0)) _ _
           (back.lists b within))
           (λ past. let none : listed_in board.arrays.listed b
-          ≡ false = get_or_past board.arrays.listed b false (omega (arith, sound.sizes.listed)) in omega (arith, ap weight none))
+          ≡ false = get_or_past board.arrays.listed b false (omega (arith, sound.sizes.listed)) in omega (arith, ap one_if none))
           (cases_lt b (all_buffers board.arrays.layout))
 
       owed-none : (b : ℕ) → length (owed_in b board.nic scrubbed_then) ≡ 0

@@ -3,7 +3,7 @@ use Rattle.std.proofs.Common.{◌≡◌, ℕ, ◌-◌, ◌<◌, ◌≤◌, Bool,
 use Rattle.std.{specs.Prelude.{◌≢◌, ◌==◌, IfSome}, proofs.lemmas.{List.{length-map}, Bool.{cases_lt, lt-ltb, eqb-true, Decides.{eqb_tells}}}}
 use Rattle.zr_kinds.{specs.declared.ring.Rqe.{Rqe}, proofs.Lists.{map-none}}
 use Rattle.circular_buffer.specs.Buffer.{buffer}
-use Rattle.area_layout.specs.Layout.{total, judged}
+use Rattle.area_layout.specs.Layout.{all_buffers, judged}
 use Rattle.board_face.specs.{Judged.{fate_of}, Sides.{nic_at, side_in}, Looks.{NicTold}, NicEvents.{nic_gist, nic_saw, holder_look, shut, passed_over, looks_by_stray}}
 use Rattle.board_face.specs.{Opened.{new_nic}, Counts.{pool_count, user_count}, declared.views.{parts.Filling.{Filling}, nic.Fate.TheVariants.{Honoured, Stray}}}
 use Rattle.board_face.specs.declared.views.nic.{NicLook.{NicLook, TheVariants.{RingEmpty, NoteInUse, NotOwed, Owed}}, NicView.{NicView}}
@@ -30,7 +30,7 @@ module _ (board : Stand) (sound : IsSound board) where
 
   -- ---- counts
 
-  pub IsSo-holder : (last : Bool) (b n : ℕ) → b < total board.arrays.layout → 0 < get_or board.arrays.pool b 0 → n ≡ get_or board.arrays.pool b 0 - 1
+  pub IsSo-holder : (last : Bool) (b n : ℕ) → b < all_buffers board.arrays.layout → 0 < get_or board.arrays.pool b 0 → n ≡ get_or board.arrays.pool b 0 - 1
       → last ≡ (n == 0) → IsSo (holder_look last b)
   IsSo-holder true b n within some many is = let none = eqb-true n 0 (sym is) in omega (arith, seen-pool b, sound.counted.pool b within)
   IsSo-holder false b n within some many is =
@@ -39,12 +39,12 @@ module _ (board : Stand) (sound : IsSound board) where
       (λ t. let ne : n ≢ 0 = t.1 in omega (arith, seen-pool b, sound.counted.pool b within))
       (eqb_tells n 0)
 
-  pub NicTold-shut : (own : Filling) (n : ℕ) → own.buffer < total board.arrays.layout → 0 < get_or board.arrays.pool own.buffer 0
+  pub NicTold-shut : (own : Filling) (n : ℕ) → own.buffer < all_buffers board.arrays.layout → 0 < get_or board.arrays.pool own.buffer 0
       → n ≡ get_or board.arrays.pool own.buffer 0 - 1 → NicTold IsSo board.nic.view (shut board.nic.view own (n == 0))
   NicTold-shut own n within some many = NicTold-one IsSo board.nic.view (shut board.nic.view own (n == 0)) (holder_look (n == 0) own.buffer) refl
       (IsSo-holder (n == 0) own.buffer n within some many refl)
 
-  pub NicTold-honoured : (a i n : ℕ) (e : Rqe) → a < length board.apps → i < total board.arrays.layout
+  pub NicTold-honoured : (a i n : ℕ) (e : Rqe) → a < length board.apps → i < all_buffers board.arrays.layout
       → 0 < get_or board.arrays.users (user_at board.arrays.layout a i) 0 → 0 < get_or board.arrays.pool i 0 → n ≡ get_or board.arrays.pool i 0 - 1
       → NicTold IsSo board.nic.view (honoured_if board.nic.view a e i (n == 0))
   NicTold-honoured a i n e there within owed some many =
@@ -59,7 +59,7 @@ module _ (board : Stand) (sound : IsSound board) where
       ⊎_elim
       (λ within. omega (arith, seen-users a i, sound.counted.users a i there within))
       (λ past. omega (arith, seen-users a i, user_count-le a i board.nic board.apps, sound.counted.beyond i past))
-      (cases_lt i (total board.arrays.layout))
+      (cases_lt i (all_buffers board.arrays.layout))
 
   stray-case : (a : ℕ) (v : NicView) (o : Option ℕ) → a < length board.apps → v.looks ≡ looks_by_stray o a board.nic.view.looks
       → IfSome o (λ i. get_or board.arrays.users (user_at board.arrays.layout a i) 0 ≡ 0) → NicTold IsSo board.nic.view v
@@ -118,7 +118,7 @@ module _ (board : Stand) (sound : IsSound board) where
       }
 
   pub IsJudged-honoured : (a i : ℕ) (e : Rqe) (last : Bool) (arr : Arrays) → a < length board.apps → judged board.arrays.layout e ≡ Some i
-      → i < total board.arrays.layout → 0 < get_or board.arrays.users (user_at board.arrays.layout a i) 0
+      → i < all_buffers board.arrays.layout → 0 < get_or board.arrays.users (user_at board.arrays.layout a i) 0
       → IsJudged board (record { arrays = arr; nic = nic_at board.nic (honoured_if board.nic.view a e i last); apps = board.apps }) a
   IsJudged-honoured a i e last arr there named within owed =
       let is : judged board.nic.view.setting.layout e ≡ Some i = ap (λ s. judged s.layout e) sound.set.card ∙ named in

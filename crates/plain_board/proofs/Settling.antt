@@ -4,7 +4,7 @@ use Rattle.std.{specs.Prelude.{All, ◌==◌, not, nat_lt, count_by, if◌then�
 use Rattle.std.proofs.lemmas.Bool.{cases_lt, lt-ltb, eqb-true}
 use Rattle.board_face.specs.{Sides.{IsApp, app_at}, Looks.{AppTold}, AppEvents.{app_saw, app_gist, came_to_rest}, declared.views.app.AppLook.TheVariants.{RawOnItsWay}}
 use Rattle.board_face.{specs.declared.views.app.{WrittenEntry.{WrittenEntry}, AppView.{AppView}, AppSide.{AppSide}}, proofs.LookLemmas.{AppTold-none, AppTold-one}}
-use Rattle.board_face.proofs.{Parts.{count-tally}, Tallies.{weight}}
+use Rattle.board_face.proofs.{Parts.{count-tally}, Tallies.{one_if}}
 use Rattle.plain_board.specs.{Stand.{Stand, others_of}, Returns.{IsOfLoan, is_raw, reach_of, entries_on_way}, Seen.{IsSeenBy}, Sound.{IsSound}}
 use Rattle.plain_board.proofs.{AppFrames.{was-phased}, AppTold.{IsSound-told, IsSound-looked}}
 
@@ -31,7 +31,7 @@ pub reach-none : (ws : List WrittenEntry) → All IsOfLoan ws → reach_of ws �
 reach-none [] all = refl
 reach-none (w ∷ ws) all = rw (reach-none ws (All-tail IsOfLoan w ws all), All-head IsOfLoan w ws all) refl
 
-some-case : (of_loan : Bool) (r n : ℕ) → (0 < r → 0 < n) → 0 < reach_with of_loan r → 0 < weight (not of_loan) + n
+some-case : (of_loan : Bool) (r n : ℕ) → (0 < r → 0 < n) → 0 < reach_with of_loan r → 0 < one_if (not of_loan) + n
 some-case false r n h e = omega arith
 some-case true zero n h e = absurd (omega (arith, e))
 some-case true (suc r) n h e = omega (arith, h (omega arith))

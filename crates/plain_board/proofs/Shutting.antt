@@ -2,10 +2,10 @@
 use Rattle.std.proofs.Common.{◌≡◌, ℕ, ◌+◌, ◌-◌, ◌<◌, ◌≤◌, Bool, set, get_or, refl, ap, sym, ◌∙◌, arith, ⊎_elim, inl, inr}
 use Rattle.std.{specs.Prelude.{nat_eq, count_by, ◌==◌, if◌then◌else◌, true, false, nat_lt, ◌&&◌}, proofs.lemmas.{List.{length-set}, Bool.{lt-ltb}}}
 use Rattle.std.proofs.lemmas.List.Elements.{All-contains}
-use Rattle.area_layout.specs.Layout.{pool_buffers, total}
+use Rattle.area_layout.specs.Layout.{pool_buffers, all_buffers}
 use Rattle.board_face.specs.{NicEvents.{shut}, NicCalls.{IsOpen, HasOwn}, Sides.{nic_at}, Counts.{pool_count}, FreeOnce.{free_places}}
 use Rattle.board_face.{specs.declared.views.parts.Filling.{Filling}, proofs.{NicLemmas.{pool_count-shut}, ListLemmas.{not-eqb}, FillingsFitLemmas.{FillingsFit-shut}}}
-use Rattle.board_face.proofs.{IsFilledByOneLemmas.{IsFilledByOne-shut}, OwnBufferLemmas.{LieInOwn-nic}, AreShownLemmas.{AreShown-shut}, Tallies.{weight}}
+use Rattle.board_face.proofs.{IsFilledByOneLemmas.{IsFilledByOne-shut}, OwnBufferLemmas.{LieInOwn-nic}, AreShownLemmas.{AreShown-shut}, Tallies.{one_if}}
 use Rattle.board_face.proofs.Counting.{weight-none, weight-same, weight-other, once-freed}
 use Rattle.board_parts.specs.Free.{listed_in}
 use Rattle.plain_board.{specs.{Stand.{Stand, byte_of}, Sound.{IsSound}}, proofs.Lists.{same-or-other}}
@@ -15,7 +15,7 @@ use Rattle.zr_kinds.proofs.Booleans.{and-true}
 
 -- a buffer with a holder stands in no free place
 pub used-nowhere : (p f : ℕ) → f ≡ (if p == 0 then 1 else 0) → 0 < p → f ≡ 0
-used-nowhere p f e some = e ∙ ap weight (not-eqb p 0 (λ z. absurd (omega arith)))
+used-nowhere p f e some = e ∙ ap one_if (not-eqb p 0 (λ z. absurd (omega arith)))
 
 pub outside : (last : Bool) (f w : ℕ) → f ≡ 0 → w ≡ 0 → f + (if last then w else 0) ≡ 0
 outside true f w empty none = omega arith
@@ -25,7 +25,7 @@ module _ (board : Stand) (own : Filling) (sound : IsSound board) (out : HasOwn b
   pub of_pool : own.buffer < pool_buffers board.arrays.layout
   of_pool = rw (← pools sound) (All-contains (λ (o : Filling). o.buffer < pool_buffers board.nic.view.setting.layout) board.nic.view.owns own sound.filled.of_pool out)
 
-  pub less : (last : Bool) (b : ℕ) → pool_count b (nic_at board.nic (shut board.nic.view own last)) board.apps + weight (own.buffer == b)
+  pub less : (last : Bool) (b : ℕ) → pool_count b (nic_at board.nic (shut board.nic.view own last)) board.apps + one_if (own.buffer == b)
       ≡ pool_count b board.nic board.apps
   less last b = pool_count-shut b board.nic board.apps own last out
 
@@ -53,7 +53,7 @@ module _ (board : Stand) (own : Filling) (sound : IsSound board) (out : HasOwn b
 
   free_after : (last : Bool) (b : ℕ) → free_places (listed_in (listed_after (came last) board.arrays.cache board.arrays.listed own.buffer)) b
       (nic_at board.nic (shut board.nic.view own last)) board.apps
-      ≡ free_places (listed_in board.arrays.listed) b board.nic board.apps + (if came last then weight (own.buffer == b) else 0)
+      ≡ free_places (listed_in board.arrays.listed) b board.nic board.apps + (if came last then one_if (own.buffer == b) else 0)
   free_after last b =
       let p = of_pool in
       omega (
@@ -75,7 +75,7 @@ module _ (board : Stand) (own : Filling) (sound : IsSound board) (out : HasOwn b
       })
   IsSound-shut running n last many is =
       let p = of_pool in
-      let there : own.buffer < total board.arrays.layout = omega arith in
+      let there : own.buffer < all_buffers board.arrays.layout = omega arith in
       let now : n ≡ pool_count own.buffer (nic_at board.nic (shut board.nic.view own last)) board.apps = omega
       (arith, less last own.buffer, weight-same own.buffer, sound.counted.pool own.buffer there) in
       record {
@@ -92,7 +92,7 @@ module _ (board : Stand) (own : Filling) (sound : IsSound board) (out : HasOwn b
             sound.counted;
         free = record {
           pool = λ b within. once-freed (came last) (pool_count b board.nic board.apps) _
-              (free_places (listed_in board.arrays.listed) b board.nic board.apps) _ (weight (own.buffer == b)) (weight (own.buffer == b)) n (sound.free.pool b within)
+              (free_places (listed_in board.arrays.listed) b board.nic board.apps) _ (one_if (own.buffer == b)) (one_if (own.buffer == b)) n (sound.free.pool b within)
               (less last b)
               (free_after last b)
               (⊎_elim

@@ -1,7 +1,7 @@
 -- A spare is filled from its begin: nobody else has its buffer, so all that lies in other buffers stays.
 use Rattle.std.{proofs.Common.{◌≡◌, ℕ, ◌+◌, ◌<◌, ◌≤◌, true, false, List, length, set, get_or, refl, ap, sym, ◌∙◌, arith, ⊎_elim}, specs.Prelude.{◌≢◌, All}}
 use Rattle.std.proofs.lemmas.{List.{get_or-set_same, get_or-set_other, length-set, Elements.{All-push}}, Bool.{cases_lt}}
-use Rattle.area_layout.{specs.Layout.{LiesIn, size_of, begin_of, total as all_buffers}, proofs.Words.{in_order, words_apart}}
+use Rattle.area_layout.{specs.Layout.{LiesIn, size_of, begin_of, all_buffers}, proofs.Words.{in_order, words_apart}}
 use Rattle.board_face.specs.{Sides.{IsApp, app_at}, Shown.{AreShown}, Tokens.{filled_by, same_filling}, AppCalls.{IsHere, HasSpare}}
 use Rattle.board_face.specs.{AppEvents.{filled, owns_without, begin_place}, declared.views.{parts.Filling.{Filling}, app.{SpareOwn.{SpareOwn}, AppSide.{AppSide}}}}
 use Rattle.board_face.proofs.{ListLemmas.{All-without}, Parts.{spares_in}, Tallies.{total, total-set}}

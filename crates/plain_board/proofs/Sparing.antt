@@ -2,18 +2,18 @@
 use Rattle.std.proofs.Common.{◌≡◌, ℕ, ◌+◌, ◌<◌, ◌≤◌, Bool, true, false, List, [], ◌∷◌, ◌++◌, length, set, get_or, refl, ap, sym}
 use Rattle.std.{proofs.Common.{◌∙◌, subst, arith, inl, inr, ⊎_elim, length-append}, specs.Prelude.{◌≢◌, ◌==◌, ◌⊎◌, nat_eq, nat_lt, count_by, if◌then◌else◌, All}}
 use Rattle.std.proofs.lemmas.{List.{length-set, get_or-set_same, get_or-set_other, Elements.{All-push}}, Bool.{lt-ltb, le-ltb, Decides.{eqb_tells}}}
-use Rattle.area_layout.specs.Layout.{pool_buffers, total, size_of}
+use Rattle.area_layout.specs.Layout.{pool_buffers, all_buffers, size_of}
 use Rattle.board_face.specs.{Sides.{IsApp, app_at}, Counts.{pool_count, user_count}, FreeOnce.{AreFreeOnce, free_places}, Looks.{AppTold}, OwnBuffers.{IsOwnBuffer}}
 use Rattle.board_face.specs.{NicEvents.{fresh}, Tokens.{filling}, AppCalls.{IsHere, MaySpare, AppOnlySaw, HasNoneIn, GotSpare}}
 use Rattle.board_face.specs.{AppEvents.{app_saw, app_gist, got_spare, reserve_of, looks_by_spare}, declared.views.app.AppLook.TheVariants.{NoneListed, NoSpare}}
-use Rattle.board_face.{specs.declared.views.app.{AppView.{AppView}, AppSide.{AppSide}}, proofs.{Tallies.{weight}, Parts.{app_count, spares_in, pool_count-parts}}}
+use Rattle.board_face.{specs.declared.views.app.{AppView.{AppView}, AppSide.{AppSide}}, proofs.{Tallies.{one_if}, Parts.{app_count, spares_in, pool_count-parts}}}
 use Rattle.board_face.proofs.{AppLemmas.{pool_count-app, app_count-got_spare}, RelayLemmas.{Relayed-app}, LookLemmas.{AppTold-none, AppTold-one, AppRose-app_saw}}
 use Rattle.board_face.proofs.{FreeLemmas.{IsFreeOnce-unheld}, FillingsFitLemmas.{FillingsFit-got_spare}, IsFilledByOneLemmas.{IsFilledByOne-got_spare, fillings-held}}
 use Rattle.board_face.proofs.{OwnBufferLemmas.{AppLiesInOwn-got_spare}, AreShownLemmas.{AreShown-got_spare}, LiesLemmas.{total-at}}
 use Rattle.board_face.proofs.Counting.{weight-other, weight-swap, count-push, once-taken, All-none}
 use Rattle.board_parts.specs.Free.{listed_in, HasNoneListed, IsPicked}
-use Rattle.plain_board.{specs.{Stand.{Arrays, Stand, setting_of, others_of, byte_of}, Seen.{IsSeenBy}, Sound.{IsSound, IsAtRest}}, proofs.Lists.{same-or-other, raised}}
-use Rattle.plain_board.proofs.{OwnSide.{seen-count, seen-users, nothing-listed}, Reserves.{reserve-own}}
+use Rattle.plain_board.specs.{Stand.{Arrays, Stand, setting_of_arrays, others_of, byte_of}, Seen.{IsSeenBy}, Sound.{IsSound, IsAppAtRest}}
+use Rattle.plain_board.proofs.{Lists.{same-or-other, raised}, OwnSide.{seen-count, seen-users, nothing-listed}, Reserves.{reserve-own}}
 use Rattle.plain_board.proofs.AppFrames.{has-setting, IsSet-app, was-at_rest, AreCounted-app, was-returned, AreRelayed-kept, was-relayed, returns-app, pools}
 use Rattle.plain_board.proofs.AppFrames.{was-returns, AreFlags-kept, free_places-side, times_used, times_picked-app, AreDue-app, was-given, AreBooked-app}
 use Rattle.plain_board.proofs.AppFrames.{was-booked_loans, was-booked_raw, ArePhased-app, was-phased, was-own, OwnBuffers-app}
@@ -21,25 +21,25 @@ use Rattle.plain_board.proofs.AppFrames.{was-booked_loans, was-booked_raw, ArePh
 -- ---- the free list
 
 listed-less : (listed : List Bool) (i b : ℕ) → i < length listed → listed_in listed i ≡ true
-    → weight (listed_in (set listed i false) b) + weight (i == b) ≡ weight (listed_in listed b)
+    → one_if (listed_in (set listed i false) b) + one_if (i == b) ≡ one_if (listed_in listed b)
 listed-less listed i b there was =
     ⊎_elim
     (λ t. let e : i ≡ b = t.1 in
-    let now : weight (listed_in (set listed i false) b) ≡ 0 = subst (λ n. weight (listed_in (set listed i false) n) ≡ 0) e
-    (ap weight (get_or-set_same listed i false false there)) in
-    let before : weight (listed_in listed b) ≡ 1 = subst (λ n. weight (listed_in listed n) ≡ 1) e (ap weight was) in
-    omega (arith, now, before, ap weight t.0))
-    (λ t. let ne : b ≢ i = λ e. t.1 (sym e) in omega (arith, ap weight (get_or-set_other listed i b false false ne), ap weight t.0))
+    let now : one_if (listed_in (set listed i false) b) ≡ 0 = subst (λ n. one_if (listed_in (set listed i false) n) ≡ 0) e
+    (ap one_if (get_or-set_same listed i false false there)) in
+    let before : one_if (listed_in listed b) ≡ 1 = subst (λ n. one_if (listed_in listed n) ≡ 1) e (ap one_if was) in
+    omega (arith, now, before, ap one_if t.0))
+    (λ t. let ne : b ≢ i = λ e. t.1 (sym e) in omega (arith, ap one_if (get_or-set_other listed i b false false ne), ap one_if t.0))
     (eqb_tells i b)
 
 -- What is picked is a listed buffer, which isn't listed then, or the reserve. Nobody has it.
 pub record IsUnheld (board : Stand) (a buffer : ℕ) (listed : List Bool) : Type 0 where
-  pub within : buffer < total board.arrays.layout
+  pub within : buffer < all_buffers board.arrays.layout
   pub none : pool_count buffer board.nic board.apps ≡ 0
   pub len : length listed ≡ length board.arrays.listed
   pub takes : (b : ℕ) → b < pool_buffers board.arrays.layout
-      → weight (listed_in listed b) + weight (buffer == b) ≡ weight (listed_in board.arrays.listed b)
-  pub fewer : (b : ℕ) → weight (listed_in listed b) ≤ weight (listed_in board.arrays.listed b)
+      → one_if (listed_in listed b) + one_if (buffer == b) ≡ one_if (listed_in board.arrays.listed b)
+  pub fewer : (b : ℕ) → one_if (listed_in listed b) ≤ one_if (listed_in board.arrays.listed b)
   pub which : (buffer < pool_buffers board.arrays.layout) ⊎ ((buffer ≡ pool_buffers board.arrays.layout + a) × HasNoneListed board.arrays.listed)
 
 module _ (board : Stand) (a buffer : ℕ) (x : AppSide) (listed : List Bool) (sound : IsSound board) (here : IsApp board.apps a x)
@@ -49,25 +49,25 @@ module _ (board : Stand) (a buffer : ℕ) (x : AppSide) (listed : List Bool) (so
       ⊎_elim
       (λ t. let low = t.0 in
       let inside : buffer < pool_buffers board.arrays.layout = omega (arith, low.there, sound.sizes.listed) in
-      let less : (b : ℕ) → weight (listed_in listed b) + weight (buffer == b)
-      ≡ weight (listed_in board.arrays.listed b) = λ b. rw t.1 (listed-less board.arrays.listed buffer b low.there low.is_listed) in
+      let less : (b : ℕ) → one_if (listed_in listed b) + one_if (buffer == b)
+      ≡ one_if (listed_in board.arrays.listed b) = λ b. rw t.1 (listed-less board.arrays.listed buffer b low.there low.is_listed) in
       record {
         within = omega arith;
         none = IsFreeOnce-unheld (listed_in board.arrays.listed) buffer board.nic board.apps (sound.free.pool buffer (rw (pools sound) inside))
-            (omega (arith, ap weight low.is_listed));
+            (omega (arith, ap one_if low.is_listed));
         len = ap length t.1 ∙ length-set board.arrays.listed buffer false;
         takes = λ b within. less b;
         fewer = λ b. omega (arith, less b);
         which = inl inside;
       })
       (λ t.
-      let inside : buffer < total board.arrays.layout = let many = sound.set.many in let h = here.there in let e = t.0 in omega arith in
+      let inside : buffer < all_buffers board.arrays.layout = let many = sound.set.many in let h = here.there in let e = t.0 in omega arith in
       record {
         within = inside;
         none = sym (sound.counted.pool buffer inside) ∙ (ap (λ n. get_or board.arrays.pool n 0) t.0 ∙ t.2);
         len = ap length t.3;
-        takes = λ b within. omega (arith, ap (λ l. weight (listed_in l b)) t.3, weight-other buffer b (λ e. absurd (let r = t.0 in omega arith)));
-        fewer = λ b. omega (arith, ap (λ l. weight (listed_in l b)) t.3);
+        takes = λ b within. omega (arith, ap (λ l. one_if (listed_in l b)) t.3, weight-other buffer b (λ e. absurd (let r = t.0 in omega arith)));
+        fewer = λ b. omega (arith, ap (λ l. one_if (listed_in l b)) t.3);
         which = inr (t.0, t.1);
       })
       picked.which
@@ -85,7 +85,7 @@ module _ (board : Stand) (a buffer : ℕ) (listed : List Bool) (sound : IsSound 
 -- ---- what was picked
 
 pick-count : (c : Bool) (picks : List ℕ) (buffer b : ℕ) → count_by (nat_eq b) (if c then picks ++ buffer ∷ [] else picks)
-    ≡ count_by (nat_eq b) picks + (if c then weight (buffer == b) else 0)
+    ≡ count_by (nat_eq b) picks + (if c then one_if (buffer == b) else 0)
 pick-count true picks buffer b = omega (arith, count-push b buffer picks, weight-swap b buffer)
 pick-count false picks buffer b = omega arith
 
@@ -94,7 +94,7 @@ pick-length true picks buffer = omega (arith, length-append picks (buffer ∷ []
 pick-length false picks buffer = omega arith
 
 -- a buffer of the pool is the one that was picked only if that is of the pool
-pick-pool : (c : Bool) (buffer b m : ℕ) → nat_lt buffer m ≡ c → b < m → (if c then weight (buffer == b) else 0) ≡ weight (buffer == b)
+pick-pool : (c : Bool) (buffer b m : ℕ) → nat_lt buffer m ≡ c → b < m → (if c then one_if (buffer == b) else 0) ≡ one_if (buffer == b)
 pick-pool true buffer b m is within = refl
 pick-pool false buffer b m is within = sym (weight-other buffer b (λ e. absurd (let less = lt-ltb buffer m (omega arith) in let none : ⊥ = cc in none)))
 
@@ -105,10 +105,10 @@ module _ (board : Stand) (a buffer : ℕ) (x : AppSide) (listed : List Bool) (so
   abbrev now : AppSide
   now = app_at x (got_spare x.view buffer)
 
-  at-rest : IsAtRest now
+  at-rest : IsAppAtRest now
   at-rest = assumption (was-at_rest board a x now sound here)
 
-  mine : x.view.setting ≡ setting_of board.arrays
+  mine : x.view.setting ≡ setting_of_arrays board.arrays
   mine = has-setting board a x now sound here
 
   my-pools : pool_buffers x.view.setting.layout ≡ pool_buffers board.arrays.layout
@@ -118,17 +118,17 @@ module _ (board : Stand) (a buffer : ℕ) (x : AppSide) (listed : List Bool) (so
   own-buffer : IsOwnBuffer x.view buffer
   own-buffer = ⊎_elim (λ inside. inl (rw my-pools inside)) (λ reserve. inr (rw (my-pools, here.number) reserve.0)) free.which
 
-  more : (b : ℕ) → pool_count b board.nic (set board.apps a now) ≡ pool_count b board.nic board.apps + weight (buffer == b)
+  more : (b : ℕ) → pool_count b board.nic (set board.apps a now) ≡ pool_count b board.nic board.apps + one_if (buffer == b)
   more b = omega (arith, pool_count-app b board.nic board.apps a x now here, app_count-got_spare b board.nic x buffer)
 
-  places : (b : ℕ) → free_places (listed_in listed) b board.nic (set board.apps a now) + weight (listed_in board.arrays.listed b)
-      ≡ free_places (listed_in board.arrays.listed) b board.nic board.apps + weight (listed_in listed b)
+  places : (b : ℕ) → free_places (listed_in listed) b board.nic (set board.apps a now) + one_if (listed_in board.arrays.listed b)
+      ≡ free_places (listed_in board.arrays.listed) b board.nic board.apps + one_if (listed_in listed b)
   places b = free_places-side board a x now sound here (listed_in board.arrays.listed) (listed_in listed) b at-rest
 
   free-then : AreFreeOnce (listed_in listed) board.nic (set board.apps a now)
   free-then = record {
     pool = λ b within. once-taken (pool_count b board.nic board.apps) _ (free_places (listed_in board.arrays.listed) b board.nic board.apps) _
-        (weight (buffer == b)) (sound.free.pool b within)
+        (one_if (buffer == b)) (sound.free.pool b within)
         (omega (arith, places b, free.takes b (rw (← pools sound) within)))
         (more b)
         (⊎_elim (λ same. let e : b ≡ buffer = same.1 in inr (same.0, ap (λ n. pool_count n board.nic board.apps) e ∙ free.none)) (λ other. inl other)
@@ -137,7 +137,7 @@ module _ (board : Stand) (a buffer : ℕ) (x : AppSide) (listed : List Bool) (so
   }
 
   picks : (b : ℕ) → b < pool_buffers board.arrays.layout
-      → count_by (nat_eq b) now.view.picked ≡ count_by (nat_eq b) x.view.picked + weight (buffer == b)
+      → count_by (nat_eq b) now.view.picked ≡ count_by (nat_eq b) x.view.picked + one_if (buffer == b)
   picks b within =
       let c = nat_lt buffer (pool_buffers x.view.setting.layout) in
       omega (arith, pick-count c x.view.picked buffer b, pick-pool c buffer b (pool_buffers x.view.setting.layout) refl (rw my-pools within))
@@ -282,7 +282,7 @@ module _ (board : Stand) (a : ℕ) (x : AppSide) (sound : IsSound board) (here :
   told-none none held =
       let mine = has-setting board a x x sound here in
       let reserve : reserve_of x.view ≡ pool_buffers board.arrays.layout + a = omega (arith, ap (λ s. pool_buffers s.layout) mine, here.number) in
-      let inside : pool_buffers board.arrays.layout + a < total board.arrays.layout = let many = sound.set.many in let h = here.there in omega arith in
+      let inside : pool_buffers board.arrays.layout + a < all_buffers board.arrays.layout = let many = sound.set.many in let h = here.there in omega arith in
       AppTold-one (λ look. IsSeenBy look (app_gist x.view) (others_of board a)) x.view (app_saw x.view NoSpare) NoSpare refl (
         nothing-listed board a x sound here none,
         record {

@@ -4,7 +4,7 @@ use Rattle.std.proofs.Common.{◌≡◌, ℕ, zero, suc, ◌+◌, ◌-◌, ◌<�
 use Rattle.std.{proofs.Common.{◌∙◌, arith, ⊎_elim, inl, inr, append_assoc, length-append, length-take, length-drop}, specs.Prelude.{◌⊎◌, nat_lt, if◌then◌else◌}}
 use Rattle.std.proofs.lemmas.{Bool.{cases_lt, lt-ltb, le-ltb}, List.{get_or_append_left, get_or-take, get_or-append_right, get_or-drop}}
 use Rattle.zr_kinds.specs.declared.place.Place.{Place}
-use Rattle.area_layout.{specs.Layout.{total, size_of, begin_of}, proofs.Words.{in_order}}
+use Rattle.area_layout.{specs.Layout.{all_buffers, size_of, begin_of}, proofs.Words.{in_order}}
 use Rattle.board_face.specs.{Shown.{IsShown, AreShown}, declared.views.{nic.NicSide.{NicSide}, app.AppSide.{AppSide}}}
 use Rattle.board_face.proofs.{StoresAtLemmas.{StoresAt, HasNoText, HasNoText-behind}, AreShownLemmas.{AreShown-stored_at}}
 use Rattle.board_parts.specs.Area.{stored}
@@ -45,7 +45,7 @@ module _ (area bytes : List ℕ) (at : ℕ) (fits : at + length bytes ≤ length
 
 -- ---- a place in a buffer
 
-module _ (arrays : Arrays) (b offset : ℕ) (bytes : List ℕ) (sizes : HasSizes arrays) (inside : b < total arrays.layout)
+module _ (arrays : Arrays) (b offset : ℕ) (bytes : List ℕ) (sizes : HasSizes arrays) (inside : b < all_buffers arrays.layout)
     (lies : offset + length bytes ≤ size_of arrays.layout b) where
   abbrev spot : ℕ
   spot = begin_of arrays.layout b + offset
@@ -55,7 +55,7 @@ module _ (arrays : Arrays) (b offset : ℕ) (bytes : List ℕ) (sizes : HasSizes
   ends-before = (in_order arrays.layout sizes.layout).apart
 
   pub in_area : spot + length bytes ≤ length arrays.area
-  in_area = omega (arith, sizes.area, ends-before b (total arrays.layout) inside)
+  in_area = omega (arith, sizes.area, ends-before b (all_buffers arrays.layout) inside)
 
   abbrev pub stored_then : Arrays
   stored_then = record arrays { area = stored arrays.area spot bytes }

@@ -3,14 +3,14 @@ use Rattle.std.proofs.Common.{◌≡◌, ℕ, ◌+◌, ◌-◌, ◌≤◌, true,
 use Rattle.std.{proofs.Common.{◌∙◌, subst, arith, ⊎_elim, Option, Some, None}, specs.Prelude.{◌≢◌, count_by, ◌==◌, if◌then◌else◌, IsSome, IfSome}}
 use Rattle.std.proofs.lemmas.{List.{length-set, Elements.{All-head, All-push, All-weaker, All-contains}}, Bool.{cases_Bool, cases_lt, Decides.{eqb_tells}}}
 use Rattle.zr_kinds.specs.declared.ring.Rqe.{Rqe}
-use Rattle.area_layout.specs.Layout.{total, judged}
+use Rattle.area_layout.specs.Layout.{all_buffers, judged}
 use Rattle.board_face.specs.{NicEvents.{passed_over, looks_by_stray}, NicCalls.{PassedOver}, Looks.{NicRose}, Judged.{IsHonouredAsNamed}}
 use Rattle.board_face.{specs.{declared.views.nic.{NicLook.TheVariants.{NotOwed}, NicView.{NicView}}, Sides.{nic_at, IsApp}}, proofs.LookLemmas.{NicRose-nic_saw}}
 use Rattle.board_face.specs.{Holders.{lowered_in_hand, owed_in}, Counts.{pool_count, user_count, EndedWereReturned}, declared.views.nic.Dealt.{Dealt}}
 use Rattle.board_face.{specs.declared.views.{nic.{Fate.TheVariants.{Stray}, NicSide.{NicSide}}, app.AppSide.{AppSide}}, proofs.ListLemmas.{eqb_same}}
 use Rattle.board_face.proofs.{NicLemmas.{pool_count-passed_over, user_count-passed_over, ended_in-passed_over}, FreeLemmas.{user_count-le}}
 use Rattle.board_face.proofs.{FillingsFitLemmas.{FillingsFit-nic}, IsFilledByOneLemmas.{IsFilledByOne-passed_over}, OwnBufferLemmas.{LieInOwn-nic}}
-use Rattle.board_face.proofs.{AreShownLemmas.{AreShown-passed_over}, Tallies.{weight}, Counting.{count-first}, Parts.{owed-count}}
+use Rattle.board_face.proofs.{AreShownLemmas.{AreShown-passed_over}, Tallies.{one_if}, Counting.{count-first}, Parts.{owed-count}}
 use Rattle.board_parts.specs.Counts.{user_at}
 use Rattle.plain_board.specs.{Stand.{Stand, byte_of}, Returns.{AreReturns, returns, abandoned_in, is_some_of, IsNamed}, Sound.{IsSound, refills_of}}
 use Rattle.plain_board.proofs.{Card.{IsSet-nic, none-lowered}, Popping.{same-app, other-number, ring_then, AreRelayed-popped, AreBooked-popped}}
@@ -51,7 +51,7 @@ module _ (board : Stand) (a : ℕ) (x : AppSide) (e : Rqe) (es : List Rqe) (soun
         rw front.way at (h.owed i),
         idle i,
         count-first (returns x.view.setting.layout i) front.first front.others,
-        ap weight counted,
+        ap one_if counted,
         owed-count i board.nic x,
       ) in
       let is : judged board.arrays.layout e ≡ Some i =
@@ -60,7 +60,7 @@ module _ (board : Stand) (a : ℕ) (x : AppSide) (e : Rqe) (es : List Rqe) (soun
       absurd (⊎_elim
       (λ inside. omega (arith, owed, unowed, sound.counted.users a i here.there inside))
       (λ past. omega (arith, owed, user_count-le a i board.nic board.apps, sound.counted.beyond i past))
-      (cases_lt i (total board.arrays.layout))))
+      (cases_lt i (all_buffers board.arrays.layout))))
       (λ raw. raw)
       (cases_Bool front.first.of_loan)
 
@@ -88,7 +88,7 @@ module _ (board : Stand) (a : ℕ) (x : AppSide) (e : Rqe) (es : List Rqe) (soun
         arith,
         rw front.way at ((sound.returns a x here).no_more b),
         count-first (returns x.view.setting.layout b) front.first front.others,
-        ap weight raw,
+        ap one_if raw,
         owed-count b board.nic x,
         owed-count b nic_passed x,
         ended_in-passed_over b board.nic a e x,

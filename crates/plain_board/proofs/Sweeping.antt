@@ -6,10 +6,10 @@ use Rattle.std.proofs.lemmas.{List.Kept.{AllPairs-cons}, Bool.{cases_lt, Decides
 use Rattle.board_face.specs.{NicEvents.{swept, word_bits, cache_room}, NicCalls.{SweptWord, free_words_of}, declared.views.nic.NicLook.TheVariants.{Swept}}
 use Rattle.board_face.{specs.{Sides.{nic_at}, FreeOnce.{free_places}}, proofs.{NicLemmas.{pool_count-swept}, FreeLemmas.{free_places-swept}}}
 use Rattle.board_face.proofs.{FillingsFitLemmas.{FillingsFit-nic}, IsFilledByOneLemmas.{IsFilledByOne-swept}, OwnBufferLemmas.{LieInOwn-nic}}
-use Rattle.board_face.proofs.{AreShownLemmas.{AreShown-swept}, LookLemmas.{NicRose-nic_saw}, Tallies.{weight}}
+use Rattle.board_face.proofs.{AreShownLemmas.{AreShown-swept}, LookLemmas.{NicRose-nic_saw}, Tallies.{one_if}}
 use Rattle.board_face.proofs.Counting.{weight-same, weight-other, count-push, count-append}
 use Rattle.area_layout.specs.Layout.{pool_buffers}
-use Rattle.board_parts.{specs.Free.{listed_in, listed_from, found_in, word_len, word_end}, proofs.Moving.{length-listed_from}}
+use Rattle.board_parts.{specs.Free.{listed_in, listed_from, listed_in_word, word_len, word_end}, proofs.Moving.{length-listed_from}}
 use Rattle.plain_board.specs.{Stand.{Stand, byte_of}, Sound.{IsSound}}
 use Rattle.plain_board.proofs.{Card.{IsSet-nic, AreCounted-same, AreRelayed-nic, AreReturns-nic, AreBooked-nic, ArePhased-nic}, AppFrames.{pools}}
 use Rattle.zr_kinds.proofs.Booleans.{if-none, if-one}
@@ -18,7 +18,7 @@ use Rattle.zr_kinds.proofs.Booleans.{if-none, if-one}
 
 module _ (listed : List Bool) (first : ℕ) where
   found-case : (c : Bool) (b x : ℕ) (rest : List ℕ) → count_by (nat_eq b) ((if c then x ∷ [] else []) ++ rest)
-      ≡ (if c then weight (b == x) else 0) + count_by (nat_eq b) rest
+      ≡ (if c then one_if (b == x) else 0) + count_by (nat_eq b) rest
   found-case true b x rest = omega (arith, count-append b (x ∷ []) rest, count-push b x [])
   found-case false b x rest = omega arith
 
@@ -32,7 +32,7 @@ module _ (listed : List Bool) (first : ℕ) where
     found-outside n b (⊎_elim (λ under. inl under) (λ over. inr (omega arith)) where_),
   )
 
-  pub found-inside : (n b : ℕ) → first ≤ b → b < first + n → count_by (nat_eq b) (listed_from listed first n) ≡ weight (listed_in listed b)
+  pub found-inside : (n b : ℕ) → first ≤ b → b < first + n → count_by (nat_eq b) (listed_from listed first n) ≡ one_if (listed_in listed b)
   found-inside zero b from to = absurd (omega arith)
   found-inside (suc n) b from to =
       ⊎_elim
@@ -43,7 +43,7 @@ module _ (listed : List Bool) (first : ℕ) where
         found-inside n b from less,
       ))
       (λ more. let same : b ≡ first + n = omega arith in
-      subst (λ x. count_by (nat_eq x) (listed_from listed first (suc n)) ≡ weight (listed_in listed x)) (sym same) (omega (
+      subst (λ x. count_by (nat_eq x) (listed_from listed first (suc n)) ≡ one_if (listed_in listed x)) (sym same) (omega (
         arith,
         found-case (listed_in listed (first + n)) (first + n) (first + n) (listed_from listed first n),
         if-one (listed_in listed (first + n)) _ (weight-same (first + n)),
@@ -82,33 +82,33 @@ module _ (board : Stand) (word : ℕ) (sound : IsSound board) (inside : word < f
   pub found-times : (listed' : List Bool)
       → ((b : ℕ) → word_bits * word ≤ b → b < word_end board.arrays.listed word → listed_in listed' b ≡ false)
       → ((b : ℕ) → (b < word_bits * word) ⊎ (word_end board.arrays.listed word ≤ b) → listed_in listed' b ≡ listed_in board.arrays.listed b)
-      → (b : ℕ) → weight (listed_in listed' b) + count_by (nat_eq b) (found_in board.arrays.listed word) ≡ weight (listed_in board.arrays.listed b)
+      → (b : ℕ) → one_if (listed_in listed' b) + count_by (nat_eq b) (listed_in_word board.arrays.listed word) ≡ one_if (listed_in board.arrays.listed b)
   found-times listed' gone others b =
       let first = word_bits * word in
       let n = word_len board.arrays.listed word in
       ⊎_elim
-      (λ under. omega (arith, ap weight (others b (inl under)), found-outside board.arrays.listed first n b (inl under)))
+      (λ under. omega (arith, ap one_if (others b (inl under)), found-outside board.arrays.listed first n b (inl under)))
       (λ from. ⊎_elim
-      (λ to. omega (arith, ap weight (gone b from to), found-inside board.arrays.listed first n b from to))
-      (λ over. omega (arith, ap weight (others b (inr over)), found-outside board.arrays.listed first n b (inr over)))
+      (λ to. omega (arith, ap one_if (gone b from to), found-inside board.arrays.listed first n b from to))
+      (λ over. omega (arith, ap one_if (others b (inr over)), found-outside board.arrays.listed first n b (inr over)))
       (cases_lt b (first + n)))
       (cases_lt b first)
 
   pub found-of_word : (listed' : List Bool) → ((b : ℕ) → word_bits * word ≤ b → b < word_end board.arrays.listed word
       → listed_in listed' b ≡ false)
-      → (b : ℕ) → b < pool_buffers board.arrays.layout → b / word_bits ≡ word → weight (listed_in listed' b) ≡ 0
-  found-of_word listed' gone b within same = let l = sound.sizes.listed in ap weight (gone b (omega arith) (omega arith))
+      → (b : ℕ) → b < pool_buffers board.arrays.layout → b / word_bits ≡ word → one_if (listed_in listed' b) ≡ 0
+  found-of_word listed' gone b within same = let l = sound.sizes.listed in ap one_if (gone b (omega arith) (omega arith))
 
   pub IsSound-swept : (listed' : List Bool) → length board.arrays.cache < 64 → length listed' ≡ length board.arrays.listed
       → ((b : ℕ) → word_bits * word ≤ b → b < word_end board.arrays.listed word → listed_in listed' b ≡ false)
       → ((b : ℕ) → (b < word_bits * word) ⊎ (word_end board.arrays.listed word ≤ b) → listed_in listed' b ≡ listed_in board.arrays.listed b)
       → IsSound (record {
-        arrays = record board.arrays { listed = listed'; cache = board.arrays.cache ++ found_in board.arrays.listed word };
-        nic = nic_at board.nic (swept board.nic.view word (found_in board.arrays.listed word));
+        arrays = record board.arrays { listed = listed'; cache = board.arrays.cache ++ listed_in_word board.arrays.listed word };
+        nic = nic_at board.nic (swept board.nic.view word (listed_in_word board.arrays.listed word));
         apps = board.apps;
       })
   IsSound-swept listed' short same gone others =
-      let found = found_in board.arrays.listed word in
+      let found = listed_in_word board.arrays.listed word in
       let v = swept board.nic.view word found in
       record {
         sizes = let cache : length (board.arrays.cache ++ found) ≤ cache_room = omega (
@@ -142,7 +142,7 @@ module _ (board : Stand) (word : ℕ) (sound : IsSound board) (inside : word < f
                 count-append b board.nic.view.cache found,
               ))
               (λ t. let before : 1 ≤ count_by (nat_eq (b / word_bits)) board.nic.view.swept = omega
-              (arith, seen, count-push (b / word_bits) word board.nic.view.swept, ap weight t.0) in
+              (arith, seen, count-push (b / word_bits) word board.nic.view.swept, ap one_if t.0) in
               omega (arith, sound.kept.swept b within before, count-append b board.nic.view.cache found))
               (eqb_tells (b / word_bits) word);
         };
@@ -158,15 +158,16 @@ module _ (board : Stand) (word : ℕ) (sound : IsSound board) (inside : word < f
             (λ e. assumption (sound.phased.card e)) sound.phased;
       }
     where
-      free-same : (b : ℕ) → free_places (listed_in listed') b (nic_at board.nic (swept board.nic.view word (found_in board.arrays.listed word))) board.apps
+      free-same : (b : ℕ) → free_places (listed_in listed') b (nic_at board.nic (swept board.nic.view word (listed_in_word board.arrays.listed word)))
+          board.apps
           ≡ free_places (listed_in board.arrays.listed) b board.nic board.apps
       free-same b = omega (
         arith,
         found-times listed' gone others b,
-        free_places-swept (listed_in listed') b board.nic board.apps word (found_in board.arrays.listed word),
+        free_places-swept (listed_in listed') b board.nic board.apps word (listed_in_word board.arrays.listed word),
       )
 
-  pub SweptWord-swept : (count : ℕ) (found : List ℕ) → found ≡ found_in board.arrays.listed word → count ≡ length found
+  pub SweptWord-swept : (count : ℕ) (found : List ℕ) → found ≡ listed_in_word board.arrays.listed word → count ≡ length found
       → SweptWord board.nic.view (swept board.nic.view word found) word count
   SweptWord-swept count found is many =
       let first = word_bits * word in
@@ -179,7 +180,7 @@ module _ (board : Stand) (word : ℕ) (sound : IsSound board) (inside : word < f
         look = record { rose = (NicRose-nic_saw board.nic.view (Swept word)).rose };
         many = sym many;
         within = rw is (All-weaker (IsBetween first n) (λ b. (b / word_bits ≡ word) × (b < pool_buffers board.nic.view.setting.layout))
-            (λ b h. let from = h.0 in let to = h.1 in (omega arith, omega arith)) (found_in board.arrays.listed word)
+            (λ b h. let from = h.0 in let to = h.1 in (omega arith, omega arith)) (listed_in_word board.arrays.listed word)
             (found-between board.arrays.listed first n));
         falling = rw is (found-falling board.arrays.listed first n);
       }

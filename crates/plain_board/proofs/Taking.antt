@@ -7,7 +7,7 @@ use Rattle.area_layout.specs.Layout.{pool_buffers, size_of}
 use Rattle.board_face.specs.{Tokens.{filling}, NicEvents.{took, cache_room}, NicCalls.{IsOpen, HasNothingIn, TookBuffer}, Sides.{nic_at}, Counts.{pool_count}}
 use Rattle.board_face.{specs.FreeOnce.{free_places, AreFreeOnce}, proofs.{NicLemmas.{pool_count-took}, FreeLemmas.{free_places-took}, Parts.{pool_count-parts}}}
 use Rattle.board_face.proofs.{FillingsFitLemmas.{FillingsFit-took}, IsFilledByOneLemmas.{IsFilledByOne-took}, OwnBufferLemmas.{LieInOwn-nic}}
-use Rattle.board_face.proofs.{AreShownLemmas.{AreShown-took}, Tallies.{weight}, Counting.{once-taken, count-push, weight-same, weight-other, weight-swap, All-none}}
+use Rattle.board_face.proofs.{AreShownLemmas.{AreShown-took}, Tallies.{one_if}, Counting.{once-taken, count-push, weight-same, weight-other, weight-swap, All-none}}
 use Rattle.board_parts.specs.Free.{listed_in}
 use Rattle.plain_board.{specs.{Stand.{Stand, byte_of}, Sound.{IsSound}}, proofs.{Lists.{take-last, same-or-other}, AppFrames.{times_used, pools}}}
 use Rattle.plain_board.proofs.Card.{IsSet-nic, AreCounted-nic, AreRelayed-nic, AreReturns-nic, AreBooked-nic, ArePhased-open}
@@ -60,13 +60,13 @@ module _ (board : Stand) (buffer : ℕ) (sound : IsSound board) (found : last_it
       }
 
   taken_counts : (b : ℕ) → pool_count b (nic_at board.nic (took board.nic.view buffer)) board.apps
-      ≡ pool_count b board.nic board.apps + weight (buffer == b)
+      ≡ pool_count b board.nic board.apps + one_if (buffer == b)
   taken_counts b = pool_count-took b board.nic board.apps buffer
 
   free_after : AreFreeOnce (listed_in board.arrays.listed) (nic_at board.nic (took board.nic.view buffer)) board.apps
   free_after = record {
     pool = λ b within. once-taken (pool_count b board.nic board.apps) _ (free_places (listed_in board.arrays.listed) b board.nic board.apps) _
-        (weight (buffer == b)) (sound.free.pool b within)
+        (one_if (buffer == b)) (sound.free.pool b within)
         (omega (arith, free_places-took (listed_in board.arrays.listed) b board.nic board.apps buffer last, weight-swap b buffer)) (taken_counts b)
         (⊎_elim (λ same. inr (same.0, ap (λ x. pool_count x board.nic board.apps) same.1 ∙ is_spare.none)) (λ other. inl other)
         (same-or-other b buffer));

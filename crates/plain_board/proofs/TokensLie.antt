@@ -2,9 +2,9 @@
 use Rattle.std.proofs.Common.{◌≡◌, ℕ, zero, suc, ◌<◌, ◌≤◌, Bool, true, false, List, [], ◌∷◌, map, ap, sym, ◌∙◌, arith, ⊎_elim}
 use Rattle.std.{specs.Prelude.{◌==◌, ◌↔◌, nat_lt, Contains, IsTrue}, proofs.lemmas.Bool.{cases_lt, lt-ltb, ltb-true, eq-eqb, Decides.{eqb_tells}}}
 use Rattle.zr_kinds.specs.declared.place.Place.{Place}
-use Rattle.area_layout.specs.Layout.{total as all_buffers, LiesIn}
+use Rattle.area_layout.specs.Layout.{all_buffers, LiesIn}
 use Rattle.board_face.specs.{Sides.{IsApp}, AppCalls.{HasHeld, HasLoan, HasSpare, IsLive}, Counts.{pool_count}, declared.views.parts.Filling.{Filling}}
-use Rattle.board_face.{specs.declared.views.app.{LentPiece.{LentPiece}, AppSide.{AppSide}}, proofs.{ListLemmas.{eqb_same}, Tallies.{weight, tally}}}
+use Rattle.board_face.{specs.declared.views.app.{LentPiece.{LentPiece}, AppSide.{AppSide}}, proofs.{ListLemmas.{eqb_same}, Tallies.{one_if, tally}}}
 use Rattle.board_face.proofs.{Parts.{app_count, count-tally, pool_count-parts}, PlaceTallies.{in_buffer, app_places}, AppLemmas.{owns-without}}
 use Rattle.board_face.proofs.LiesLemmas.{total-at, helds-at, loans-at, lies-by as place-lies}
 use Rattle.plain_board.specs.{Stand.{Stand}, Returns.{loans_out}, Sound.{IsSound}}
@@ -17,12 +17,12 @@ live-from b [] some = absurd (omega arith)
 live-from b (x ∷ xs) some =
     ⊎_elim
     (λ t. (0, omega arith, t.1))
-    (λ t. let rest = live-from b xs (omega (arith, some, ap weight t.0)) in (suc rest.0, omega (arith, rest.1), rest.2))
+    (λ t. let rest = live-from b xs (omega (arith, some, ap one_if t.0)) in (suc rest.0, omega (arith, rest.1), rest.2))
     (eqb_tells x.place.buffer b)
 
 live-to : (b : ℕ) (xs : List LentPiece) → Contains (map (λ l. l.place.buffer) xs) b → 0 < tally (λ l. l.place.buffer == b) xs
 live-to b [] (k, there, e) = absurd (omega arith)
-live-to b (x ∷ xs) (zero, there, e) = omega (arith, ap weight (eq-eqb x.place.buffer b e))
+live-to b (x ∷ xs) (zero, there, e) = omega (arith, ap one_if (eq-eqb x.place.buffer b e))
 live-to b (x ∷ xs) (suc k, there, e) = omega (arith, live-to b xs (k, omega arith, e))
 
 module _ (board : Stand) (a : ℕ) (x : AppSide) (sound : IsSound board) (here : IsApp board.apps a x) where
@@ -38,7 +38,7 @@ module _ (board : Stand) (a : ℕ) (x : AppSide) (sound : IsSound board) (here :
 
   -- where the place is one of its buffer's, it lies in the area and has a byte
   lies-by : (p : Place) → 0 < app_count p.buffer board.nic x
-      → ((test : Place → Bool) → weight (in_buffer p.buffer test p) ≤ app_places p.buffer test board.nic x)
+      → ((test : Place → Bool) → one_if (in_buffer p.buffer test p) ≤ app_places p.buffer test board.nic x)
       → LiesIn board.arrays.layout p × (0 < p.len)
   lies-by p held met =
       let layouts : board.nic.view.setting.layout ≡ board.arrays.layout = ap (λ s. s.layout) sound.set.card in
@@ -46,7 +46,7 @@ module _ (board : Stand) (a : ℕ) (x : AppSide) (sound : IsSound board) (here :
       (λ past. sound.counted.beyond p.buffer (rw (← layouts) past)) held met)
 
   pub held-some : (p : Place) → HasHeld x.view p → 0 < app_count p.buffer board.nic x
-  held-some p out = omega (arith, helds-at x.view.helds p (λ q. q.buffer == p.buffer) out, ap weight (eqb_same p.buffer))
+  held-some p out = omega (arith, helds-at x.view.helds p (λ q. q.buffer == p.buffer) out, ap one_if (eqb_same p.buffer))
 
   pub held-lies : (p : Place) → HasHeld x.view p → LiesIn board.arrays.layout p × (0 < p.len)
   held-lies p out = lies-by p (held-some p out) (λ test. omega (arith, helds-at x.view.helds p (in_buffer p.buffer test) out))
@@ -56,7 +56,7 @@ module _ (board : Stand) (a : ℕ) (x : AppSide) (sound : IsSound board) (here :
   loan-some p out = omega (
     arith,
     loans-at x.view.loans p (λ q. q.buffer == p.buffer) out,
-    ap weight (eqb_same p.buffer),
+    ap one_if (eqb_same p.buffer),
     count-tally (λ (l : LentPiece). l.place.buffer == p.buffer) x.view.loans,
   )
 
@@ -71,7 +71,7 @@ module _ (board : Stand) (a : ℕ) (x : AppSide) (sound : IsSound board) (here :
 
   -- a spare's buffer is one of the area
   pub spare-some : (own : Filling) → HasSpare x.view own → 0 < app_count own.buffer board.nic x
-  spare-some own out = omega (arith, owns-without own.buffer x.view own out, ap weight (eqb_same own.buffer))
+  spare-some own out = omega (arith, owns-without own.buffer x.view own out, ap one_if (eqb_same own.buffer))
 
   pub spare-within : (own : Filling) → HasSpare x.view own → own.buffer < all_buffers board.arrays.layout
   spare-within own out = part-within own.buffer (spare-some own out)

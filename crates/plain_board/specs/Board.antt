@@ -2,7 +2,7 @@
 use Rattle.std.specs.Prelude.{ℕ, List, slice_set}
 use Rattle.area_layout.specs.Layout.{Shape}
 use Rattle.board_face.specs.{Blank.{blank_app}, Laws.{AllSides}, Sides.{side_in}, declared.views.{nic.NicSide.{NicSide}, app.{AppSide.{AppSide}, AppView.{AppView}}}}
-use Rattle.event_log.specs.{Logs.{Kept}, RunLaws.{opened_log}}
+use Rattle.event_log.specs.{Logs.{KeptEvents}, RunLaws.{opened_log}}
 use Rattle.plain_board.specs.{declared.{logged.Logged.{Logged}, others.{Applications.{Applications}, Others.{Others}}}, Stand.{Arrays, Stand, new_stand}}
 
 pub record Board : Type 0 where
@@ -10,7 +10,7 @@ pub record Board : Type 0 where
   pub nic : NicSide
   pub apps : List AppSide
   -- the events so far
-  pub log : Kept
+  pub log : KeptEvents
 
 abbrev pub board_of : Logged → Board
 board_of logged = record {

@@ -7,13 +7,13 @@ use Rattle.board_parts.specs.Free.{listed_below}
 use Rattle.plain_board.specs.{Stand.{Arrays, Stand}, Sound.{IsSound}}
 
 -- the card ended, and every application left
-pub record IsOver (board : Stand) : Type 0 where
+pub record IsBoardOver (board : Stand) : Type 0 where
   pub card : board.nic.view.ended ≡ true
   pub apps : All (λ app. app.view.left ≡ true) board.apps
 
 -- the free buffers: those of the cache in its order, then the listed ones from the lowest
-abbrev pub free_of : Arrays → List ℕ
-free_of arrays = arrays.cache ++ listed_below arrays.listed (length arrays.listed)
+abbrev pub free_buffers_of : Arrays → List ℕ
+free_buffers_of arrays = arrays.cache ++ listed_below arrays.listed (length arrays.listed)
 
 -- All counts are 0, and no buffer has a holder.
 pub record HasNoCounts (board : Stand) : Type 0 where
@@ -25,9 +25,9 @@ pub record HasNoCounts (board : Stand) : Type 0 where
 -- What `finish` says of a board, which also holds of one that stays: each pool buffer is free once, nobody has a buffer, and
 -- every application was served.
 pub record HasEndedWell (board : Stand) : Type 0 where
-  pub once : IsEachOnce (pool_buffers board.arrays.layout) (free_of board.arrays)
+  pub once : IsEachOnce (pool_buffers board.arrays.layout) (free_buffers_of board.arrays)
   pub counts : HasNoCounts board
   pub served : All (IsServed board.nic) board.apps
 
 abbrev pub BoardsEndWell : Type 0
-BoardsEndWell = (board : Stand) → IsSound board → IsOver board → HasEndedWell board
+BoardsEndWell = (board : Stand) → IsSound board → IsBoardOver board → HasEndedWell board

@@ -10,12 +10,12 @@ abbrev pub IsLent : NicSide → AppSide → LentPiece → Type 0
 IsLent nic app l = Contains app.view.loans l ⊎ Contains (owed_loans l.place.buffer nic app) l
 
 -- notes are sent one after another, and none is taken back
-pub record IsFront (before after : List SentNote) : Type 0 where
+pub record IsFrontOfNotes (before after : List SentNote) : Type 0 where
   pub more : List SentNote
   pub parts : after ≡ before ++ more
 
 abbrev pub LentTextsStand : Type 0
 LentTextsStand =
     (old new : Stand) → IsSound old → IsSound new → (a : ℕ) (was now : AppSide) → IsApp old.apps a was → IsApp new.apps a now
-    → IsFront (sent_to a old.nic) (sent_to a new.nic) → (l : LentPiece) → IsLent old.nic was l → IsLent new.nic now l
+    → IsFrontOfNotes (sent_to a old.nic) (sent_to a new.nic) → (l : LentPiece) → IsLent old.nic was l → IsLent new.nic now l
     → (i : ℕ) → i < l.place.len → byte_of new.arrays l.place.buffer (l.place.offset + i) ≡ byte_of old.arrays l.place.buffer (l.place.offset + i)

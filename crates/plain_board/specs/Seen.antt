@@ -48,19 +48,19 @@ self_of v = record {
 }
 
 -- the sides of all applications
-abbrev pub all_of : AppView → Others → List AppSide
-all_of v others = slice_set others.apps v.app (self_of v)
+abbrev pub all_app_sides : AppView → Others → List AppSide
+all_app_sides v others = slice_set others.apps v.app (self_of v)
 
 -- no pool buffer is on the free list: one without holder is cached
 abbrev pub HasNothingListed : AppView → Others → Type 0
 HasNothingListed v others =
-    (b : ℕ) → b < pool_buffers v.setting.layout → pool_count b others.card (all_of v others) ≡ 0 → 1 ≤ count_by (nat_eq b) others.card.view.cache
+    (b : ℕ) → b < pool_buffers v.setting.layout → pool_count b others.card (all_app_sides v others) ≡ 0 → 1 ≤ count_by (nat_eq b) others.card.view.cache
 
 -- The application's reserve is held, and by nobody but itself: by its loans there, out or owed, and by its spares.
 pub record HoldsReserve (v : AppView) (others : Others) : Type 0 where
-  pub held : 0 < pool_count (reserve_of v) others.card (all_of v others)
-  pub own : pool_count (reserve_of v) others.card (all_of v others)
-      ≡ user_count v.app (reserve_of v) others.card (all_of v others) + count_by (λ s. s.own.buffer == reserve_of v) v.owns
+  pub held : 0 < pool_count (reserve_of v) others.card (all_app_sides v others)
+  pub own : pool_count (reserve_of v) others.card (all_app_sides v others)
+      ≡ user_count v.app (reserve_of v) others.card (all_app_sides v others) + count_by (λ s. s.own.buffer == reserve_of v) v.owns
 
 -- What an application sees is so.
 abbrev pub IsSeenBy : AppLook → AppView → Others → Type 0
@@ -75,8 +75,8 @@ IsSeenBy NotQuiet v others = 0 < length (entries_on_way others.card (self_of v))
 -- A spare that is a pool buffer was on the free list: nobody has it, and it isn't cached. No lower one was, nor any where it is the reserve.
 pub record IsFoundLowest (buffer : ℕ) (v : AppView) (others : Others) : Type 0 where
   pub listed : buffer < pool_buffers v.setting.layout
-      → (pool_count buffer others.card (all_of v others) ≡ 0) × (count_by (nat_eq buffer) others.card.view.cache ≡ 0)
-  pub none_lower : (b : ℕ) → b < buffer → b < pool_buffers v.setting.layout → pool_count b others.card (all_of v others) ≡ 0
+      → (pool_count buffer others.card (all_app_sides v others) ≡ 0) × (count_by (nat_eq buffer) others.card.view.cache ≡ 0)
+  pub none_lower : (b : ℕ) → b < buffer → b < pool_buffers v.setting.layout → pool_count b others.card (all_app_sides v others) ≡ 0
       → 1 ≤ count_by (nat_eq b) others.card.view.cache
 
 -- ---- what a call saw

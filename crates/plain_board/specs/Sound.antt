@@ -2,34 +2,34 @@
 use Rattle.std.specs.Prelude.{◌≡◌, ℕ, ◌*◌, ◌<◌, ◌≤◌, false, if◌then◌else◌, List, [], length, map, take, All, slice_index, slice_index_or}
 use Rattle.circular_buffer.specs.Buffer.{Buffer, buffer}
 use Rattle.zr_kinds.specs.declared.ring.Rqe.{Rqe}
-use Rattle.area_layout.specs.Layout.{IsLayout, pool_buffers, total, begin_of}
+use Rattle.area_layout.specs.Layout.{IsLayout, pool_buffers, all_buffers, begin_of}
 use Rattle.board_face.specs.{NicEvents.{cache_room}, Sides.{IsApp, AreNumbered}, Counts.{pool_count, user_count, EndedWereReturned}, FreeOnce.{AreFreeOnce}}
 use Rattle.board_face.specs.{Relay.{Relayed}, Fillings.{FillingsFit, IsFilledByOne}, Shown.{AreShown}, Used.{HasFewPicks, PicksAreGiven}, Opened.{new_nic}}
 use Rattle.board_face.specs.{OwnBuffers.{LieInOwn}, Judged.{IsHonouredAsNamed}, declared.views.{parts.Setting.{Setting}, nic.NicSide.{NicSide}, app.AppSide.{AppSide}}}
 use Rattle.board_face.specs.declared.views.app.TakenNote.{TakenNote}
 pub use Rattle.board_face.specs.{Relay.{IsProper}, Phases.{IsPhased, ArePhased}, Used.{AreKept}}
 use Rattle.board_parts.specs.{declared.slots.NoteSlot.{NoteSlot}, Free.{listed_in}, Counts.{user_at}}
-use Rattle.plain_board.specs.{Returns.{AreReturns, entries_on_way, loans_out, reach_of}, Stand.{Arrays, Stand, setting_of, byte_of}}
+use Rattle.plain_board.specs.{Returns.{AreReturns, entries_on_way, loans_out, reach_of}, Stand.{Arrays, Stand, setting_of_arrays, byte_of}}
 
 -- The arrays have an element for each buffer, for each application, or for both.
 pub record HasSizes (arrays : Arrays) : Type 0 where
   pub layout : IsLayout arrays.layout
   pub places : (1 ≤ arrays.places) × (arrays.places ≤ 256)
-  pub area : length arrays.area ≡ begin_of arrays.layout (total arrays.layout)
-  pub pool : length arrays.pool ≡ total arrays.layout
-  pub users : length arrays.users ≡ arrays.layout.reserves * total arrays.layout
+  pub area : length arrays.area ≡ begin_of arrays.layout (all_buffers arrays.layout)
+  pub pool : length arrays.pool ≡ all_buffers arrays.layout
+  pub users : length arrays.users ≡ arrays.layout.reserves * all_buffers arrays.layout
   pub listed : length arrays.listed ≡ pool_buffers arrays.layout
   pub cache : length arrays.cache ≤ cache_room
   pub notes : length arrays.notes ≡ arrays.layout.reserves
   pub refills : length arrays.refills ≡ arrays.layout.reserves
-  pub loans : length arrays.loans ≡ arrays.layout.reserves * total arrays.layout
-  pub filled : length arrays.filled ≡ total arrays.layout
+  pub loans : length arrays.loans ≡ arrays.layout.reserves * all_buffers arrays.layout
+  pub filled : length arrays.filled ≡ all_buffers arrays.layout
   pub raw : length arrays.raw ≡ arrays.layout.reserves
   pub left : length arrays.left ≡ arrays.layout.reserves
 
 -- An application is in the middle of nothing. What a scrub took is all that it keeps beside its view, and before its scrub
 -- none took anything.
-pub record IsAtRest (app : AppSide) : Type 0 where
+pub record IsAppAtRest (app : AppSide) : Type 0 where
   pub hands : app.inside.hands ≡ []
   pub owes : (b : ℕ) → slice_index app.inside.scrub_owes b ≡ 0
   pub unscrubbed : app.view.scrubbed ≡ false → (b : ℕ) → slice_index app.inside.scrub_took b ≡ 0
@@ -41,13 +41,13 @@ pub record IsSet (setting : Setting) (nic : NicSide) (apps : List AppSide) : Typ
   pub many : length apps ≡ setting.layout.reserves
   pub numbers : AreNumbered 0 apps
   pub roles : All (λ app. app.view.setting ≡ setting) apps
-  pub roles_rest : All IsAtRest apps
+  pub roles_rest : All IsAppAtRest apps
 
 -- Counts are holders.
 pub record AreCounted (arrays : Arrays) (nic : NicSide) (apps : List AppSide) : Type 0 where
-  pub pool : (b : ℕ) → b < total arrays.layout → slice_index arrays.pool b ≡ pool_count b nic apps
-  pub users : (a b : ℕ) → a < length apps → b < total arrays.layout → slice_index arrays.users (user_at arrays.layout a b) ≡ user_count a b nic apps
-  pub beyond : (b : ℕ) → total arrays.layout ≤ b → pool_count b nic apps ≡ 0
+  pub pool : (b : ℕ) → b < all_buffers arrays.layout → slice_index arrays.pool b ≡ pool_count b nic apps
+  pub users : (a b : ℕ) → a < length apps → b < all_buffers arrays.layout → slice_index arrays.users (user_at arrays.layout a b) ≡ user_count a b nic apps
+  pub beyond : (b : ℕ) → all_buffers arrays.layout ≤ b → pool_count b nic apps ≡ 0
   pub returned : (b : ℕ) → All (EndedWereReturned b nic) apps
 
 -- a note as it is taken from its slot
@@ -85,7 +85,7 @@ pub record AreDue (apps : List AppSide) : Type 0 where
 -- What the arrays keep beside the counts: the loans that are out, the lengths of filled spares, and how far back the last
 -- raw entry lies.
 pub record AreBooked (arrays : Arrays) (nic : NicSide) (apps : List AppSide) : Type 0 where
-  pub loans : (a b : ℕ) (app : AppSide) → IsApp apps a app → b < total arrays.layout
+  pub loans : (a b : ℕ) (app : AppSide) → IsApp apps a app → b < all_buffers arrays.layout
       → slice_index arrays.loans (user_at arrays.layout a b) ≡ loans_out b app
   pub filled : (a : ℕ) (app : AppSide) → IsApp apps a app → All (λ s. slice_index arrays.filled s.own.buffer ≡ length s.bytes) app.view.owns
   pub raw : (a : ℕ) (app : AppSide) → IsApp apps a app → slice_index arrays.raw a ≡ reach_of (entries_on_way nic app)
@@ -93,7 +93,7 @@ pub record AreBooked (arrays : Arrays) (nic : NicSide) (apps : List AppSide) : T
 pub record IsSound (board : Stand) : Type 0 where
   pub sizes : HasSizes board.arrays
   pub cached : board.arrays.cache ≡ board.nic.view.cache
-  pub set : IsSet (setting_of board.arrays) board.nic board.apps
+  pub set : IsSet (setting_of_arrays board.arrays) board.nic board.apps
   pub counted : AreCounted board.arrays board.nic board.apps
   pub free : AreFreeOnce (listed_in board.arrays.listed) board.nic board.apps
   pub relayed : AreRelayed board.arrays board.nic board.apps

@@ -2,7 +2,7 @@
 use Rattle.std.specs.Prelude.{◌≡◌, ℕ, ◌*◌, ◌+◌, ◌≤◌, Bool, true, false, List, [], replicate, slice_index, slice_set}
 use Rattle.circular_buffer.specs.Buffer.{Buffer, buffer}
 use Rattle.zr_kinds.specs.declared.ring.Rqe.{Rqe}
-use Rattle.area_layout.specs.Layout.{Shape, pool_buffers, total, begin_of}
+use Rattle.area_layout.specs.Layout.{Shape, pool_buffers, all_buffers, begin_of}
 use Rattle.board_face.specs.{Laws.{AllSides}, Opened.{new_nic}, Sides.{side_in}, declared.views.{parts.Setting.{Setting}, nic.NicSide.{NicSide}, app.AppSide.{AppSide}}}
 use Rattle.board_face.specs.Blank.{blank_app}
 use Rattle.board_parts.specs.{Opened.{new_apps}, declared.slots.NoteSlot.{NoteSlot}}
@@ -39,8 +39,8 @@ pub record Stand : Type 0 where
   pub nic : NicSide
   pub apps : List AppSide
 
-abbrev pub setting_of : Arrays → Setting
-setting_of arrays = record { layout = arrays.layout; places = arrays.places }
+abbrev pub setting_of_arrays : Arrays → Setting
+setting_of_arrays arrays = record { layout = arrays.layout; places = arrays.places }
 
 -- the byte of a buffer at an offset
 abbrev pub byte_of : Arrays → ℕ → ℕ → ℕ
@@ -74,11 +74,11 @@ new_stand layout places = record {
   arrays = record {
     layout = layout;
     places = places;
-    area = replicate (begin_of layout (total layout)) 0;
-    pool = replicate (total layout) 0;
-    users = replicate (layout.reserves * total layout) 0;
-    loans = replicate (layout.reserves * total layout) 0;
-    filled = replicate (total layout) 0;
+    area = replicate (begin_of layout (all_buffers layout)) 0;
+    pool = replicate (all_buffers layout) 0;
+    users = replicate (layout.reserves * all_buffers layout) 0;
+    loans = replicate (layout.reserves * all_buffers layout) 0;
+    filled = replicate (all_buffers layout) 0;
     listed = replicate (pool_buffers layout) true;
     cache = [];
     notes = replicate layout.reserves (buffer [] places);

@@ -1,7 +1,7 @@
 -- What a call tells the log of its board: the events of the step that it made, and no others.
 use Rattle.std.specs.Prelude.{◌≡◌, ℕ, ◌==◌, Bool}
 use Rattle.zr_kinds.specs.declared.{place.Place.{Place}, ring.Rqe.{Rqe}}
-use Rattle.area_layout.specs.Layout.{total}
+use Rattle.area_layout.specs.Layout.{all_buffers}
 use Rattle.run_records.specs.declared.event.Event.TheVariants as event
 use Rattle.board_face.specs.BoardSteps.{CardStep, AppStep, Step, apply, card, app, shuts, honours, polls}
 use Rattle.board_face.specs.{Laws.{pool_of}, declared.{views.parts.Filling.{Filling}, answers.{Entry.{Entry}, Polled.{Polled}}}}
@@ -11,16 +11,16 @@ use Rattle.event_log.specs.{Logs.{all_logged, logged}, ScrubLaw.{scrub_logged}, 
 use Rattle.plain_board.specs.{Board.{Board, Part, beside_of, sides_of, view_of}, Seen.{IsSeenBy}}
 
 -- the log behind the step is the log before it with its events
-abbrev pub Tells : Step → Board → Board → Type 0
-Tells step old new = new.log ≡ all_logged old.log (events_of step (sides_of old) (sides_of new))
+abbrev pub StepIsLogged : Step → Board → Board → Type 0
+StepIsLogged step old new = new.log ≡ all_logged old.log (events_of step (sides_of old) (sides_of new))
 
 -- a step of the card
 abbrev pub CardTells : CardStep → Board → Board → Type 0
-CardTells step old new = Tells (card step) old new
+CardTells step old new = StepIsLogged (card step) old new
 
 -- a step of the application that has the part
-abbrev pub AppTells : AppStep → Part → Part → Type 0
-AppTells step old new = Tells (app old.app step) old.board new.board
+abbrev pub AppStepIsLogged : AppStep → Part → Part → Type 0
+AppStepIsLogged step old new = StepIsLogged (app old.app step) old.board new.board
 
 -- each look whose count rose for the application is so of the board before
 abbrev pub SawSo : Part → Part → Type 0
@@ -49,7 +49,7 @@ EntryTells a Empty old new = new.log ≡ old.log
 
 -- only a note with a piece is told
 abbrev pub PollTells : Polled → Part → Part → Type 0
-PollTells (got_note note held) old new = AppTells (polls note) old new
+PollTells (got_note note held) old new = AppStepIsLogged (polls note) old new
 PollTells (got_linear note) old new = new.board.log ≡ old.board.log
 PollTells got_none old new = new.board.log ≡ old.board.log
 PollTells got_end old new = new.board.log ≡ old.board.log
@@ -57,4 +57,4 @@ PollTells got_end old new = new.board.log ≡ old.board.log
 -- an event for each buffer in which the application had a user count
 abbrev pub ScrubTells : Part → Part → Type 0
 ScrubTells old new =
-    new.board.log ≡ scrub_logged (sides_of old.board) (sides_of new.board) old.app old.board.log (total old.board.arrays.layout)
+    new.board.log ≡ scrub_logged (sides_of old.board) (sides_of new.board) old.app old.board.log (all_buffers old.board.arrays.layout)

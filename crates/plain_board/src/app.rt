@@ -1,6 +1,6 @@
 ghost use Rattle.std.specs.Prelude.{◌≡◌, ◌+◌, ◌<◌, ◌≤◌, false, true, length, IsTrue, IfErr, IfNone, IfSome, MatchBool, MatchOption, MatchResult};
 ghost use Rattle.board_face.specs.{declared.{views.app.AppLook.TheVariants.{RefillInUse, RawOnItsWay, NoSpare, NotQuiet}, answers.Polled.TheVariants.{Empty as got_none}}, NotNow.{HasWritten, HasWrittenRingful, HasPushedRaw, HasUsedReserve}, Tokens.{filled_by}, Texts.{front_place, rest_place}, AppEvents.{app_gist, cut, released, lent, loan_origin, has_read, abandoned, gave, pushed_raw, came_to_rest, filled, own_bytes, begin_place, lent_own, fell_quiet, scrubbed, left_board}, AppCalls.{IsHere, HasHeld, HasLoan, HasSpare, CanLend, NamesNoLoan, MaySpare, IsFilled, CanScrub, CanLeave, AppOnlySaw, Looked, GotSpare, ShowsCopy}, BoardSteps.{cuts, releases, lends, gives, abandons, spares, lends_own}};
-ghost use Rattle.plain_board.specs.{Board.{stand_of, sides_of, view_of, beside_of}, Recorded.{IsRecorded}, Sound.{IsSound}, Seen.{IsFoundLowest}, Told.{AppTells, PollTells, SawSo, ScrubTells}};
+ghost use Rattle.plain_board.specs.{Board.{stand_of, sides_of, view_of, beside_of}, Recorded.{IsRecorded}, Sound.{IsSound}, Seen.{IsFoundLowest}, Told.{AppStepIsLogged, PollTells, SawSo, ScrubTells}};
 
 use crate::logged::Logged;
 use crate::{Others, PlainBoard};
@@ -96,7 +96,7 @@ impl AppFace for PlainApp {
         ensures places { (result.0 ≡ front_place held at) × (result.1 ≡ rest_place held at) }
         ensures view { view_of self.new ≡ cut (view_of self.old) held at }
         ensures beside { beside_of self.new ≡ beside_of self.old }
-        ensures log { AppTells (cuts held at) self.old self.new }
+        ensures log { AppStepIsLogged (cuts held at) self.old self.new }
     {
         let place = held.place();
         let parts = self.board.contents.cut(self.app, held, at);
@@ -133,7 +133,7 @@ impl AppFace for PlainApp {
         ensures place { result ≡ held }
         ensures view { view_of self.new ≡ lent (view_of self.old) held }
         ensures beside { beside_of self.new ≡ beside_of self.old }
-        ensures log { AppTells (lends held) self.old self.new }
+        ensures log { AppStepIsLogged (lends held) self.old self.new }
     {
         let loan = self.board.contents.lend(self.app, held);
         let place = loan.place();
@@ -171,7 +171,7 @@ impl AppFace for PlainApp {
         ensures full { IfErr result (λ _. HasWrittenRingful (view_of self.old)) }
         ensures told { SawSo self.old self.new }
         ensures beside { beside_of self.new ≡ beside_of self.old }
-        ensures log { MatchResult result (λ _. AppTells (gives loan) self.old self.new)
+        ensures log { MatchResult result (λ _. AppStepIsLogged (gives loan) self.old self.new)
             (λ _. self.new.board.log ≡ self.old.board.log) }
     {
         let place = loan.place();
@@ -212,7 +212,7 @@ impl AppFace for PlainApp {
         requires out { HasHeld (view_of self.old) held }
         ensures view { view_of self.new ≡ released (view_of self.old) held }
         ensures beside { beside_of self.new ≡ beside_of self.old }
-        ensures log { AppTells (releases held) self.old self.new }
+        ensures log { AppStepIsLogged (releases held) self.old self.new }
     {
         let place = held.place();
         self.board.contents.release(self.app, held);
@@ -238,7 +238,7 @@ impl AppFace for PlainApp {
         ensures told { SawSo self.old self.new }
         ensures beside { beside_of self.new ≡ beside_of self.old }
         ensures log { MatchOption result (self.new.board.log ≡ self.old.board.log)
-            (λ own. AppTells (spares own.buffer) self.old self.new) }
+            (λ own. AppStepIsLogged (spares own.buffer) self.old self.new) }
     {
         let own = self.board.contents.spare(self.app)?;
         let buffer = own.buffer();
@@ -274,7 +274,7 @@ impl AppFace for PlainApp {
             (length (own_bytes (view_of self.old) own)) }
         ensures view { view_of self.new ≡ lent_own (view_of self.old) own }
         ensures beside { beside_of self.new ≡ beside_of self.old }
-        ensures log { AppTells (lends_own own) self.old self.new }
+        ensures log { AppStepIsLogged (lends_own own) self.old self.new }
     {
         let loan = self.board.contents.lend_own(self.app, own);
         let place = loan.place();
@@ -295,7 +295,7 @@ impl AppFace for PlainApp {
         requires out { HasLoan (view_of self.old) loan }
         ensures view { view_of self.new ≡ abandoned (view_of self.old) loan }
         ensures beside { beside_of self.new ≡ beside_of self.old }
-        ensures log { AppTells (abandons loan) self.old self.new }
+        ensures log { AppStepIsLogged (abandons loan) self.old self.new }
     {
         let place = loan.place();
         self.board.contents.abandon(self.app, loan);

@@ -1,7 +1,7 @@
 ghost use Rattle.std.specs.Prelude.{◌≡◌, ◌<◌, ◌≤◌, All, IfOk};
 ghost use Rattle.run_records.specs.Setting.{most_events};
 ghost use Rattle.area_layout.specs.Layout.{pool_buffers};
-ghost use Rattle.plain_board.specs.{Board.{new_board, stand_of, sides_of}, Finish.{IsOver, free_of, IsEachOnce, HasNoCounts, IsServed}, Recorded.{IsRecorded}, Sound.{IsSound}};
+ghost use Rattle.plain_board.specs.{Board.{new_board, stand_of, sides_of}, Finish.{IsBoardOver, free_buffers_of, IsEachOnce, HasNoCounts, IsServed}, Recorded.{IsRecorded}, Sound.{IsSound}};
 
 use crate::contents::Contents;
 use crate::logged::Logged;
@@ -103,8 +103,8 @@ impl PlainBoard {
 
     /// Ends a board that all have left, and answers its free buffers. It takes no memory.
     pub fn finish(self) -> Ended
-        requires { IsOver (stand_of self) }
-        ensures order { result.free.items ≡ free_of self.arrays }
+        requires { IsBoardOver (stand_of self) }
+        ensures order { result.free.items ≡ free_buffers_of self.arrays }
         ensures once { IsEachOnce (pool_buffers self.arrays.layout) result.free.items }
         ensures counts { HasNoCounts (stand_of self) }
         ensures served { All (IsServed self.nic) self.apps }

@@ -1,5 +1,5 @@
 ghost use Rattle.std.specs.Prelude.{◌≡◌, ◌<◌};
-ghost use Rattle.area_layout.specs.Layout.{total};
+ghost use Rattle.area_layout.specs.Layout.{all_buffers};
 ghost use Rattle.board_face.specs.Laws.{AllSides, Scrubs};
 ghost use Rattle.event_log.specs.ScrubLaw.{scrub_logged};
 
@@ -25,7 +25,7 @@ impl Logged {
         ensures room { self.new.log.room ≡ self.old.log.room }
         ensures log { (after : AllSides) → Scrubs app (sides_of self.old.contents) after
             → self.new.log ≡ scrub_logged (sides_of self.old.contents) after app self.old.log
-            (total self.old.contents.arrays.layout) }
+            (all_buffers self.old.contents.arrays.layout) }
     {
         for buffer in 0..self.contents.layout.total() {
             let user = self.contents.user_count(app, buffer);

@@ -1,5 +1,5 @@
 ghost use Rattle.std.specs.Prelude.{◌≡◌, ◌<◌};
-ghost use Rattle.area_layout.specs.Layout.{total, off_of};
+ghost use Rattle.area_layout.specs.Layout.{all_buffers, off_of};
 ghost use Rattle.board_face.specs.{AppCalls.{HasPlace}, AppEvents.{reserve_of}};
 ghost use Rattle.plain_board.specs.Stand.{side_of};
 
@@ -11,7 +11,7 @@ impl Contents {
     pub(crate) fn reserve(&self, app: u32) -> u32
         requires { app < self.now.arrays.layout.reserves }
         ensures value { result ≡ reserve_of (side_of self.now app).view }
-        ensures within { result < total (side_of self.now app).view.setting.layout }
+        ensures within { result < all_buffers (side_of self.now app).view.setting.layout }
     {
         self.layout.buffers() + app
     }

@@ -7,7 +7,7 @@ use Rattle.board_face.proofs.AppLemmas.{pool_count-app, user_count-app, app_coun
 use Rattle.board_face.proofs.{ArePlacedLemmas.{ArePlaced-abandoned}, FillingsFitLemmas.{FillingsFit-same}, IsFilledByOneLemmas.{IsFilledByOne-abandoned}}
 use Rattle.board_face.proofs.{MadeLastLemmas.{IsMadeLast-app}, OwnBufferLemmas.{AppLiesInOwn-abandoned}, PlacesByEvent.{app_places-abandoned}}
 use Rattle.board_face.{proofs.WrittenLemmas.{loans-fewer, returned-more, owed-more, IsClear-fewer}, specs.Holders.{owed_in, returned_in}}
-use Rattle.ref_words.specs.{Words.{Words, listed_in}, Rule.{RefRule}, PhaseRule.{PhaseRule}, PhaseSteps.{side_abandoned}}
+use Rattle.ref_words.specs.{Words.{Words, listed_bit}, Rule.{RefRule}, PhaseRule.{PhaseRule}, PhaseSteps.{side_abandoned}}
 use Rattle.ref_words.proofs.{Frees.{AreKept-app, free_places-hands}, Phases.{phases-mine, phases-here}, PhasesByApp.{loan-here}, RingSteps.{rings-app}}
 use Rattle.ref_words.proofs.{SideSteps.{mine, SidesRule-app, own-was}, SlotSteps.{no-word, RefRule-slot}, LineLemmas.{AreByLine-abandoned}}
 
@@ -72,8 +72,8 @@ module _ (setting : Setting) (words : Words) (nic : NicSide) (apps : List AppSid
         });
         pool = pools;
         users = users;
-        free = λ b. omega (arith, free_places-hands (listed_in words) b nic apps a app now here);
-        kept = AreKept-app (listed_in words) nic apps a app now here refl rule.kept;
+        free = λ b. omega (arith, free_places-hands (listed_bit words) b nic apps a app now here);
+        kept = AreKept-app (listed_bit words) nic apps a app now here refl rule.kept;
         rings = rings-app setting words nic apps a app now here refl refl refl refl refl refl refl rule.rings;
       })
 

@@ -2,9 +2,9 @@
 use Rattle.std.{proofs.Common.{List, [], set, refl, arith}, specs.Prelude.{◌/◌, ◌==◌, None}}
 use Rattle.board_face.specs.{AppEvents.{begin_place, reserve_of}, Counts.{EndedWereReturned}, NicEvents.{word_bits}, Sides.{IsApp}}
 use Rattle.board_face.specs.declared.views.{parts.Setting.{Setting}, nic.NicSide.{NicSide}, app.AppSide.{AppSide}}
-use Rattle.ref_words.specs.{Words.{Words, free_of, listed_in}, Rule.{RefRule, BoardRule}, TextRule.{TextRule}, PhaseRule.{PhaseRule}}
-use Rattle.ref_words.specs.{Lines.{lines_of}, AreaSteps.{at_hand, part_of, side_read}, Sides.{HasScrubLists}, Runs.{AppStep, AppMay, app_words, app_after}}
-use Rattle.ref_words.specs.RoleLaws.{FoundByApp, AppTakes, AppStands}
+use Rattle.ref_words.specs.{Words.{Words, free_word_of, listed_bit}, Rule.{RefRule, BoardRule}, TextRule.{TextRule}, PhaseRule.{PhaseRule}}
+use Rattle.ref_words.specs.{Lines.{lines_at}, AreaSteps.{making_in_hand, part_of, side_read}, Sides.{HasScrubLists}, Runs.{AppWordStep, AppMay, app_words, app_after}}
+use Rattle.ref_words.specs.RoleLaws.{FoundByApp, AppTakesLines, AppStepStands}
 use Rattle.ref_words.proofs.{AtHome.{home-spare, home-read}, PoolSteps.{RefRule-pool}, UserSteps.{RefRule-user}, SideSteps.{mine}, SlotSteps.{no-word}}
 use Rattle.ref_words.proofs.AreaCard.{differ-area}
 use Rattle.ref_words.proofs.Abandoning as abandoning
@@ -42,14 +42,14 @@ use Rattle.ref_words.specs.Runs
 module _ (setting : Setting) (words : Words) (nic : NicSide) (apps : List AppSide) (app : AppSide) (rule : BoardRule setting words nic apps)
     (here : IsApp apps app.view.app app) where
   -- the lines that a step takes, what it finds and the parts of the rule behind it, together
-  stands : {step : AppStep} → AppTakes setting nic apps step → FoundByApp setting words app step
+  stands : {step : AppWordStep} → AppTakesLines setting nic apps step → FoundByApp setting words app step
       → TextRule setting (app_words setting words app step) nic (set apps app.view.app (app_after setting words app step))
       → RefRule setting (app_words setting words app step) nic (set apps app.view.app (app_after setting words app step))
       → PhaseRule setting (app_words setting words app step) nic (set apps app.view.app (app_after setting words app step))
-      → AppStands setting words nic apps app step
+      → AppStepStands setting words nic apps app step
   stands lines finds texts refs phases = record { finds = finds; lines = lines; rule = record { texts = texts; refs = refs; phases = phases } }
 
-  pub app-step : (step : AppStep) → AppMay setting words app step → AppStands setting words nic apps app step
+  pub app-step : (step : AppWordStep) → AppMay setting words app step → AppStepStands setting words nic apps app step
   app-step (Runs.takes_picked b) may =
       let is = spare.picked setting words nic apps app.view.app app b rule.refs here may.1 may.0 in
       stands tt (
@@ -166,15 +166,15 @@ module _ (setting : Setting) (words : Words) (nic : NicSide) (apps : List AppSid
       (slot_texts.texts-took_linear setting words.area nic apps app.view.app app here rule.texts _ _ next refs.sides) refs
       (by_slots.took_linear-phases setting words nic apps rule.refs rule.phases app.view.app app here _ next _)
   app-step (Runs.looks_word j) may =
-      let empty = free_of words j == 0 in
+      let empty = free_word_of words j == 0 in
       let refs = look.looks setting words nic apps app.view.app app j rule.refs here empty in
       stands tt tt (free_texts.texts-word_looked setting words.area nic apps app.view.app app here rule.texts j empty refs.sides) refs
       (by_free.word_looked-phases setting words nic apps rule.phases app.view.app app here j empty)
   app-step (Runs.clears_bit b) may =
-      let refs = picking.clears setting words nic apps app.view.app app b rule.refs here may.0 may.1 may.2 (listed_in words b) refl in
+      let refs = picking.clears setting words nic apps app.view.app app b rule.refs here may.0 may.1 may.2 (listed_bit words b) refl in
       stands tt (λ listed. picking.small setting words nic apps app.view.app app b rule.refs here may.1 may.2 listed)
-      (free_texts.texts-bit_cleared setting words.area nic apps app.view.app app here rule.texts (b / word_bits) b (listed_in words b) refs.sides)
-      refs (by_free.bit_cleared-phases setting words nic apps rule.phases app.view.app app here (b / word_bits) b (listed_in words b))
+      (free_texts.texts-bit_cleared setting words.area nic apps app.view.app app here rule.texts (b / word_bits) b (listed_bit words b) refs.sides)
+      refs (by_free.bit_cleared-phases setting words nic apps rule.phases app.view.app app here (b / word_bits) b (listed_bit words b))
   app-step (Runs.relists b) has =
       let refs = listing.by-app setting words nic apps b rule.refs app.view.app app here has in
       stands tt (listing.unlisted-app setting words nic apps b rule.refs app.view.app app here has)
@@ -204,7 +204,7 @@ module _ (setting : Setting) (words : Words) (nic : NicSide) (apps : List AppSid
       rule.refs.sides here (EndedWereReturned b nic) (rule.refs.sides.returned b)) may.1 refs.sides)
       refs (abandoning.abandoned-phases setting words nic apps app place rule.refs here may.0 rule.phases)
   app-step (Runs.takes_lines own len) may =
-      let making = at_hand (begin_place own.buffer len) [] in
+      let making = making_in_hand (begin_place own.buffer len) [] in
       let refs = area.has-at-hand setting words words nic apps app.view.app app rule.refs here (no-word setting words rule.refs.sizes) refl refl
       app.view.reads making in
       stands (home-spare setting words nic apps rule.refs rule.texts app.view.app app here own len may.0 may.1 may.2 may.3 may.4) tt
@@ -218,7 +218,7 @@ module _ (setting : Setting) (words : Words) (nic : NicSide) (apps : List AppSid
       refs (by_area.spare_filled-phases setting words nic apps rule.refs rule.phases app.view.app app here own bytes may.0)
   app-step (Runs.reads_text place from n) may =
       let part = part_of place from n in
-      let now = side_read app place from n (lines_of setting.layout words.area part) in
+      let now = side_read app place from n (lines_at setting.layout words.area part) in
       let refs = area.has-at-hand setting words words nic apps app.view.app app rule.refs here (no-word setting words rule.refs.sizes) refl refl
       now.view.reads now.inside.making in
       stands (home-read setting words nic apps rule.refs rule.texts app.view.app app here place from n may.0 may.1 may.2 may.3)

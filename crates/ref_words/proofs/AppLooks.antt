@@ -4,7 +4,7 @@ use Rattle.board_face.specs.{Sides.{IsApp}, AppEvents.{reserve_of}, Returns.{IsO
 use Rattle.board_face.{specs.declared.views.{parts.Setting.{Setting}, nic.NicSide.{NicSide}, app.AppSide.{AppSide}}, proofs.AppLemmas.{pool_count-app, user_count-app}}
 use Rattle.board_face.proofs.{ArePlacedLemmas.{ArePlaced-app}, MadeLastLemmas.{IsMadeLast-app}, IsFilledByOneLemmas.{IsFilledByOne-app}}
 use Rattle.board_face.proofs.FillingsFitLemmas.{FillingsFit-same}
-use Rattle.ref_words.{specs.{Words.{Words, listed_in}, Rule.{RefRule}}, proofs.{RingSteps.{AllRings}, SlotSteps.{DifferInSlots, RefRule-slot}}}
+use Rattle.ref_words.{specs.{Words.{Words, listed_bit}, Rule.{RefRule}}, proofs.{RingSteps.{AllRings}, SlotSteps.{DifferInSlots, RefRule-slot}}}
 use Rattle.ref_words.proofs.{Frees.{AreKept-app, free_places-hands}, SideSteps.{own-was, SidesRule-app, mine}, LineLemmas.{AreByLine-app}}
 
 -- the application's side with no other change
@@ -63,8 +63,8 @@ module _ (setting : Setting) (words : Words) (nic : NicSide) (apps : List AppSid
         });
         pool = pools;
         users = λ x b. omega (arith, user_count-app x b nic apps a app like here);
-        free = λ b. omega (arith, free_places-hands (listed_in words) b nic apps a app like here);
-        kept = AreKept-app (listed_in words) nic apps a app like here refl rule.kept;
+        free = λ b. omega (arith, free_places-hands (listed_bit words) b nic apps a app like here);
+        kept = AreKept-app (listed_bit words) nic apps a app like here refl rule.kept;
         rings = rings;
       }))
 

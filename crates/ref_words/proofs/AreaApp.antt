@@ -9,7 +9,7 @@ use Rattle.board_face.proofs.{AppLemmas.{pool_count-app, user_count-app, app_cou
 use Rattle.board_face.proofs.{FillingsFitLemmas.{FillingsFit-same, FillingsFit-filled}, IsFilledByOneLemmas.{IsFilledByOne-app, IsFilledByOne-filled}}
 use Rattle.board_face.proofs.MadeLastLemmas.{IsMadeLast-app, IsMadeLast-filled}
 use Rattle.area_layout.specs.Layout.{IsLayout}
-use Rattle.ref_words.{specs.{AreaSteps.{side_spare_filled}, Rule.{RefRule}, Words.{Words, listed_in}}, proofs.Frees.{AreKept-app, free_places-hands}}
+use Rattle.ref_words.{specs.{AreaSteps.{side_spare_filled}, Rule.{RefRule}, Words.{Words, listed_bit}}, proofs.Frees.{AreKept-app, free_places-hands}}
 use Rattle.ref_words.proofs.{RingSteps.{rings-app, rings-words}, SideSteps.{own-was, SidesRule-app, mine}, SlotSteps.{DifferInSlots, RefRule-slot, no-word}}
 use Rattle.ref_words.{specs.Sides.{AreByLine}, proofs.LineLemmas.{AreByLine-app, AreByLine-filled}}
 
@@ -63,8 +63,8 @@ module _ (setting : Setting) (words words' : Words) (nic : NicSide) (apps : List
           });
           pool = pools;
           users = λ x b. omega (arith, user_count-app x b nic apps a app like here);
-          free = λ b. omega (arith, free_places-hands (listed_in words) b nic apps a app like here);
-          kept = AreKept-app (listed_in words) nic apps a app like here refl rule.kept;
+          free = λ b. omega (arith, free_places-hands (listed_bit words) b nic apps a app like here);
+          kept = AreKept-app (listed_bit words) nic apps a app like here refl rule.kept;
           rings = rings-words setting words words' nic apps' refills notes
               (rings-app setting words nic apps a app like here refl refl refl refl refl refl refl rule.rings);
         }))

@@ -6,12 +6,12 @@ use Rattle.board_face.specs.declared.views.{nic.NicSide.{NicSide}, app.AppSide.{
 use Rattle.board_face.proofs.{ArePlacedLemmas.{ArePlaced-text_done}, FillingsFitLemmas.{FillingsFit-making}, IsFilledByOneLemmas.{IsFilledByOne-text_done}}
 use Rattle.board_face.proofs.{MadeLastLemmas.{IsMadeLast-idle}, NicLemmas.{pool_count-text_done}, Parts.{user_count-parts, user_part}}
 use Rattle.board_face.proofs.Tallies as tallies
-use Rattle.ref_words.specs.{Words.{Words, HasSizes, listed_in, with_lines}, Lines.{AreWide}, Rule.{RefRule}}
+use Rattle.ref_words.specs.{Words.{Words, WordsHaveSizes, listed_bit, with_lines}, Lines.{AreWide}, Rule.{RefRule}}
 use Rattle.ref_words.proofs.{CardSteps.{SidesRule-card}, Frees.{AreKept-card}, LaidLines.{length-laid, wide-laid}, LineLemmas.{AreByLine-text_done}}
 use Rattle.ref_words.proofs.{RingSteps.{rings-card, rings-words}, SlotSteps.{DifferInSlots, RefRule-slot}}
 
 -- the words with other lines of the area
-pub differ-area : (setting : Setting) (words : Words) (x : ℕ) (lines : List (List ℕ)) → HasSizes setting words
+pub differ-area : (setting : Setting) (words : Words) (x : ℕ) (lines : List (List ℕ)) → WordsHaveSizes setting words
     → AreWide lines → DifferInSlots setting words (with_lines words x lines)
 differ-area setting words x lines s wide =
     assumption (length-laid words.area x lines ∙ s.area, wide-laid words.area x lines s.lines wide, s)
@@ -39,6 +39,6 @@ module _ (setting : Setting) (words : Words) (nic : NicSide) (apps : List AppSid
             let users : tallies.total (user_part a b now) apps ≡ tallies.total (user_part a b nic) apps = refl in
             omega (arith, user_count-parts a b now apps, user_count-parts a b nic apps);
         free = λ b. refl;
-        kept = AreKept-card (listed_in words) nic now apps refl refl refl (λ b. omega arith) rule.kept;
+        kept = AreKept-card (listed_bit words) nic now apps refl refl refl (λ b. omega arith) rule.kept;
         rings = rings-words setting words words' now apps refl refl (rings-card setting words nic now apps refl refl refl refl rule.rings);
       })

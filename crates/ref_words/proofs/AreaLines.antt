@@ -1,6 +1,6 @@
 -- Lines lie in one buffer each: those of two buffers are apart, and all lie in the area.
 use Rattle.std.proofs.{Common.{◌≡◌, ℕ, zero, suc, ◌/◌, ◌%◌, ◌^◌, ◌<◌, ◌≤◌, refl, ap, arith, inl, inr}, Math.Nat.{pow-suc}, lemmas.Bool.{cases_lt}}
-use Rattle.area_layout.{specs.Layout.{Shape, IsLayout, total, size_of, begin_of}, proofs.Words.{size-fits, begins-apart}}
+use Rattle.area_layout.{specs.Layout.{Shape, IsLayout, all_buffers, size_of, begin_of}, proofs.Words.{size-fits, begins-apart}}
 use Rattle.ref_words.specs.Lines.{first_line, line_at, area_lines}
 
 -- a power of two from 64 on is a multiple of 64
@@ -35,11 +35,16 @@ begin-lines shape (suc b) l = omega (arith, begin-lines shape b l, size-lines sh
 lines-before : (shape : Shape) → IsLayout shape → (b c o p : ℕ) → b < c → o < size_of shape b → line_at shape b o < line_at shape c p
 lines-before shape l b c o p less within = omega (arith, begins-apart shape b c less, begin-lines shape b l, begin-lines shape c l)
 
-pub line-within : (shape : Shape) → IsLayout shape → (b o : ℕ) → b < total shape → o < size_of shape b → line_at shape b o < area_lines shape
-line-within shape l b o there within = omega (arith, begins-apart shape b (total shape) there, begin-lines shape b l, begin-lines shape (total shape) l)
+pub line-within : (shape : Shape) → IsLayout shape → (b o : ℕ) → b < all_buffers shape → o < size_of shape b → line_at shape b o < area_lines shape
+line-within shape l b o there within = omega (
+  arith,
+  begins-apart shape b (all_buffers shape) there,
+  begin-lines shape b l,
+  begin-lines shape (all_buffers shape) l,
+)
 
 -- So a line is one buffer's, and has one number there.
-pub lines_apart : (shape : Shape) → IsLayout shape → (b c o p : ℕ) → b < total shape → c < total shape → o < size_of shape b → p < size_of shape c
+pub lines_apart : (shape : Shape) → IsLayout shape → (b c o p : ℕ) → b < all_buffers shape → c < all_buffers shape → o < size_of shape b → p < size_of shape c
     → line_at shape b o ≡ line_at shape c p → (b ≡ c) × (o / 64 ≡ p / 64)
 lines_apart shape l b c o p b_there c_there o_within p_within same =
     elim (cases_lt b c) [

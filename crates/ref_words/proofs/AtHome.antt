@@ -3,16 +3,16 @@ use Rattle.std.specs.Prelude.{◌≢◌, ◌==◌, Option, Some, None, IfSome}
 use Rattle.std.proofs.Common.{◌≡◌, ⊎_elim, ℕ, ◌+◌, ◌-◌, ◌*◌, ◌<◌, ◌≤◌, Bool, true, false, List, get_or, set, refl, ap, sym, ◌∙◌, subst, arith}
 use Rattle.std.proofs.lemmas.{Bool.{and_from, and_parts, cases_Bool, cases_lt, eq-eqb, leb-true, lt-ltb, ltb-true}, List.Elements.{All-contains}, Option.{none-some}}
 use Rattle.zr_kinds.specs.declared.place.Place.{Place}
-use Rattle.area_layout.specs.Layout.{Shape, IsLayout, LiesIn, total as all_buffers, pool_buffers}
+use Rattle.area_layout.specs.Layout.{Shape, IsLayout, LiesIn, all_buffers, pool_buffers}
 use Rattle.board_face.specs.{AppCalls.{HasLoan, HasSpare}, AppEvents.{begin_place}, Holders.{making_places}, NicCalls.{HasOwn}}
 use Rattle.board_face.specs.{Places.{places_of, ends_behind}, Sides.{IsApp}, Tokens.{next_place}, declared.views.{nic.NicSide.{NicSide}, app.AppSide.{AppSide}}}
 use Rattle.board_face.specs.declared.views.parts.{Filling.{Filling}, Making.{Making}, Setting.{Setting}}
 use Rattle.board_face.proofs.{AppLemmas.{owns-without as spares-without}, NicLemmas.{owns-without}, Parts.{spares_in}, SideLemmas.{IsApp-at}}
 use Rattle.board_face.proofs.{ArePlacedLemmas.{IsBehind, less_spare, places-none, spare-free}, FillingsFitLemmas.{FillingsFit-own, FillingsFit-spare, few-within}}
-use Rattle.board_face.proofs.{IsFilledByOneLemmas.{fillings-held, fillings-one}, LiesLemmas.{loan-lies, loans-at, total-at}, Tallies.{count-tally, tally, weight}}
+use Rattle.board_face.proofs.{IsFilledByOneLemmas.{fillings-held, fillings-one}, LiesLemmas.{loan-lies, loans-at, total-at}, Tallies.{count-tally, tally, one_if}}
 use Rattle.board_face.proofs.PlaceTallies.{app_places, in_buffer, piece_places, places-parts}
 use Rattle.ref_words.specs.{AreaSteps.{part_of}, Homes.{AreHome}, Lines.{first_line, has_line, has_out, line_count, begin_line, touches}, Rule.{RefRule}}
-use Rattle.ref_words.specs.{TextRule.{AreTexts, IsInMaking, IsOfLoan, IsOfSpare}, Words.{Words}}
+use Rattle.ref_words.specs.{TextRule.{AreTexts, IsInMaking, IsReadFromLoan, IsOfSpare}, Words.{Words}}
 use Rattle.ref_words.proofs.{AreaLines.{lines_apart}, LineLemmas.{app_places-all, app_places-two, line-own, other-app, same-app, total-two}}
 
 -- ---- two places with a line in common
@@ -95,7 +95,7 @@ module _ (setting : Setting) (words : Words) (nic : NicSide) (apps : List AppSid
           λ m.
               ⊎_elim
               (λ (s : IsOfSpare app making). (others a app here making busy).0 s.own s.out (m.buffer ∙ ap (λ (q : Place). q.buffer) s.place))
-              (λ (o : IsOfLoan layout words.area app making). (others a app here making busy).1 o.loan o.out (record {
+              (λ (o : IsReadFromLoan layout words.area app making). (others a app here making busy).1 o.loan o.out (record {
                 buffer = m.buffer ∙ o.buffer;
                 x = m.x;
                 one = m.one;
@@ -117,8 +117,8 @@ module _ (setting : Setting) (words : Words) (nic : NicSide) (apps : List AppSid
       let same : other.inside.making ≡ app.inside.making = ap (λ (y : AppSide). y.inside.making) (same-app apps c a other app e there here) in
       none-some making (sym idle ∙ (sym same ∙ busy))
 
-  in-test : (b : ℕ) (test : Place → Bool) (p : Place) → p.buffer ≡ b → test p ≡ true → weight (in_buffer b test p) ≡ 1
-  in-test b test p e is = ap weight (and_from (p.buffer == b) (test p) (eq-eqb p.buffer b e) is)
+  in-test : (b : ℕ) (test : Place → Bool) (p : Place) → p.buffer ≡ b → test p ≡ true → one_if (in_buffer b test p) ≡ 1
+  in-test b test p e is = ap one_if (and_from (p.buffer == b) (test p) (eq-eqb p.buffer b e) is)
 
   -- a loan is one of its buffer's places, and so is the piece in the making
   loan-place : (b : ℕ) (test : Place → Bool) (app : AppSide) (loan : Place) → HasLoan app.view loan → loan.buffer ≡ b → test loan ≡ true
@@ -128,11 +128,11 @@ module _ (setting : Setting) (words : Words) (nic : NicSide) (apps : List AppSid
   made-place : (b : ℕ) (test : Place → Bool) (making : Making) → nic.inside.making ≡ Some making → making.place.buffer ≡ b → test making.place ≡ true
       → 0 < piece_places b test nic
   made-place b test making busy e is =
-      let one : tally (in_buffer b test) (making_places nic.inside.making) ≡ weight (in_buffer b test making.place) + 0 = rw busy refl in
+      let one : tally (in_buffer b test) (making_places nic.inside.making) ≡ one_if (in_buffer b test making.place) + 0 = rw busy refl in
       omega (arith, one, in-test b test making.place e is)
 
   spare-in : (b : ℕ) (app : AppSide) (own : Filling) → HasSpare app.view own → own.buffer ≡ b → 0 < spares_in b app
-  spare-in b app own out e = omega (arith, spares-without b app.view own out, ap weight (eq-eqb own.buffer b e))
+  spare-in b app own out e = omega (arith, spares-without b app.view own out, ap one_if (eq-eqb own.buffer b e))
 
   -- a buffer is filled by one
   one-fills : (b a c : ℕ) (app other : AppSide) (own its : Filling) → c ≢ a → IsApp apps a app → IsApp apps c other → HasSpare app.view own
@@ -185,7 +185,7 @@ module _ (setting : Setting) (words : Words) (nic : NicSide) (apps : List AppSid
           arith,
           fillings-one b nic apps (rule.sides.by_one b),
           owns-without b nic own out,
-          ap weight (eq-eqb b b refl),
+          ap one_if (eq-eqb b b refl),
           total-at (spares_in b) apps a app here.there here.is,
           spare-in b app its its_out (sym e),
         )),

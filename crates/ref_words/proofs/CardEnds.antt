@@ -7,7 +7,7 @@ use Rattle.board_face.specs.{Judged.{IsHonouredAsNamed}, Returns.{AreReturns}, S
 use Rattle.board_face.{specs.declared.views.{nic.NicSide.{NicSide}, app.AppSide.{AppSide}}, proofs.Tallies.{total-agree}}
 use Rattle.board_face.proofs.Parts.{user_part, user_count-parts, pool_count-parts, app_count, owed_count, returning_in_count, loans_in, came_back_in}
 use Rattle.board_face.proofs.{ArePlacedLemmas.{ArePlaced-stretch}, MadeLastLemmas.{IsMadeLast-stretch}, IsFilledByOneLemmas.{IsFilledByOne-fewer}}
-use Rattle.ref_words.specs.{Words.{Words, listed_in}, Sides.{SidesRule, IsInHand, IsDealtInOrder}, Rule.{RefRule}}
+use Rattle.ref_words.specs.{Words.{Words, listed_bit}, Sides.{SidesRule, IsInHand, IsDealtInOrder}, Rule.{RefRule}}
 use Rattle.ref_words.proofs.{CardSteps.{IsScrubbedSoFar-owed, HasNoneOwed-owed}, RingSteps.{AllRings}, SlotSteps.{DifferInSlots, RefRule-slot}, Frees.{AreKept-card}}
 use Rattle.ref_words.proofs.LineLemmas.{AreByLine-stretch}
 
@@ -92,6 +92,6 @@ module _ (setting : Setting) (words : Words) (nic : NicSide) (apps : List AppSid
         pool = pools;
         users = users;
         free = λ c. refl;
-        kept = AreKept-card (listed_in words) nic like apps refl refl refl (λ c. omega arith) rule.kept;
+        kept = AreKept-card (listed_bit words) nic like apps refl refl refl (λ c. omega arith) rule.kept;
         rings = rings;
       }))

@@ -1,8 +1,8 @@
 -- The law of a step of the card: of each step the lines that it takes, what it finds, and each part of the rule behind it.
 use Rattle.std.proofs.Common.{List, length, [], refl}
 use Rattle.board_face.specs.{Tokens.{next_place}, declared.views.{parts.{Setting.{Setting}, Making.{Making}}, nic.NicSide.{NicSide}, app.AppSide.{AppSide}}}
-use Rattle.ref_words.specs.{Words.{Words, free_of}, Rule.{RefRule, BoardRule}, TextRule.{TextRule}, PhaseRule.{PhaseRule}}
-use Rattle.ref_words.specs.{FreeSteps.{IsSwept}, Runs.{CardStep, CardMay, card_words, card_after}, RoleLaws.{FoundByCard, CardTakes, CardStands}}
+use Rattle.ref_words.specs.{Words.{Words, free_word_of}, Rule.{RefRule, BoardRule}, TextRule.{TextRule}, PhaseRule.{PhaseRule}}
+use Rattle.ref_words.specs.{FreeSteps.{IsSwept}, Runs.{CardWordStep, CardMay, card_words, card_after}, RoleLaws.{FoundByCard, CardTakesLines, CardStepStands}}
 use Rattle.ref_words.proofs.{AtHome.{home-begun}, PoolSteps.{RefRule-pool}, UserSteps.{RefRule-user}, Judging.{RefRule-looked}}
 use Rattle.ref_words.proofs.AreaCard as area
 use Rattle.ref_words.proofs.Beginning as beginning
@@ -28,13 +28,13 @@ use Rattle.ref_words.specs.Runs
 
 module _ (setting : Setting) (words : Words) (nic : NicSide) (apps : List AppSide) (rule : BoardRule setting words nic apps) where
   -- the lines that a step takes, what it finds and the parts of the rule behind it, together
-  stands : {step : CardStep} → CardTakes setting nic apps step → FoundByCard setting words nic step
+  stands : {step : CardWordStep} → CardTakesLines setting nic apps step → FoundByCard setting words nic step
       → TextRule setting (card_words setting words nic step) (card_after setting words nic step) apps
       → RefRule setting (card_words setting words nic step) (card_after setting words nic step) apps
-      → PhaseRule setting (card_words setting words nic step) (card_after setting words nic step) apps → CardStands setting words nic apps step
+      → PhaseRule setting (card_words setting words nic step) (card_after setting words nic step) apps → CardStepStands setting words nic apps step
   stands lines finds texts refs phases = record { finds = finds; lines = lines; rule = record { texts = texts; refs = refs; phases = phases } }
 
-  pub card-step : (step : CardStep) → CardMay setting words nic step → CardStands setting words nic apps step
+  pub card-step : (step : CardWordStep) → CardMay setting words nic step → CardStepStands setting words nic apps step
   card-step (Runs.takes b) may =
       let is = taking.step setting words nic apps b rule.refs may.0 in
       stands tt (taking.apart setting words nic apps b rule.refs may.0, taking.none setting words nic apps b rule.refs may.0)
@@ -110,13 +110,13 @@ module _ (setting : Setting) (words : Words) (nic : NicSide) (apps : List AppSid
       (phased.dealt-phases setting words nic apps rule.refs rule.phases a entry _)
   card-step (Runs.sweeps j) may =
       let refs = sweeping.sweeps setting words nic apps j rule.refs may.0 in
-      let swept : IsSwept nic j (free_of words j) = record {
+      let swept : IsSwept nic j (free_word_of words j) = record {
         event = sweeping.event setting words nic apps j rule.refs may.0;
         room = sweeping.room setting words nic apps j rule.refs may.0 may.1;
         bound = sweeping.bound setting words nic apps j rule.refs may.0;
       } in
-      stands tt swept (free_texts.texts-swept setting words.area nic apps rule.texts j (free_of words j) refs.sides) refs
-      (by_free.swept-phases setting words nic apps rule.phases j (free_of words j))
+      stands tt swept (free_texts.texts-swept setting words.area nic apps rule.texts j (free_word_of words j) refs.sides) refs
+      (by_free.swept-phases setting words nic apps rule.phases j (free_word_of words j))
   card-step (Runs.lists b) has =
       let refs = listing.by-card setting words nic apps b rule.refs has in
       stands tt (listing.unlisted setting words nic apps b rule.refs has)

@@ -6,7 +6,7 @@ use Rattle.board_face.specs.{NicCalls.{apps_of}, Holders.{lowered_in_hand, retur
 use Rattle.board_face.specs.SlotSteps.{seen_with, one_more, next_slot, side_entry_looked, side_entry_loaded, side_note_looked, side_note_stored, side_in_hand}
 use Rattle.board_face.specs.{Opened.{new_app}, Returns.{entries_on_way}, declared.views.{nic.Judged.TheVariants.{Not}, app.WrittenEntry.{WrittenEntry}}}
 use Rattle.board_face.{specs.declared.views.{parts.{Setting.{Setting}, Slot.{Slot}}, nic.NicSide.{NicSide}, app.AppSide.{AppSide}}, proofs.SideLemmas.{IsApp-at}}
-use Rattle.word_rings.specs.Slots.{note_width, refill_width, entry_of, entry_body, pair, low_of, high_of}
+use Rattle.word_rings.specs.Slots.{note_width, refill_width, entry_of_words, entry_body, pair, low_of, high_of}
 use Rattle.ref_words.specs.{Words.{Words, slot_word, with_note}, Sides.{IsInHand, IsFirst}}
 use Rattle.ref_words.specs.Rings.{IsRing, AreLeft, EntryFits, words_of_entry, words_of_note, takes_entry_at, writes_note_at}
 use Rattle.ref_words.{specs.{Rings.{refill_words_at, note_words_at}, Rule.{RefRule}}, proofs.{InHand.{some-is, if-none}, RingSteps.{AllRings, rings-card}}}
@@ -16,7 +16,7 @@ use Rattle.ref_words.proofs.Ringing as ringing
 use Rattle.ref_words.proofs.LeftWords as left-words
 
 -- the entry of a slot is the one whose words it has
-entry-back : (e : Rqe) → e.len < 2 ^ 32 → e.pad < 2 ^ 32 → entry_of (1 ∷ entry_body e) ≡ e
+entry-back : (e : Rqe) → e.len < 2 ^ 32 → e.pad < 2 ^ 32 → entry_of_words (1 ∷ entry_body e) ≡ e
 entry-back e len pad =
     let low : low_of (pair e.len e.pad) ≡ e.len = omega arith in
     let high : high_of (pair e.len e.pad) ≡ e.pad = omega arith in
@@ -157,10 +157,10 @@ module _ (setting : Setting) (words : Words) (nic : NicSide) (apps : List AppSid
 
   pub take-in-hand : (n : ℕ) → (next_slot nic.inside.refill_slots a).seen ≡ true → refill_words_at nic a + 1 ≡ refill_width
       → nic.inside.entry ≡ None → n ≡ slot_word words.refills a (takes_entry_at setting nic a) (refill_words_at nic a)
-      → RefRule setting words (side_in_hand nic a n (entry_of (1 ∷ (next_slot nic.inside.refill_slots a).words ++ n ∷ []))) apps
+      → RefRule setting words (side_in_hand nic a n (entry_of_words (1 ∷ (next_slot nic.inside.refill_slots a).words ++ n ∷ []))) apps
   take-in-hand n saw all idle found =
       let slot = next_slot nic.inside.refill_slots a in
-      let entry = entry_of (1 ∷ slot.words ++ n ∷ []) in
+      let entry = entry_of_words (1 ∷ slot.words ++ n ∷ []) in
       let now = side_in_hand nic a n entry in
       let ring : (x : AppSide) → IsApp apps a x
       → IsRing refill_width words_of_entry setting.places (get_or words.refills a []) x.view.written (length (dealt_entries a nic))
@@ -181,11 +181,11 @@ module _ (setting : Setting) (words : Words) (nic : NicSide) (apps : List AppSid
       first-is : (x : AppSide) → IsApp apps a x
           → IsRing refill_width words_of_entry setting.places (get_or words.refills a []) x.view.written (length (dealt_entries a nic))
           x.inside.refill_slot (one_more (next_slot nic.inside.refill_slots a) n)
-          → IsFirst (entry_of (1 ∷ (next_slot nic.inside.refill_slots a).words ++ n ∷ [])) (entries_on_way nic x)
+          → IsFirst (entry_of_words (1 ∷ (next_slot nic.inside.refill_slots a).words ++ n ∷ [])) (entries_on_way nic x)
       first-is x here ring =
           let slot = next_slot nic.inside.refill_slots a in
           let k = length (dealt_entries a nic) in
-          let d : WrittenEntry = record { entry = entry_of (1 ∷ slot.words ++ n ∷ []); of_loan = true } in
+          let d : WrittenEntry = record { entry = entry_of_words (1 ∷ slot.words ++ n ∷ []); of_loan = true } in
           let w : WrittenEntry = get_or x.view.written k d in
           let less : k < length x.view.written = ring.reader_seen refl in
           let fits : All EntryFits x.view.written = subst (λ (y : AppSide). All EntryFits y.view.written) here.is (rule.sides.entries a x here.there) in
@@ -196,5 +196,5 @@ module _ (setting : Setting) (words : Words) (nic : NicSide) (apps : List AppSid
             first = w;
             others = drop (suc k) x.view.written;
             is = rw here.number (drop-cons x.view.written k d less);
-            same = sym (ap (λ ws. entry_of (1 ∷ ws)) words_are ∙ entry-back w.entry fit.len fit.pad);
+            same = sym (ap (λ ws. entry_of_words (1 ∷ ws)) words_are ∙ entry-back w.entry fit.len fit.pad);
           }

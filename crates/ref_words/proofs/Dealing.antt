@@ -9,7 +9,7 @@ use Rattle.board_face.specs.{Judged.{IsHonouredAsNamed}, Relay.{dealt_entries, I
 use Rattle.board_face.specs.{Returns.{AreReturns, IsNamed, IsOfLoan, returns, abandoned_in, entries_on_way}, Opened.{unseen, new_app}, Sides.{IsApp}}
 use Rattle.board_face.specs.{SlotSteps.{next_slot, side_dealt}, declared.views.{parts.Setting.{Setting}, nic.{Dealt.{Dealt}, Fate.{Fate}, NicSide.{NicSide}}}}
 use Rattle.board_face.{specs.declared.views.app.{WrittenEntry.{WrittenEntry}, AppSide.{AppSide}}, proofs.{ListLemmas.{not-eqb}, SideLemmas.{IsApp-at}}}
-use Rattle.board_face.proofs.{DealtLemmas.{length-mapped, dealt-more, dealt-same, zip-push}, Parts.{count-tally}, Tallies.{weight, tally-push}}
+use Rattle.board_face.proofs.{DealtLemmas.{length-mapped, dealt-more, dealt-same, zip-push}, Parts.{count-tally}, Tallies.{one_if, tally-push}}
 use Rattle.ref_words.specs.{Words.{Words, with_refill}, Rings.{IsFreeSlot, takes_entry_at}, Sides.{IsFirst, IsDealtInOrder}, Rule.{RefRule}}
 use Rattle.ref_words.proofs.{RingSteps.{AllRings}, RingMoves.{slot-here, slot-other, rings-parts}, SlotWords.{ring-here, ring-other, differ-refill}}
 use Rattle.ref_words.proofs.{SlotSteps.{DifferInSlots}, CardEnds.{RefRule-ended}}
@@ -25,7 +25,7 @@ take-next f (suc n) (y ∷ xs) x rest e = ap (λ ys. f y ∷ ys) (take-next f n 
 -- honoured for c; and what its application still owes.
 pub record IsDealing (nic : NicSide) (apps : List AppSide) (layout : Shape) (a : ℕ) (entry : Rqe) (fate : Fate) (w : ℕ → ℕ) : Type 0 where
   pub lowered : (x c : ℕ) → lowered_in_hand x c nic.inside.entry ≡ (if a == x then w c else 0)
-  pub counted : (x c : ℕ) → weight (is_honoured_for x c (record { app = a; entry = entry; fate = fate })) ≡ (if a == x then w c else 0)
+  pub counted : (x c : ℕ) → one_if (is_honoured_for x c (record { app = a; entry = entry; fate = fate })) ≡ (if a == x then w c else 0)
   pub returning : (x c : ℕ) → returning_in_hand x c nic.inside.entry ≡ 0
   pub first : (app : AppSide) → IsApp apps a app → IsFirst entry (entries_on_way nic app)
   pub honoured : IsHonouredAsNamed layout (record { app = a; entry = entry; fate = fate })

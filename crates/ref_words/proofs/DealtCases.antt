@@ -7,11 +7,11 @@ use Rattle.board_face.specs.{NicCalls.{apps_of}, Holders.{lowered_in_hand, retur
 use Rattle.board_face.specs.{Returns.{IsNamed, returns, names, is_some_of, abandoned_in, entries_on_way}, Sides.{IsApp}, SlotSteps.{next_slot, side_dealt}}
 use Rattle.board_face.specs.declared.views.{parts.Setting.{Setting}, nic.{Fate.TheVariants.{Honoured, Stray}, Judged.{Judged}}}
 use Rattle.board_face.specs.declared.views.{nic.{Judged.TheVariants.{Not, Stray as judged_stray, BothLowered}, NicSide.{NicSide}}, app.AppSide.{AppSide}}
-use Rattle.board_face.proofs.{Tallies.{weight, weight-le}, Counting.{count-first, weight-and}}
+use Rattle.board_face.proofs.{Tallies.{one_if, one_if-le}, Counting.{count-first, weight-and}}
 use Rattle.ref_words.{specs.{Words.{Words, with_refill}, Rings.{takes_entry_at}, Sides.{IsInHand, IsFirstRaw}, Rule.{RefRule}}, proofs.InHand.{in_hand, if-none}}
 use Rattle.ref_words.proofs.Dealing.{RefRule-dealt}
 
-no-honour : (c : Bool) → weight (c && false) ≡ (if c then 0 else 0)
+no-honour : (c : Bool) → one_if (c && false) ≡ (if c then 0 else 0)
 no-honour true = refl
 no-honour false = refl
 
@@ -35,8 +35,8 @@ module _ (setting : Setting) (words : Words) (nic : NicSide) (apps : List AppSid
         ap (λ l. is_some_of (judged l (known.first app here).first.entry) c) (layouts app here)
         ∙ (ap (λ e. is_some_of (judged setting.layout e) c) (known.first app here).same ∙ ap (λ o. is_some_of o c) named)
 
-    lowered-here : (app : AppSide) → IsApp apps a app → (c : ℕ) → lowered_in_hand app.view.app c nic.inside.entry ≡ weight (b == c)
-    lowered-here app here c = ap (lowered_in_hand app.view.app c) at ∙ ap (λ z. if z then weight (b == c) else 0) (eq-eqb a app.view.app (sym here.number))
+    lowered-here : (app : AppSide) → IsApp apps a app → (c : ℕ) → lowered_in_hand app.view.app c nic.inside.entry ≡ one_if (b == c)
+    lowered-here app here c = ap (lowered_in_hand app.view.app c) at ∙ ap (λ z. if z then one_if (b == c) else 0) (eq-eqb a app.view.app (sym here.number))
 
     still-owed : (app : AppSide) (here : IsApp apps a app) (c : ℕ)
         → count_by (returns app.view.setting.layout c) (known.first app here).others ≤ length (owed_in c nic app)
@@ -50,11 +50,11 @@ module _ (setting : Setting) (words : Words) (nic : NicSide) (apps : List AppSid
         ⊎_elim
         (λ of_loan.
         let counted : returns app.view.setting.layout c front.first ≡ true = rw of_loan (names-it app here c ∙ is) in
-        omega (arith, all, parts, ap weight counted, lowered-here app here c, ap weight is))
+        omega (arith, all, parts, ap one_if counted, lowered-here app here c, ap one_if is))
         (λ raw.
         let none = ((rw front.is at (h.clear c)).0 raw (names-it app here c ∙ is)).1 in omega (arith, none))
         (cases_Bool front.first.of_loan))
-        (λ isnt. omega (arith, all, parts, lowered-here app here c, ap weight isnt))
+        (λ isnt. omega (arith, all, parts, lowered-here app here c, ap one_if isnt))
         (cases_Bool (b == c))
 
     rest-owed : (app : AppSide) (here : IsApp apps a app) (c : ℕ)
@@ -64,13 +64,13 @@ module _ (setting : Setting) (words : Words) (nic : NicSide) (apps : List AppSid
         let h = rule.sides.returns a app here in
         let all = rw front.is at (h.no_more c) in
         let parts = count-first (returns app.view.setting.layout c) front.first front.others in
-        let most = weight-le (returns app.view.setting.layout c front.first) in
+        let most = one_if-le (returns app.view.setting.layout c front.first) in
         ⊎_elim
-        (λ is. omega (arith, all, parts, most, lowered-here app here c, ap weight is))
+        (λ is. omega (arith, all, parts, most, lowered-here app here c, ap one_if is))
         (λ isnt.
         let none : returns app.view.setting.layout c front.first ≡ false = if-false front.first.of_loan (names app.view.setting.layout c front.first)
         (names-it app here c ∙ isnt) in
-        omega (arith, all, parts, ap weight none, lowered-here app here c, ap weight isnt))
+        omega (arith, all, parts, ap one_if none, lowered-here app here c, ap one_if isnt))
         (cases_Bool (b == c))
       where
         if-false : (z n : Bool) → n ≡ false → (if z then n else false) ≡ false
@@ -78,7 +78,7 @@ module _ (setting : Setting) (words : Words) (nic : NicSide) (apps : List AppSid
         if-false false n isnt = refl
 
     pub honours : RefRule setting (with_refill words a (takes_entry_at setting nic a) 0 0) (side_dealt nic a entry (Honoured b)) apps
-    honours = RefRule-dealt setting words nic apps a entry (Honoured b) (λ c. weight (b == c)) rule is_app (record {
+    honours = RefRule-dealt setting words nic apps a entry (Honoured b) (λ c. one_if (b == c)) rule is_app (record {
       lowered = λ x c. ap (lowered_in_hand x c) at;
       counted = λ x c. sym (weight-and (a == x) (b == c));
       returning = λ x c. ap (returning_in_hand x c) at ∙ if-none (a == x);
@@ -130,7 +130,7 @@ module _ (setting : Setting) (words : Words) (nic : NicSide) (apps : List AppSid
             arith,
             rw front.is at ((rule.sides.returns a app here).no_more c),
             count-first (returns app.view.setting.layout c) front.first front.others,
-            ap weight (none-counted app here c),
+            ap one_if (none-counted app here c),
           );
       stray = λ app here of_loan. absurd (let wrong : true ≡ false = sym of_loan ∙ is-raw app here in let none : ⊥ = cc in none);
     }) saw

@@ -3,12 +3,12 @@ use Rattle.std.proofs.Common.{◌≡◌, ⊎_elim, ℕ, zero, suc, ◌+◌, ◌-
 use Rattle.std.{specs.{Prelude.{◌≢◌, ◌==◌, nat_eq, count_by, if◌then◌else◌, All, AllPairs}, Int.{bit_at}}, proofs.Math.Nat.{pow-suc}}
 use Rattle.std.proofs.lemmas.{Nat.Bits.{bit_at_cat_high, bit_at_above}, Bool.{cases_lt, Decides.{eqb_tells}}, List.Elements.{All-nil, All-cons, All-weaker}}
 use Rattle.std.proofs.lemmas.List.Kept.{AllPairs-cons}
-use Rattle.board_face.{specs.NicEvents.{word_bits}, proofs.{Tallies.{weight}, Counting.{count-cons, weight-other, weight-same}}}
-use Rattle.ref_words.specs.FreeSteps.{found_below, found_in}
+use Rattle.board_face.{specs.NicEvents.{word_bits}, proofs.{Tallies.{one_if}, Counting.{count-cons, weight-other, weight-same}}}
+use Rattle.ref_words.specs.FreeSteps.{found_below, all_listed_in}
 use Rattle.zr_kinds.proofs.Booleans.{if-none, if-one}
 
 found-case : (c : Bool) (b x : ℕ) (rest : List ℕ)
-    → count_by (nat_eq b) (if c then x ∷ rest else rest) ≡ (if c then weight (b == x) else 0) + count_by (nat_eq b) rest
+    → count_by (nat_eq b) (if c then x ∷ rest else rest) ≡ (if c then one_if (b == x) else 0) + count_by (nat_eq b) rest
 found-case true b x rest = count-cons b x rest
 found-case false b x rest = omega arith
 
@@ -24,20 +24,20 @@ module _ (word n : ℕ) where
       omega (
         arith,
         found-case (bit_at n k == 1) b (at k) (found_below word n k),
-        if-none (bit_at n k == 1) (weight (b == at k)) (weight-other b (at k) other),
+        if-none (bit_at n k == 1) (one_if (b == at k)) (weight-other b (at k) other),
         found-none k b (omega arith) (λ here. omega (arith, past here)),
       )
 
   -- one of this word is found where its bit is set
   pub found-one : (k b : ℕ) → k ≤ 64 → b / word_bits ≡ word → b % word_bits < k
-      → count_by (nat_eq b) (found_below word n k) ≡ weight (bit_at n (b % word_bits) == 1)
+      → count_by (nat_eq b) (found_below word n k) ≡ one_if (bit_at n (b % word_bits) == 1)
   found-one zero b small here below = absurd (omega arith)
   found-one (suc k) b small here below =
       ⊎_elim
       (λ less. omega (
         arith,
         found-case (bit_at n k == 1) b (at k) (found_below word n k),
-        if-none (bit_at n k == 1) (weight (b == at k)) (weight-other b (at k) (λ e. absurd (omega arith))),
+        if-none (bit_at n k == 1) (one_if (b == at k)) (weight-other b (at k) (λ e. absurd (omega arith))),
         found-one k b (omega arith) here less,
       ))
       (λ top. let bit : b % word_bits ≡ k = omega arith in
@@ -45,9 +45,9 @@ module _ (word n : ℕ) where
       omega (
         arith,
         found-case (bit_at n k == 1) b (at k) (found_below word n k),
-        if-one (bit_at n k == 1) (weight (b == at k)) (subst (λ x. weight (b == x) ≡ 1) same (weight-same b)),
+        if-one (bit_at n k == 1) (one_if (b == at k)) (subst (λ x. one_if (b == x) ≡ 1) same (weight-same b)),
         found-none k b (omega arith) (λ _. omega arith),
-        ap (λ x. weight (bit_at n x == 1)) bit,
+        ap (λ x. one_if (bit_at n x == 1)) bit,
       ))
       (cases_lt (b % word_bits) k)
 
@@ -114,7 +114,7 @@ module _ (word : ℕ) where
   -- the highest bit that is set tells the first buffer, and the others are listed by the number without it
   pub found-first : (m n j : ℕ) → j < 64 → 2 ^ j ≤ n → n < 2 ^ suc j → ((i : ℕ) → j ≤ i → bit_at m i ≡ 0)
       → ((i : ℕ) → i < j → bit_at m i ≡ bit_at n i)
-      → found_in word n ≡ (word_bits * word + j) ∷ found_in word m
+      → all_listed_in word n ≡ (word_bits * word + j) ∷ all_listed_in word m
   found-first m n j small from to above below =
       let cut : n ≡ 1 * 2 ^ j + (n - 2 ^ j) = omega (arith, from) in
       let top : bit_at n j ≡ 1 = ap (λ x. bit_at x j) cut ∙ (bit_at_cat_high 1 j (n - 2 ^ j) j (omega (arith, from, to, pow-suc 2 j)) (omega arith)

@@ -5,7 +5,7 @@ use Rattle.std.proofs.lemmas.List.{map-id}
 use Rattle.area_layout.specs.Layout.{pool_buffers}
 use Rattle.board_face.specs.{Lists.{without}, NicEvents.{cached, cache_room}, Sides.{IsApp}, Counts.{pool_count}, FreeOnce.{free_places, AreFreeOnce}}
 use Rattle.board_face.{specs.{Used.{picked_buffers, AreKept}, declared.views.{nic.NicSide.{NicSide}, app.AppSide.{AppSide}}}, proofs.ListLemmas.{eqb_same, not-eqb}}
-use Rattle.board_face.proofs.{Tallies.{weight, tally, tally-flat, tally-without, total-set}, Parts.{count-tally}}
+use Rattle.board_face.proofs.{Tallies.{one_if, tally, tally-flat, tally-without, total-set}, Parts.{count-tally}}
 use Rattle.board_face.proofs.Counting.{count-append, count-push, once-freed, once-taken, weight-swap}
 use Rattle.ref_words.proofs.Counting.{if_so, once-more}
 
@@ -37,7 +37,7 @@ in-hands listed b nic apps a app here =
 
 -- a buffer leaves the hands
 pub count-taken : (b : ℕ) (xs : List ℕ) → Contains xs b → (y : ℕ)
-    → count_by (nat_eq y) (without (nat_eq b) xs) + weight (b == y) ≡ count_by (nat_eq y) xs
+    → count_by (nat_eq y) (without (nat_eq b) xs) + one_if (b == y) ≡ count_by (nat_eq y) xs
 count-taken b xs has y =
     omega (
       arith,
@@ -52,9 +52,9 @@ count-taken b xs has y =
 pub without-none : (b : ℕ) (xs : List ℕ) → count_by (nat_eq b) xs ≡ 0 → without (nat_eq b) xs ≡ xs
 without-none b [] none = refl
 without-none b (x ∷ xs) none =
-    let parts : weight (b == x) + count_by (nat_eq b) xs ≡ 0 = omega (arith, none, count-tally (nat_eq b) (x ∷ xs), count-tally (nat_eq b) xs) in
+    let parts : one_if (b == x) + count_by (nat_eq b) xs ≡ 0 = omega (arith, none, count-tally (nat_eq b) (x ∷ xs), count-tally (nat_eq b) xs) in
     ⊎_elim
-    (λ t. absurd (omega (arith, parts, ap weight t.0)))
+    (λ t. absurd (omega (arith, parts, ap one_if t.0)))
     (λ t. ap (λ c. cond c xs (x ∷ without (nat_eq b) xs)) t.0 ∙ ap (λ ys. x ∷ ys) (without-none b xs (omega arith)))
     (eqb_tells b x)
 
@@ -122,34 +122,34 @@ cache-grows false cache i b = omega arith
 
 -- A buffer that has a holder got one more.
 pub AreFreeOnce-more : (listed : ℕ → Bool) (nic now : NicSide) (apps apps' : List AppSide) (i : ℕ) → now.view.setting ≡ nic.view.setting
-    → ((b : ℕ) → pool_count b now apps' ≡ pool_count b nic apps + weight (i == b)) → ((b : ℕ) → weight (i == b) ≤ pool_count b nic apps)
+    → ((b : ℕ) → pool_count b now apps' ≡ pool_count b nic apps + one_if (i == b)) → ((b : ℕ) → one_if (i == b) ≤ pool_count b nic apps)
     → ((b : ℕ) → free_places listed b now apps' ≡ free_places listed b nic apps) → AreFreeOnce listed nic apps → AreFreeOnce listed now apps'
 AreFreeOnce-more listed nic now apps apps' i setting more held same free = record {
-  pool = λ b small. same b ∙ once-more (pool_count b nic apps) (pool_count b now apps') _ (weight (i == b)) (free.pool b (rw (← setting) small)) (more b)
+  pool = λ b small. same b ∙ once-more (pool_count b nic apps) (pool_count b now apps') _ (one_if (i == b)) (free.pool b (rw (← setting) small)) (more b)
       (held b);
   reserves = λ b past. same b ∙ free.reserves b (rw (← setting) past);
 }
 
 -- A buffer that nobody had left its free place, and has a holder.
 pub AreFreeOnce-taken : (listed : ℕ → Bool) (nic now : NicSide) (apps apps' : List AppSide) (i : ℕ) → now.view.setting ≡ nic.view.setting
-    → pool_count i nic apps ≡ 0 → ((b : ℕ) → pool_count b now apps' ≡ pool_count b nic apps + weight (i == b))
-    → ((b : ℕ) → free_places listed b now apps' + weight (i == b) ≡ free_places listed b nic apps)
+    → pool_count i nic apps ≡ 0 → ((b : ℕ) → pool_count b now apps' ≡ pool_count b nic apps + one_if (i == b))
+    → ((b : ℕ) → free_places listed b now apps' + one_if (i == b) ≡ free_places listed b nic apps)
     → AreFreeOnce listed nic apps → AreFreeOnce listed now apps'
 AreFreeOnce-taken listed nic now apps apps' i setting unheld more gone free = record {
   pool = λ b small.
-      once-taken (pool_count b nic apps) _ (free_places listed b nic apps) _ (weight (i == b)) (free.pool b (rw (← setting) small)) (gone b) (more b)
-      (⊎_elim (λ t. inr (ap weight t.0, ap (λ y. pool_count y nic apps) (sym t.1) ∙ unheld)) (λ t. inl (ap weight t.0)) (eqb_tells i b));
+      once-taken (pool_count b nic apps) _ (free_places listed b nic apps) _ (one_if (i == b)) (free.pool b (rw (← setting) small)) (gone b) (more b)
+      (⊎_elim (λ t. inr (ap one_if t.0, ap (λ y. pool_count y nic apps) (sym t.1) ∙ unheld)) (λ t. inl (ap one_if t.0)) (eqb_tells i b));
   reserves = λ b past. omega (arith, free.reserves b (rw (← setting) past), gone b);
 }
 
 -- A reserve that nobody had has a holder. It stands in no free place before and after.
 pub AreFreeOnce-reserve : (listed : ℕ → Bool) (nic now : NicSide) (apps apps' : List AppSide) (i : ℕ) → now.view.setting ≡ nic.view.setting
-    → pool_buffers nic.view.setting.layout ≤ i → ((b : ℕ) → pool_count b now apps' ≡ pool_count b nic apps + weight (i == b))
+    → pool_buffers nic.view.setting.layout ≤ i → ((b : ℕ) → pool_count b now apps' ≡ pool_count b nic apps + one_if (i == b))
     → ((b : ℕ) → free_places listed b now apps' ≡ free_places listed b nic apps) → AreFreeOnce listed nic apps → AreFreeOnce listed now apps'
 AreFreeOnce-reserve listed nic now apps apps' i setting past more same free = record {
   pool = λ b small.
       let inside : b < pool_buffers nic.view.setting.layout = rw (← setting) small in
-      let other : weight (i == b) ≡ 0 = ap weight (not-eqb i b (λ e. absurd (omega (arith, e)))) in
+      let other : one_if (i == b) ≡ 0 = ap one_if (not-eqb i b (λ e. absurd (omega (arith, e)))) in
       let count : pool_count b now apps' ≡ pool_count b nic apps = omega (arith, more b) in
       same b ∙ (free.pool b inside ∙ ap (λ n. if n == 0 then 1 else 0) (sym count));
   reserves = λ b beyond. same b ∙ free.reserves b (rw (← setting) beyond);
@@ -163,7 +163,7 @@ past-case false f u empty which = omega arith
 pub AreFreeOnce-fewer : (listed : ℕ → Bool) (nic now : NicSide) (apps apps' : List AppSide) (i w : ℕ) (came : Bool)
     → now.view.setting ≡ nic.view.setting
     → 1 ≤ w → ((b : ℕ) → pool_count b now apps' + if_so (i == b) w ≡ pool_count b nic apps)
-    → ((b : ℕ) → free_places listed b now apps' ≡ free_places listed b nic apps + if_so came (weight (i == b)))
+    → ((b : ℕ) → free_places listed b now apps' ≡ free_places listed b nic apps + if_so came (one_if (i == b)))
     → (i < pool_buffers nic.view.setting.layout → came ≡ (pool_count i now apps' == 0)) → (pool_buffers nic.view.setting.layout ≤ i
     → came ≡ false)
     → AreFreeOnce listed nic apps → AreFreeOnce listed now apps'
@@ -171,20 +171,20 @@ AreFreeOnce-fewer listed nic now apps apps' i w came setting some less more of_p
   pool = λ b small.
       let inside : b < pool_buffers nic.view.setting.layout = rw (← setting) small in
       once-freed came (pool_count b nic apps) (pool_count b now apps') (free_places listed b nic apps) (free_places listed b now apps') (if_so (i == b) w)
-      (weight (i == b))
+      (one_if (i == b))
       (pool_count i now apps') (free.pool b inside) (less b) (more b)
       (⊎_elim
       (λ t. let e : i ≡ b = t.1 in
       inr (
         (let one : if_so (i == b) w ≡ w = ap (λ c. if_so c w) t.0 in omega (arith, some, one)),
-        ap weight t.0,
+        ap one_if t.0,
         ap (λ x. pool_count x now apps') (sym e),
         of_pool (omega (arith, inside, e)),
       ))
-      (λ t. inl (ap (λ c. if_so c w) t.0, ap weight t.0))
+      (λ t. inl (ap (λ c. if_so c w) t.0, ap one_if t.0))
       (eqb_tells i b));
   reserves = λ b past.
       let beyond : pool_buffers nic.view.setting.layout ≤ b = rw (← setting) past in
       more b ∙ past-case came _ _ (free.reserves b beyond)
-      (⊎_elim (λ t. let e : i ≡ b = t.1 in inl (reserve (omega (arith, beyond, e)))) (λ t. inr (ap weight t.0)) (eqb_tells i b));
+      (⊎_elim (λ t. let e : i ≡ b = t.1 in inl (reserve (omega (arith, beyond, e)))) (λ t. inr (ap one_if t.0)) (eqb_tells i b));
 }

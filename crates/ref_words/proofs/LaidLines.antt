@@ -7,7 +7,7 @@ use Rattle.std.proofs.lemmas.List.Elements.{All-head, All-tail, All-take, All-dr
 use Rattle.zr_kinds.specs.declared.place.Place.{Place}
 use Rattle.area_layout.{specs.Layout.{Shape, IsLayout, LiesIn, size_of}, proofs.Words.{begins-apart}}
 use Rattle.board_face.{specs.Shown.{IsShown}, proofs.StoresAtLemmas.{StoresAt}}
-use Rattle.ref_words.specs.Lines.{joined, area_lines, line_at, byte_in, begin_line, line_count, lines_of, text_in, laid, AreWide, HaveText}
+use Rattle.ref_words.specs.Lines.{joined, area_lines, line_at, byte_in_area, begin_line, line_count, lines_at, text_in, laid, AreWide, HaveText}
 use Rattle.ref_words.proofs.{AreaLines.{begin-lines, line-within}, Laying.{joined-length}}
 
 -- ---- lines that are laid
@@ -48,7 +48,7 @@ wide-laid area x (line ∷ lines) wide wide' =
 -- the lines of a place stay among which none of them is
 pub lines_of-laid : (layout : Shape) (area : List (List ℕ)) (x : ℕ) (lines : List (List ℕ)) (q : Place)
     → ((k : ℕ) → begin_line layout q ≤ k → k < begin_line layout q + line_count q → (k < x) ⊎ (x + length lines ≤ k))
-    → lines_of layout (laid area x lines) q ≡ lines_of layout area q
+    → lines_at layout (laid area x lines) q ≡ lines_at layout area q
 lines_of-laid layout area x lines q away =
     let n = line_count q in
     let b = begin_line layout q in
@@ -64,7 +64,7 @@ lines_of-laid layout area x lines q away =
     ∙ sym (get_or-take n (drop b area) i [] small ∙ get_or-drop b area i []))))
 
 -- and have 64 bytes where all do
-pub lines-wide : (layout : Shape) (p : Place) (area : List (List ℕ)) → AreWide area → AreWide (lines_of layout area p)
+pub lines-wide : (layout : Shape) (p : Place) (area : List (List ℕ)) → AreWide area → AreWide (lines_at layout area p)
 lines-wide layout p area wide = All-take (λ (l : List ℕ). length l ≡ 64) (line_count p) (drop (begin_line layout p) area)
     (All-drop (λ (l : List ℕ). length l ≡ 64) (begin_line layout p) area wide)
 
@@ -110,7 +110,7 @@ joined-same xs ys wide wide' same =
 -- ---- the bytes of a place
 
 module _ (layout : Shape) (area : List (List ℕ)) (good : IsLayout layout) (many : length area ≡ area_lines layout) (wide : AreWide area) where
-  byte-is : (b o : ℕ) → o < size_of layout b → byte_in layout area b o ≡ get_or (get_or area (line_at layout b o) []) (o % 64) 0
+  byte-is : (b o : ℕ) → o < size_of layout b → byte_in_area layout area b o ≡ get_or (get_or area (line_at layout b o) []) (o % 64) 0
   byte-is b o less = ap (λ c. cond c (get_or (get_or area (line_at layout b o) []) (o % 64) 0) 0) (lt-ltb o (size_of layout b) less)
 
   module _ (p : Place) (lies : LiesIn layout p) (some : 0 < p.len) where
@@ -121,9 +121,9 @@ module _ (layout : Shape) (area : List (List ℕ)) (good : IsLayout layout) (man
         omega (arith, line-within layout good p.buffer (p.offset + p.len - 1) lies.buffer (omega (arith, fits, some)), many, some)
 
     -- and have all its bytes
-    pub length-text : length (text_in p (lines_of layout area p)) ≡ p.len
+    pub length-text : length (text_in p (lines_at layout area p)) ≡ p.len
     length-text =
-        let lines = lines_of layout area p in
+        let lines = lines_at layout area p in
         omega (
           arith,
           length-take p.len (drop (p.offset % 64) (joined lines)),
@@ -134,9 +134,9 @@ module _ (layout : Shape) (area : List (List ℕ)) (good : IsLayout layout) (man
           lines-inside,
         )
 
-    pub text-byte : (i : ℕ) → i < p.len → get_or (text_in p (lines_of layout area p)) i 0 ≡ byte_in layout area p.buffer (p.offset + i)
+    pub text-byte : (i : ℕ) → i < p.len → get_or (text_in p (lines_at layout area p)) i 0 ≡ byte_in_area layout area p.buffer (p.offset + i)
     text-byte i less =
-        let lines = lines_of layout area p in
+        let lines = lines_at layout area p in
         let fits = lies.bytes in
         let at : ℕ = p.offset % 64 + i in
         let line : begin_line layout p + at / 64 ≡ line_at layout p.buffer (p.offset + i) = omega arith in
@@ -155,7 +155,7 @@ module _ (layout : Shape) (area : List (List ℕ)) (good : IsLayout layout) (man
 -- Whole lines change their own bytes alone.
 pub stores-lines : (layout : Shape) (area : List (List ℕ)) → IsLayout layout → (p : Place) (lines : List (List ℕ)) → p.offset % 64 ≡ 0
     → p.len ≡ 64 * length lines → p.offset + p.len ≤ size_of layout p.buffer
-    → StoresAt (byte_in layout area) (byte_in layout (laid area (begin_line layout p) lines)) p
+    → StoresAt (byte_in_area layout area) (byte_in_area layout (laid area (begin_line layout p) lines)) p
 stores-lines layout area good p lines aligned whole within c y outside =
     ⊎_elim
     (λ (inside : y < size_of layout c).
@@ -191,7 +191,7 @@ stores-lines layout area good p lines aligned whole within c y outside =
 -- And they show their text.
 pub shown-lines : (layout : Shape) (area : List (List ℕ)) → IsLayout layout → length area ≡ area_lines layout → (p : Place) → LiesIn layout p
     → p.offset % 64 ≡ 0 → (lines : List (List ℕ)) (bytes : List ℕ) → p.len ≡ length bytes → HaveText lines bytes
-    → IsShown (byte_in layout (laid area (begin_line layout p) lines)) p bytes
+    → IsShown (byte_in_area layout (laid area (begin_line layout p) lines)) p bytes
 shown-lines layout area good many p lies aligned lines bytes len have = record {
   len = sym len;
   bytes = λ i less.

@@ -2,11 +2,11 @@
 use Rattle.std.proofs.Common.{◌≡◌, ℕ, zero, suc, ◌*◌, suc-mul, mul-le-mul_right, ◌+◌, ◌-◌, ◌<◌, ◌≤◌, List, [], ◌∷◌, ◌++◌, length, set, get_or}
 use Rattle.std.{proofs.Common.{refl, ap, sym, ◌∙◌, arith, length-append, map, subst}, specs.{List.{flat_map}, Prelude.{All}}}
 use Rattle.std.proofs.lemmas.List.{get_or-append-add, get_or_append_left, set-append_left, set-append_right, Elements.{All-head, All-tail}}
-use Rattle.area_layout.specs.Layout.{total}
+use Rattle.area_layout.specs.Layout.{all_buffers}
 use Rattle.board_face.specs.{NicCalls.{apps_of}, declared.views.parts.Setting.{Setting}}
-use Rattle.ref_words.specs.{Words.{Words, HasSizes, AreSlots, groups, group_sizes, begins, begin_at, table_of}, Lines.{joined}}
-use Rattle.ref_words.specs.Words.{pool_at, pool_of, with_pool, user_at, user_of, with_user, role_at, with_role, table_words}
-use Rattle.ref_words.specs.Words.{slot_word, with_slot_word, note_at, with_note, refill_at, with_refill, free_at, free_of, with_free}
+use Rattle.ref_words.specs.{Words.{Words, WordsHaveSizes, AreSlots, groups, group_sizes, begins, begin_at, table_of}, Lines.{joined}}
+use Rattle.ref_words.specs.Words.{pool_at, pool_word_of, with_pool, user_word_at, user_word_of, with_user, role_at, with_role, table_words}
+use Rattle.ref_words.specs.Words.{slot_word, with_slot_word, note_at, with_note, refill_at, with_refill, free_at, free_word_of, with_free}
 use Rattle.word_rings.specs.Slots.{note_width, refill_width}
 
 -- ---- lists that lie one behind another
@@ -145,11 +145,11 @@ slot-inside-of places width rings a s i all there small less =
 
 -- ---- the groups
 
-module _ (setting : Setting) (w : Words) (sizes : HasSizes setting w) where
+module _ (setting : Setting) (w : Words) (sizes : WordsHaveSizes setting w) where
   pub lengths : map length (groups w) ≡ group_sizes setting
   lengths =
-      let users : length (joined w.users) ≡ apps_of setting * total setting.layout =
-      joined-length (total setting.layout) w.users sizes.rows ∙ ap (λ n. n * total setting.layout) sizes.users in
+      let users : length (joined w.users) ≡ apps_of setting * all_buffers setting.layout =
+      joined-length (all_buffers setting.layout) w.users sizes.rows ∙ ap (λ n. n * all_buffers setting.layout) sizes.users in
       let notes : length (flat_map joined w.notes) ≡ apps_of setting * (setting.places * note_width) =
       slots-length setting.places note_width w.notes sizes.note_slots ∙ ap (λ n. n * (setting.places * note_width)) sizes.notes in
       let refills : length (flat_map joined w.refills) ≡ apps_of setting * (setting.places * refill_width) =
@@ -173,20 +173,20 @@ module _ (setting : Setting) (w : Words) (sizes : HasSizes setting w) where
   pub role-set : (r : ℕ) → r < length w.roles → set (table_of w) (role_at setting r) 1 ≡ table_of (with_role w r)
   role-set r there = group-set 0 r 1 (omega arith) there
 
-  pub pool-word : (b : ℕ) → b < length w.pool → get_or (table_of w) (pool_at setting b) 0 ≡ pool_of w b
+  pub pool-word : (b : ℕ) → b < length w.pool → get_or (table_of w) (pool_at setting b) 0 ≡ pool_word_of w b
   pool-word b there = group-word 2 b (omega arith) there
 
   pub pool-set : (b n : ℕ) → b < length w.pool → set (table_of w) (pool_at setting b) n ≡ table_of (with_pool w b n)
   pool-set b n there = group-set 2 b n (omega arith) there
 
-  pub free-word : (j : ℕ) → j < length w.free → get_or (table_of w) (free_at setting j) 0 ≡ free_of w j
+  pub free-word : (j : ℕ) → j < length w.free → get_or (table_of w) (free_at setting j) 0 ≡ free_word_of w j
   free-word j there = group-word 4 j (omega arith) there
 
   pub free-set : (j n : ℕ) → j < length w.free → set (table_of w) (free_at setting j) n ≡ table_of (with_free w j n)
   free-set j n there = group-set 4 j n (omega arith) there
 
   abbrev t : ℕ
-  t = total setting.layout
+  t = all_buffers setting.layout
 
   user-inside : (a b : ℕ) → a < length w.users → b < t → a * t + b < length (joined w.users)
   user-inside a b there small = omega (arith, joined-length t w.users sizes.rows, row-bound t a b (length w.users) there small)
@@ -194,13 +194,13 @@ module _ (setting : Setting) (w : Words) (sizes : HasSizes setting w) where
   row-length : (a : ℕ) → a < length w.users → length (get_or w.users a []) ≡ t
   row-length a there = sizes.rows a [] there
 
-  pub user-word : (a b : ℕ) → a < length w.users → b < t → get_or (table_of w) (user_at setting a b) 0 ≡ user_of w a b
+  pub user-word : (a b : ℕ) → a < length w.users → b < t → get_or (table_of w) (user_word_at setting a b) 0 ≡ user_word_of w a b
   user-word a b there small =
       group-word 3 (a * t + b) (omega arith) (user-inside a b there small)
       ∙ (ap (λ n. get_or (joined w.users) (n + b) 0) (sym (begins-rows t w.users a sizes.rows there))
       ∙ joined-word w.users a b there (omega (arith, row-length a there)))
 
-  pub user-set : (a b n : ℕ) → a < length w.users → b < t → set (table_of w) (user_at setting a b) n ≡ table_of (with_user w a b n)
+  pub user-set : (a b n : ℕ) → a < length w.users → b < t → set (table_of w) (user_word_at setting a b) n ≡ table_of (with_user w a b n)
   user-set a b n there small =
       group-set 3 (a * t + b) n (omega arith) (user-inside a b there small)
       ∙ ap (λ us. joined (set (groups w) 3 us))

@@ -1,14 +1,14 @@
 -- An application lends a held piece.
 use Rattle.std.{proofs.{Common.{◌≡◌, ⊎_elim, ℕ, ◌+◌, ◌^◌, ◌<◌, List, set, refl, sym, ◌∙◌, arith, []}, lemmas.Bool.{cases_lt}}, specs.Prelude.{true, false, ◌==◌, ◌&&◌}}
-use Rattle.area_layout.specs.Layout.{total}
+use Rattle.area_layout.specs.Layout.{all_buffers}
 use Rattle.board_face.specs.{AppEvents.{reserve_of}, Sides.{IsApp}, Counts.{pool_count, user_count, EndedWereReturned}, declared.views.parts.Setting.{Setting}}
 use Rattle.board_face.specs.{declared.views.{nic.NicSide.{NicSide}, app.AppSide.{AppSide}}, AppCalls.{HasHeld, CanLend}}
 use Rattle.board_face.proofs.{AppLemmas.{pool_count-app, user_count-app, app_count-lent, user_part-lent}, ArePlacedLemmas.{ArePlaced-lent}}
 use Rattle.board_face.proofs.{MadeLastLemmas.{IsMadeLast-lent}, IsFilledByOneLemmas.{IsFilledByOne-lent}, FillingsFitLemmas.{FillingsFit-same}}
 use Rattle.board_face.{specs.{AppEvents.{lent}, Sides.{app_at}, Returns.{loans_out, entries_on_way, IsClear}}, proofs.FreeLemmas.{user_count-le}}
-use Rattle.board_face.proofs.{ReturnLemmas.{IsClear-of_loans}, Tallies.{weight}, Counting.{weight-same}}
+use Rattle.board_face.proofs.{ReturnLemmas.{IsClear-of_loans}, Tallies.{one_if}, Counting.{weight-same}}
 use Rattle.zr_kinds.specs.declared.place.Place.{Place}
-use Rattle.ref_words.{specs.{Words.{Words, user_of, listed_in}, Rule.{RefRule}}, proofs.{RingSteps.{rings-app}, Frees.{AreKept-app, free_places-hands}}}
+use Rattle.ref_words.{specs.{Words.{Words, user_word_of, listed_bit}, Rule.{RefRule}}, proofs.{RingSteps.{rings-app}, Frees.{AreKept-app, free_places-hands}}}
 use Rattle.ref_words.proofs.{InHand.{same-if, other-pair}, SideSteps.{own-was, mine, SidesRule-app, is-app, in-area}, UserSteps.{IsUserStep}, Beginning.{few-holders}}
 use Rattle.ref_words.proofs.LineLemmas.{AreByLine-lent}
 
@@ -24,14 +24,14 @@ module _ (setting : Setting) (words : Words) (nic : NicSide) (apps : List AppSid
   same_pool : (b : ℕ) → pool_count b nic apps' ≡ pool_count b nic apps
   same_pool b = omega (arith, pool_count-app b nic apps a app now here, app_count-lent b nic app place out)
 
-  more-users : (x b : ℕ) → user_count x b nic apps' ≡ user_count x b nic apps + weight ((app.view.app == x) && (place.buffer == b))
+  more-users : (x b : ℕ) → user_count x b nic apps' ≡ user_count x b nic apps + one_if ((app.view.app == x) && (place.buffer == b))
   more-users x b = omega (arith, user_count-app x b nic apps a app now here, user_part-lent x b nic app place)
 
-  one : weight ((app.view.app == a) && (place.buffer == place.buffer)) ≡ 1
+  one : one_if ((app.view.app == a) && (place.buffer == place.buffer)) ≡ 1
   one = same-if app.view.app a place.buffer place.buffer (sym here.number) ∙ weight-same place.buffer
 
   -- a buffer with a loan lies in the area
-  within : place.buffer < total nic.view.setting.layout
+  within : place.buffer < all_buffers nic.view.setting.layout
   within =
       ⊎_elim
       (λ small. small)
@@ -43,12 +43,12 @@ module _ (setting : Setting) (words : Words) (nic : NicSide) (apps : List AppSid
         one,
         user_count-le a place.buffer nic apps',
       )))
-      (cases_lt place.buffer (total nic.view.setting.layout))
+      (cases_lt place.buffer (all_buffers nic.view.setting.layout))
 
-  there : place.buffer < total setting.layout
+  there : place.buffer < all_buffers setting.layout
   there = in-area rule.sides within
 
-  pub few : user_of words a place.buffer + 1 < 2 ^ 64
+  pub few : user_word_of words a place.buffer + 1 < 2 ^ 64
   few =
       omega (
         arith,
@@ -58,7 +58,7 @@ module _ (setting : Setting) (words : Words) (nic : NicSide) (apps : List AppSid
         few-holders setting words nic apps place.buffer rule there,
       )
 
-  pub step : IsUserStep setting words nic nic apps apps' a place.buffer (user_of words a place.buffer + 1)
+  pub step : IsUserStep setting words nic nic apps apps' a place.buffer (user_word_of words a place.buffer + 1)
   step = record {
     app = is-app rule.sides here;
     there = there;
@@ -81,7 +81,7 @@ module _ (setting : Setting) (words : Words) (nic : NicSide) (apps : List AppSid
     here = omega (arith, rule.users a place.buffer (is-app rule.sides here) there, more-users a place.buffer, one);
     others = λ x c other. omega (arith, more-users x c, other-pair app.view.app x place.buffer c (λ e f. other (sym e ∙ here.number, sym f)));
     pool = same_pool;
-    free = λ b. omega (arith, free_places-hands (listed_in words) b nic apps a app now here);
-    kept = AreKept-app (listed_in words) nic apps a app now here refl rule.kept;
+    free = λ b. omega (arith, free_places-hands (listed_bit words) b nic apps a app now here);
+    kept = AreKept-app (listed_bit words) nic apps a app now here refl rule.kept;
     rings = rings-app setting words nic apps a app now here refl refl refl refl refl refl refl rule.rings;
   }

@@ -10,7 +10,7 @@ use Rattle.board_face.specs.{Holders.{Kind, sent_to, on_way, ended_in, returning
 use Rattle.board_face.specs.{Fillings.{IsFilledByOne, FillingsFit}, Places.{ArePlaced, places_of, filled_places, kind_place, ends_behind}, Tokens.{next_place}}
 use Rattle.board_face.specs.{Texts.{front_place, rest_place}, Opened.{new_nic}, declared.views.parts.{Setting.{Setting}, Filling.{Filling}, Making.{Making}}}
 use Rattle.board_face.specs.declared.views.{nic.{SentNote.{SentNote}, NicView.{NicView}, NicSide.{NicSide}}, app.{AppView.{AppView}, AppSide.{AppSide}}}
-use Rattle.board_face.proofs.Tallies.{weight, tally, tally-append, tally-flat, total, total-append, total-le, total-agree, weight-le, count-tally}
+use Rattle.board_face.proofs.Tallies.{one_if, tally, tally-append, tally-flat, total, total-append, total-le, total-agree, one_if-le, count-tally}
 use Rattle.board_face.proofs.{LiesLemmas.{total-at}, NicLemmas.{making_at}, FillingsFitLemmas.{FillingsFit-own}, OpenedLemmas.{IsNew, pool_count-opened}}
 use Rattle.board_face.proofs.PlaceTallies.{app_places, piece_places, way_places, in_buffer, places-parts, tally-filter}
 use Rattle.board_face.proofs.PlacesByEvent.{places-app, places-sent, places-sent_linear, places-begun, places-text_done, places-stretch}
@@ -21,15 +21,15 @@ use Rattle.ref_words.specs.{Lines.{touches}, Sides.{app_places_of, IsOneApps, Ar
 
 -- ---- tests
 
-end-weight : (m n e : ℕ) → m ≤ n → weight (nat_lt n e) ≤ weight (nat_lt m e)
+end-weight : (m n e : ℕ) → m ≤ n → one_if (nat_lt n e) ≤ one_if (nat_lt m e)
 end-weight m n e le =
     ⊎_elim
-    (λ less. omega (arith, ap weight (lt-ltb m e (omega arith)), weight-le (nat_lt n e)))
-    (λ more. omega (arith, ap weight (le-ltb n e more)))
+    (λ less. omega (arith, ap one_if (lt-ltb m e (omega arith)), one_if-le (nat_lt n e)))
+    (λ more. omega (arith, ap one_if (le-ltb n e more)))
     (cases_lt n e)
 
 -- a place that touches a line ends behind each byte before it
-touch-ends : (m x : ℕ) (p : Place) → m ≤ 64 * x → weight (touches x p) ≤ weight (ends_behind m p)
+touch-ends : (m x : ℕ) (p : Place) → m ≤ 64 * x → one_if (touches x p) ≤ one_if (ends_behind m p)
 touch-ends m x p le = omega (arith, right-weight (nat_lt p.offset (64 * x + 64)) (nat_lt (64 * x) (p.offset + p.len)), end-weight m (64 * x) (p.offset + p.len) le)
 
 -- ---- notes on their way
@@ -204,25 +204,25 @@ module _ (b : ℕ) (nic : NicSide) (apps : List AppSide) (a : ℕ) (app now : Ap
 
 -- ---- parts of a place
 
-and-weight : (c d e f : Bool) → weight c ≤ weight d → weight e ≤ weight f → weight (c && e) ≤ weight (d && f)
+and-weight : (c d e f : Bool) → one_if c ≤ one_if d → one_if e ≤ one_if f → one_if (c && e) ≤ one_if (d && f)
 and-weight false d e f less more = omega arith
 and-weight true true e f less more = more
 and-weight true false e f less more = absurd (omega arith)
 
 -- a line that a part of a place touches is touched by the whole
-part-touches : (x : ℕ) (p q : Place) → p.offset ≤ q.offset → q.offset + q.len ≤ p.offset + p.len → weight (touches x q) ≤ weight (touches x p)
+part-touches : (x : ℕ) (p q : Place) → p.offset ≤ q.offset → q.offset + q.len ≤ p.offset + p.len → one_if (touches x q) ≤ one_if (touches x p)
 part-touches x p q from within =
     and-weight (nat_lt q.offset (64 * x + 64)) (nat_lt p.offset (64 * x + 64)) (nat_lt (64 * x) (q.offset + q.len)) (nat_lt (64 * x) (p.offset + p.len))
     (end-weight p.offset q.offset (64 * x + 64) from)
     (⊎_elim
-    (λ less. omega (arith, ap weight (lt-ltb (64 * x) (p.offset + p.len) (omega arith)), weight-le (nat_lt (64 * x) (q.offset + q.len))))
-    (λ more. omega (arith, ap weight (le-ltb (64 * x) (q.offset + q.len) more)))
+    (λ less. omega (arith, ap one_if (lt-ltb (64 * x) (p.offset + p.len) (omega arith)), one_if-le (nat_lt (64 * x) (q.offset + q.len))))
+    (λ more. omega (arith, ap one_if (le-ltb (64 * x) (q.offset + q.len) more)))
     (cases_lt (64 * x) (q.offset + q.len)))
 
 part-there : (b x : ℕ) (p q : Place) → q.buffer ≡ p.buffer → p.offset ≤ q.offset → q.offset + q.len ≤ p.offset + p.len
-    → weight (in_buffer b (touches x) q) ≤ weight (in_buffer b (touches x) p)
+    → one_if (in_buffer b (touches x) q) ≤ one_if (in_buffer b (touches x) p)
 part-there b x p q same from within =
-    and-weight (q.buffer == b) (p.buffer == b) (touches x q) (touches x p) (omega (arith, ap (λ c. weight (c == b)) same)) (part-touches x p q from within)
+    and-weight (q.buffer == b) (p.buffer == b) (touches x q) (touches x p) (omega (arith, ap (λ c. one_if (c == b)) same)) (part-touches x p q from within)
 
 pub AreByLine-cut : (b : ℕ) (nic : NicSide) (apps : List AppSide) (a : ℕ) (app : AppSide) (place : Place) (at : ℕ) → IsApp apps a app
     → HasHeld app.view place → at ≤ place.len → AreByLine b nic apps → AreByLine b nic (set apps a (app_at app (cut app.view place at)))
@@ -235,7 +235,7 @@ AreByLine-cut b nic apps a app place at here out within rule x =
     ⊎_elim
     (λ none. line-fewer b nic apps a app now here refl x (omega arith) (rule x))
     (λ some. line-mine b nic apps a app now here refl x (line-own b x nic apps a app (rule x) here (omega arith)))
-    (cases_lt (weight (in_buffer b (touches x) place)) 1)
+    (cases_lt (one_if (in_buffer b (touches x) place)) 1)
 
 -- ---- other events of an application
 
@@ -342,12 +342,12 @@ module _ (b : ℕ) (nic : NicSide) (apps : List AppSide) where
       one-place b x now apps (omega (
         arith,
         all,
-        weight-le mine,
+        one_if-le mine,
         none,
         count-tally (ends_behind own.start) ps,
         tally-fewer (touches x) (ends_behind own.start) (λ q. touch-ends own.start x q (omega arith)) ps,
       )))
-      (λ e. by-card now x (omega (arith, ap weight e)) (λ a app here. omega (arith, same app, ap weight e)) (rule x))
+      (λ e. by-card now x (omega (arith, ap one_if e)) (λ a app here. omega (arith, same app, ap one_if e)) (rule x))
       (cases_Bool mine)
 
   -- what was a piece of the card's is an application's

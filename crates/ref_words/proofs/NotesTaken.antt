@@ -10,9 +10,9 @@ use Rattle.board_face.proofs.{AppLemmas.{pool_count-app, user_count-app, app_cou
 use Rattle.board_face.proofs.{FillingsFitLemmas.{FillingsFit-same}, IsFilledByOneLemmas.{IsFilledByOne-app}, MadeLastLemmas.{IsMadeLast-app}, Parts.{app_count}}
 use Rattle.board_face.{proofs.{PlaceTallies.{app_places}, PlacesByEvent.{app_places-took_note, app_places-took_linear}}, specs.Laws.{IsNextNote}}
 use Rattle.zr_kinds.specs.declared.place.{Note.{Note}, Place.{Place}}
-use Rattle.word_rings.specs.Slots.{note_width, note_fields, field_words, payload_width, payload_bytes, note_of, linear_of, words_of, bytes_of, pair, flags_of, words_for}
+use Rattle.word_rings.specs.Slots.{note_width, note_fields, field_words, payload_width, payload_bytes, note_of, linear_of, words_of, bytes_of_words, pair, flags_of, words_for}
 use Rattle.word_rings.proofs.{NoteSlots.{note_back, note-front, bytes-front}, Words.{padded_words, text_back}}
-use Rattle.ref_words.specs.{Words.{Words, listed_in, with_note}, Rings.{AreRings, NoteFits, area_of_note, words_of_note, linear_bytes, takes_note_at}}
+use Rattle.ref_words.specs.{Words.{Words, listed_bit, with_note}, Rings.{AreRings, NoteFits, area_of_note, words_of_note, linear_bytes, takes_note_at}}
 use Rattle.ref_words.{specs.{Rings.{loaded_note, loaded_bytes, note_loads}, Rule.{RefRule}}, proofs.RingSteps.{AllRings, rings-others}}
 use Rattle.ref_words.proofs.{SlotWords.{ring-here, ring-other, differ-note}, SlotSteps.{DifferInSlots, RefRule-slot}, SideSteps.{own-was, SidesRule-app, mine, is-app}}
 use Rattle.ref_words.{proofs.{Frees.{AreKept-app, free_places-hands}, Dealing.{take-next}, LineLemmas.{AreByLine-app}}, specs.Sides.{IsTakenInOrder}}
@@ -32,9 +32,9 @@ note-read setting s fits =
     (omega arith) (omega arith)
 
 -- the bytes of a slot begin with those that travel in its note
-bytes-read : (xs : List ℕ) → length xs ≤ payload_bytes → All (λ byte. byte < 256) xs → take (length xs) (bytes_of (words_of payload_width xs)) ≡ xs
+bytes-read : (xs : List ℕ) → length xs ≤ payload_bytes → All (λ byte. byte < 256) xs → take (length xs) (bytes_of_words (words_of payload_width xs)) ≡ xs
 bytes-read xs few small =
-    ap (λ ws. take (length xs) (bytes_of ws)) (sym (padded_words payload_width payload_bytes (length xs) xs))
+    ap (λ ws. take (length xs) (bytes_of_words ws)) (sym (padded_words payload_width payload_bytes (length xs) xs))
     ∙ text_back xs payload_bytes payload_width few (omega arith) (λ i. below xs small i)
   where
     below : (xs : List ℕ) → All (λ byte. byte < 256) xs → (i : ℕ) → get_or xs i 0 < 256
@@ -185,8 +185,8 @@ module _ (setting : Setting) (words : Words) (nic : NicSide) (apps : List AppSid
           });
           pool = pools;
           users = λ x b. omega (arith, user_count-app x b nic apps a app like here);
-          free = λ b. omega (arith, free_places-hands (listed_in words) b nic apps a app like here);
-          kept = AreKept-app (listed_in words) nic apps a app like here refl rule.kept;
+          free = λ b. omega (arith, free_places-hands (listed_bit words) b nic apps a app like here);
+          kept = AreKept-app (listed_bit words) nic apps a app like here refl rule.kept;
           rings = rings-then;
         }))
 
@@ -252,9 +252,9 @@ module _ (setting : Setting) (words : Words) (nic : NicSide) (apps : List AppSid
         let read : loaded_bytes app ≡ next.bytes =
         sym (bytes-front note.total loaded others fields (bytes-loaded note (length loaded) split most enough))
         ∙ (ap (λ ws. take note.total (linear_of (1 ∷ ws))) (sym words-are)
-        ∙ (ap (λ (n : Note). take n.total (bytes_of (words_of payload_width (linear_bytes next)))) note-is
-        ∙ (ap (λ xs. take next.note.total (bytes_of (words_of payload_width xs))) travels
-        ∙ (ap (λ m. take m (bytes_of (words_of payload_width next.bytes))) (sym tells.1)
+        ∙ (ap (λ (n : Note). take n.total (bytes_of_words (words_of payload_width (linear_bytes next)))) note-is
+        ∙ (ap (λ xs. take next.note.total (bytes_of_words (words_of payload_width xs))) travels
+        ∙ (ap (λ m. take m (bytes_of_words (words_of payload_width next.bytes))) (sym tells.1)
         ∙ bytes-read next.bytes (let few = tells.0.few_bytes in omega (arith, tells.1)) small)))) in
         let bytes = loaded_bytes app in
         RefRule-taken (side_took_linear app note bytes) (record { note = note; bytes = bytes }) (record {

@@ -5,14 +5,14 @@ use Rattle.std.{specs.Int.{bit_at}, proofs.lemmas.List.{length-replicate, get_or
 use Rattle.std.proofs.lemmas.{List.Elements.{All-nil, All-replicate}, Bool.{cases_lt, false≢true}, Nat.Bits.{bit_at_ones, bit_at_ones_above, bit_at-zero}}
 use mathlib.Core.Option.{some, some-injective, some-ne-none}
 use lib.ListN.{get_elem?}
-use Rattle.area_layout.specs.Layout.{IsLayout, total, pool_buffers}
+use Rattle.area_layout.specs.Layout.{IsLayout, all_buffers, pool_buffers}
 use Rattle.board_face.specs.{NicCalls.{apps_of, free_words_of}, NicEvents.{word_bits}, Opened.{new_nic, new_app, new_apps, unseen}, Counts.{EndedWereReturned}}
 use Rattle.board_face.specs.{Holders.{ended_in}, Used.{HasFewPicks}, Returns.{AreReturns}, declared.views.{parts.Setting.{Setting}, app.AppSide.{AppSide}}}
-use Rattle.board_face.proofs.{Tallies.{weight}, MadeLastLemmas.{IsMadeLast-idle}}
+use Rattle.board_face.proofs.{Tallies.{one_if}, MadeLastLemmas.{IsMadeLast-idle}}
 use Rattle.board_face.proofs.OpenedLemmas.{all-alike, news, length-new_apps, numbered-new_apps, All-new, hands-new, count-new, users-new}
 use Rattle.board_face.proofs.OpenedLemmas.{FillingsFit-opened, IsFilledByOne-opened, ArePlaced-opened}
 use Rattle.zr_kinds.specs.declared.place.Place.{Place}
-use Rattle.ref_words.specs.{declared.view.View.{View}, Lines.{area_lines}, Words.{AreSlots, opened_words, free_list, free_word, listed_in, user_of, roles_of}}
+use Rattle.ref_words.specs.{declared.view.View.{View}, Lines.{area_lines}, Words.{AreSlots, opened_words, free_list, free_word, listed_bit, user_word_of, roles_of}}
 use Rattle.ref_words.specs.{Seated.{Seated, no_role, side_at}, Sides.{HasScrubLists, HasFreeReserve, IsDealtInOrder, IsTakenInOrder, HasNoneOwed, IsScrubbedSoFar}}
 use Rattle.ref_words.specs.{Rings.{slot_of, IsRing, AreLeft, left_for, AreRings, EntryFits, words_of_entry, words_of_note}, Rule.{RefRule}}
 use Rattle.word_rings.specs.Slots.{note_width, refill_width}
@@ -79,16 +79,16 @@ module _ (setting : Setting) where
   abbrev buffers : ℕ
   buffers = pool_buffers setting.layout
 
-  bit-set : (b : ℕ) → b < buffers → weight (listed_in (opened_words setting) b) ≡ 1
+  bit-set : (b : ℕ) → b < buffers → one_if (listed_bit (opened_words setting) b) ≡ 1
   bit-set b small =
       let j = b / word_bits in
       let there : j < free_words_of setting = omega arith in
       let bit : bit_at (get_or (free_list buffers (free_words_of setting)) j 0) (b % word_bits) ≡ 1 =
       ap (λ w. bit_at w (b % word_bits)) (free-at buffers (free_words_of setting) j there)
       ∙ bit_at_ones (min (buffers - word_bits * j) word_bits) (b % word_bits) (omega arith) in
-      ap (λ n. weight (n == 1)) bit
+      ap (λ n. one_if (n == 1)) bit
 
-  bit-free : (b : ℕ) → buffers ≤ b → weight (listed_in (opened_words setting) b) ≡ 0
+  bit-free : (b : ℕ) → buffers ≤ b → one_if (listed_bit (opened_words setting) b) ≡ 0
   bit-free b past =
       let j = b / word_bits in
       let bit : bit_at (get_or (free_list buffers (free_words_of setting)) j 0) (b % word_bits) ≡ 0 =
@@ -98,11 +98,11 @@ module _ (setting : Setting) where
       (λ beyond. ap (λ w. bit_at w (b % word_bits)) (get_or_past (free_list buffers (free_words_of setting)) j 0
       (omega (arith, beyond, length-free buffers (free_words_of setting)))) ∙ bit_at-zero (b % word_bits))
       (cases_lt j (free_words_of setting)) in
-      ap (λ n. weight (n == 1)) bit
+      ap (λ n. one_if (n == 1)) bit
 
   -- ---- the rule
 
-  user-zero : (n t a b : ℕ) → a < n → user_of (record (opened_words setting) { users = replicate n (replicate t 0) }) a b ≡ 0
+  user-zero : (n t a b : ℕ) → a < n → user_word_of (record (opened_words setting) { users = replicate n (replicate t 0) }) a b ≡ 0
   user-zero n t a b small = ap (λ row. get_or row b 0) (get_or-replicate n a (replicate t 0) [] small) ∙ all-alike t b 0
 
   -- in each ring nothing was written, and each slot is free
@@ -162,9 +162,9 @@ module _ (setting : Setting) where
     sizes = record {
       roles = length-replicate (roles_of setting) 0;
       phases = length-replicate (roles_of setting) 0;
-      pool = length-replicate (total setting.layout) 0;
-      users = length-replicate (apps_of setting) (replicate (total setting.layout) 0);
-      rows = All-replicate (λ row. length row ≡ total setting.layout) (apps_of setting) _ (length-replicate (total setting.layout) 0);
+      pool = length-replicate (all_buffers setting.layout) 0;
+      users = length-replicate (apps_of setting) (replicate (all_buffers setting.layout) 0);
+      rows = All-replicate (λ row. length row ≡ all_buffers setting.layout) (apps_of setting) _ (length-replicate (all_buffers setting.layout) 0);
       free = length-free buffers (free_words_of setting);
       area = length-replicate (area_lines setting.layout) (replicate 64 0);
       lines = All-replicate (λ line. length line ≡ 64) (area_lines setting.layout) _ (length-replicate {A = ℕ} 64 0);
@@ -181,14 +181,18 @@ module _ (setting : Setting) where
         others = All-new (λ app. app.view.setting ≡ setting) setting 0 (apps_of setting) (λ a. refl);
       };
       lists = All-new (HasScrubLists setting) setting 0 (apps_of setting)
-          (λ a. record { took = length-replicate (total setting.layout) 0; owes = length-replicate (total setting.layout) 0 });
+          (λ a. record { took = length-replicate (all_buffers setting.layout) 0; owes = length-replicate (all_buffers setting.layout) 0 });
       placed = λ b. ArePlaced-opened b setting apps (news setting 0 (apps_of setting));
       lines = λ b. AreByLine-opened b setting apps (news setting 0 (apps_of setting));
       by_one = λ b. IsFilledByOne-opened b setting apps (news setting 0 (apps_of setting));
       fit = FillingsFit-opened setting apps (news setting 0 (apps_of setting));
       made = IsMadeLast-idle (new_nic setting) apps refl;
       returned = λ b. All-new (EndedWereReturned b (new_nic setting)) setting 0 (apps_of setting)
-          (λ a. record { ended = omega (arith, all-alike (total setting.layout) b 0); returning = omega (arith, all-alike (total setting.layout) b 0) });
+          (λ a. record {
+            ended = omega (arith, all-alike (all_buffers setting.layout) b 0);
+            returning =
+                omega (arith, all-alike (all_buffers setting.layout) b 0);
+          });
       reserves = λ a app here. subst (HasFreeReserve (new_nic setting) apps) here.is
           (All-new (HasFreeReserve (new_nic setting) apps) setting 0 (apps_of setting) (λ n. record {
             unheld = λ e. absurd
@@ -219,7 +223,7 @@ module _ (setting : Setting) where
       notes = All-nil _;
       hand = λ inhand e. absurd (let none : ⊥ = cc in none);
       scrub = λ a app here.
-          let some : 0 < total setting.layout = omega (arith, here.there, length-new_apps setting 0 (apps_of setting)) in
+          let some : 0 < all_buffers setting.layout = omega (arith, here.there, length-new_apps setting 0 (apps_of setting)) in
           subst (IsScrubbedSoFar (new_nic setting)) here.is
           (All-new (IsScrubbedSoFar (new_nic setting)) setting 0 (apps_of setting)
           (λ n. record {
@@ -227,7 +231,7 @@ module _ (setting : Setting) where
             done = λ e. absurd (false≢true e);
             whole = λ e. absurd (omega (arith, e, some));
             taken = λ b less. absurd (omega (arith, less));
-            untaken = λ b past. all-alike (total setting.layout) b 0;
+            untaken = λ b past. all-alike (all_buffers setting.layout) b 0;
             quiet = λ less. absurd (omega (arith, less));
             loans = λ less. refl;
           }) a app here.there);
@@ -235,14 +239,14 @@ module _ (setting : Setting) where
           (All-new (λ x. x.view.scrubbed ≡ true → HasNoneOwed (new_nic setting) x) setting 0 (apps_of setting) (λ n e. absurd
           (false≢true e)) a app here.there);
     };
-    pool = λ b small. all-alike (total setting.layout) b 0 ∙ sym (count-new b setting (apps_of setting));
-    users = λ a b app small. user-zero (apps_of setting) (total setting.layout) a b app ∙ sym (users-new a b setting (apps_of setting));
+    pool = λ b small. all-alike (all_buffers setting.layout) b 0 ∙ sym (count-new b setting (apps_of setting));
+    users = λ a b app small. user-zero (apps_of setting) (all_buffers setting.layout) a b app ∙ sym (users-new a b setting (apps_of setting));
     free = record {
       pool = λ b small. omega (
         arith,
         bit-set b small,
         hands-new b setting 0 (apps_of setting),
-        ap (λ n. weight (n == 0)) (count-new b setting (apps_of setting)),
+        ap (λ n. one_if (n == 0)) (count-new b setting (apps_of setting)),
       );
       reserves = λ b past. omega (arith, bit-free b past, hands-new b setting 0 (apps_of setting));
     };

@@ -1,10 +1,10 @@
 -- A phase word is stored or loaded.
 use Rattle.std.proofs.{Common.{◌≡◌, ℕ, ◌<◌, Bool, true, false, set, get_or, length, refl, ◌∙◌, arith}, lemmas.List.{length-set}}
 use Rattle.board_face.specs.declared.views.parts.Setting.{Setting}
-use Rattle.ref_words.{specs.{Words.{Words, HasSizes, table_of, phase_at}, PhaseRule.{phase_word, with_phase}}, proofs.Laying.{group-word, group-set}}
+use Rattle.ref_words.{specs.{Words.{Words, WordsHaveSizes, table_of, phase_at}, PhaseRule.{phase_word, with_phase}}, proofs.Laying.{group-word, group-set}}
 use Rattle.ref_words.proofs.SlotSteps.{DifferInSlots}
 
-module _ (setting : Setting) (words : Words) (sizes : HasSizes setting words) where
+module _ (setting : Setting) (words : Words) (sizes : WordsHaveSizes setting words) where
   pub phase-word : (r : ℕ) → r < length words.phases → get_or (table_of words) (phase_at setting r) 0 ≡ get_or words.phases r 0
   phase-word r there = group-word setting words sizes 1 r (omega arith) there
 

@@ -2,15 +2,15 @@
 use Rattle.std.proofs.Common.{◌≡◌, ℕ, ◌+◌, ◌-◌, ◌<◌, ◌≤◌, Bool, List, length, get_or, drop, refl, ap, sym, ◌∙◌, arith, subst}
 use Rattle.std.{specs.Prelude.{◌==◌, ◌&&◌, nat_lt, if◌then◌else◌, Contains}, proofs.lemmas.{List.Elements.{All-contains}, Bool.{lt-ltb, le-ltb}}}
 use Rattle.zr_kinds.{specs.declared.ring.Rqe.{Rqe}, proofs.Booleans.{and-true}}
-use Rattle.area_layout.specs.Layout.{total, pool_buffers}
+use Rattle.area_layout.specs.Layout.{all_buffers, pool_buffers}
 use Rattle.board_face.specs.{AppEvents.{reserve_of}, Sides.{IsApp}, Opened.{new_app}}
 use Rattle.board_face.specs.Holders.{lowered_in_hand, returning_in_hand, ended_in, returning_count, returned_in, owed_in}
 use Rattle.board_face.specs.{Counts.{pool_count, user_count, EndedWereReturned}, Steps.{side_both_lowered}, declared.views.parts.Setting.{Setting}}
 use Rattle.board_face.specs.declared.views.{nic.{Judged.TheVariants.{UserLowered, BothLowered}, NicSide.{NicSide}}, app.AppSide.{AppSide}}
-use Rattle.board_face.proofs.{Tallies.{weight, total-agree}, Parts.{user_part, user_count-parts, loans_in, came_back_in}, NicLemmas.{pool_count-stretch}}
+use Rattle.board_face.proofs.{Tallies.{one_if, total-agree}, Parts.{user_part, user_count-parts, loans_in, came_back_in}, NicLemmas.{pool_count-stretch}}
 use Rattle.board_face.proofs.{ArePlacedLemmas.{ArePlaced-stretch}, MadeLastLemmas.{IsMadeLast-stretch}, IsFilledByOneLemmas.{IsFilledByOne-fewer}}
 use Rattle.board_face.proofs.{SideLemmas.{IsApp-at}, Counting.{weight-and, weight-other, weight-same}}
-use Rattle.ref_words.specs.{Words.{Words, pool_of, listed_in}, Sides.{IsInHand}, Rule.{RefRule}}
+use Rattle.ref_words.specs.{Words.{Words, pool_word_of, listed_bit}, Sides.{IsInHand}, Rule.{RefRule}}
 use Rattle.ref_words.proofs.{CardSteps.{AreReturns-owed, IsScrubbedSoFar-owed, HasNoneOwed-owed}, RingSteps.{rings-card}, Counting.{if_so-weight, and-false}}
 use Rattle.ref_words.proofs.{Frees.{AreFreeOnce-fewer, AreKept-card, cache-grows}, PoolSteps.{IsPoolStep}, Shutting.{last-is, free-gave_up}}
 use Rattle.ref_words.proofs.{InHand.{in_hand, some-is, if-none, same-if, other-if}, SideSteps.{in-area}, LineLemmas.{AreByLine-stretch}}
@@ -18,7 +18,7 @@ use Rattle.ref_words.proofs.{InHand.{in_hand, some-is, if-none, same-if, other-i
 module _ (setting : Setting) (words : Words) (nic : NicSide) (apps : List AppSide) (a : ℕ) (entry : Rqe) (b : ℕ) (rule : RefRule setting words nic apps)
     (at : nic.inside.entry ≡ in_hand a entry (UserLowered b)) where
   abbrev last : Bool
-  last = pool_of words b == 1
+  last = pool_word_of words b == 1
 
   abbrev now : NicSide
   now = side_both_lowered nic a entry b last
@@ -39,7 +39,7 @@ module _ (setting : Setting) (words : Words) (nic : NicSide) (apps : List AppSid
       (lowered_in_hand x.view.app c) at in
       omega (arith, was)
 
-  returns : (c : ℕ) (x : AppSide) → returning_count c now x + weight ((a == x.view.app) && (b == c)) ≡ returning_count c nic x
+  returns : (c : ℕ) (x : AppSide) → returning_count c now x + one_if ((a == x.view.app) && (b == c)) ≡ returning_count c nic x
   returns c x =
       let was : returning_in_hand x.view.app c nic.inside.entry ≡ returning_in_hand x.view.app c (in_hand a entry (UserLowered b)) = ap
       (returning_in_hand x.view.app c) at in
@@ -62,10 +62,10 @@ module _ (setting : Setting) (words : Words) (nic : NicSide) (apps : List AppSid
   sound-mine : (c : ℕ) → EndedWereReturned c nic app
   sound-mine c = subst (EndedWereReturned c nic) mine.is (sound c a app mine.there)
 
-  less : (c : ℕ) → pool_count c now apps + weight (b == c) ≡ pool_count c nic apps
+  less : (c : ℕ) → pool_count c now apps + one_if (b == c) ≡ pool_count c nic apps
   less c =
       let sound' : EndedWereReturned c now app = subst (EndedWereReturned c now) mine.is (sound-now c a app mine.there) in
-      pool_count-stretch c (weight (b == c)) nic now apps a app refl refl refl refl rule.sides.set.numbers mine
+      pool_count-stretch c (one_if (b == c)) nic now apps a app refl refl refl refl rule.sides.set.numbers mine
       (λ x ne. ends c x)
       (λ x ne. omega (arith, returns c x, other-if a x.view.app b c ne))
       (sound-mine c) sound' (omega (arith, ends c app, returns c app, same-if a app.view.app b c mine.number))
@@ -79,13 +79,13 @@ module _ (setting : Setting) (words : Words) (nic : NicSide) (apps : List AppSid
   owed : (c : ℕ) (x : AppSide) → length (owed_in c now x) ≡ length (owed_in c nic x)
   owed c x = ap (λ h. length (drop h (returned_in c x))) (ends c x)
 
-  there : b < total setting.layout
+  there : b < all_buffers setting.layout
   there = in-area rule.sides (known.lowered b refl)
 
-  counted : pool_count b now apps + 1 ≡ pool_of words b
+  counted : pool_count b now apps + 1 ≡ pool_word_of words b
   counted = omega (arith, rule.pool b there, less b, weight-same b)
 
-  pub enough : 1 ≤ pool_of words b
+  pub enough : 1 ≤ pool_word_of words b
   enough = let c = counted in omega arith
 
   small-before : (c : ℕ) (x : AppSide) → Contains apps x → returning_count c nic x ≤ ended_in c nic x
@@ -97,7 +97,7 @@ module _ (setting : Setting) (words : Words) (nic : NicSide) (apps : List AppSid
   later : (c : ℕ) (x : AppSide) → Contains apps x → ended_in c nic x + returning_count c now x ≤ ended_in c now x + returning_count c nic x
   later c x has = omega (arith, ends c x, returns c x)
 
-  pub step : IsPoolStep setting words nic now apps apps b (pool_of words b - 1)
+  pub step : IsPoolStep setting words nic now apps apps b (pool_word_of words b - 1)
   step = record {
     there = there;
     sides = record {
@@ -140,11 +140,11 @@ module _ (setting : Setting) (words : Words) (nic : NicSide) (apps : List AppSid
     here = let c = counted in omega arith;
     others = λ c other. omega (arith, less c, weight-other b c (λ e. other (sym e)));
     users = users-same;
-    free = AreFreeOnce-fewer (listed_in words) nic now apps apps b 1 came refl (omega arith)
+    free = AreFreeOnce-fewer (listed_bit words) nic now apps apps b 1 came refl (omega arith)
         (λ c. omega (arith, less c, if_so-weight (b == c)))
         (λ c. free-gave_up words nic apps b last came refl c now refl refl)
-        (λ small. and-true last _ (lt-ltb b (pool_buffers nic.view.setting.layout) small) ∙ last-is (pool_of words b) (pool_count b now apps) 1 counted)
+        (λ small. and-true last _ (lt-ltb b (pool_buffers nic.view.setting.layout) small) ∙ last-is (pool_word_of words b) (pool_count b now apps) 1 counted)
         (λ past. and-false last _ (le-ltb b (pool_buffers nic.view.setting.layout) past)) rule.free;
-    kept = AreKept-card (listed_in words) nic now apps refl refl refl (λ c. cache-grows came nic.view.cache b c) rule.kept;
+    kept = AreKept-card (listed_bit words) nic now apps refl refl refl (λ c. cache-grows came nic.view.cache b c) rule.kept;
     rings = rings-card setting words nic now apps refl refl refl refl rule.rings;
   }

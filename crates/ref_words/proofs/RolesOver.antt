@@ -9,7 +9,7 @@ use Rattle.board_face.specs.{Returns.{entries_on_way}, declared.views.{parts.Set
 use Rattle.board_face.{specs.declared.views.app.{WrittenEntry.{WrittenEntry}, AppSide.{AppSide}}, proofs.{SideLemmas.{IsApp-at}, Tallies.{tally, tally-flat}}}
 use Rattle.board_face.proofs.Parts.{nic_count, app_count, helds_in, spares_in, loans_in, notes_in, owed_count, owed-count, count-tally}
 use Rattle.board_face.proofs.{Parts.{length-nic_holders, length-app_holders, pool_count-parts}, Counting.{total-zero}}
-use Rattle.ref_words.specs.{Words.{Words, listed_in}, Over.{CardIsOver, AppIsOver}, PhaseRule.{IsAppPhased}, TextRule.{HasTexts}, Rule.{BoardRule}}
+use Rattle.ref_words.specs.{Words.{Words, listed_bit}, Over.{CardIsOver, AppIsOver}, PhaseRule.{IsAppPhased}, TextRule.{HasTexts}, Rule.{BoardRule}}
 
 -- what nothing is left of behind its first n was taken whole
 all-taken : {A B : Type 0} (f : A → B) (n : ℕ) (xs : List A) → drop n xs ≡ [] → take n (map f xs) ≡ map f xs
@@ -103,7 +103,7 @@ module _ (setting : Setting) (words : Words) (nic : NicSide) (apps : List AppSid
             total-zero (λ app. tally (nat_eq b) (hands app)) apps (λ k d there. ap (tally (nat_eq b)) (all k d there).hands),
           )
 
-      pub free-once : b < pool_buffers setting.layout → count_by (nat_eq b) nic.view.cache + (if listed_in words b then 1 else 0) ≡ 1
+      pub free-once : b < pool_buffers setting.layout → count_by (nat_eq b) nic.view.cache + (if listed_bit words b then 1 else 0) ≡ 1
       free-once within =
           let card : count_by (nat_eq b) nic.inside.hands ≡ 0 = rw over.hands refl in
           let of_pool = subst (λ s. b < pool_buffers s.layout) (sym rule.refs.sides.set.card) within in

@@ -2,7 +2,7 @@
 use Rattle.std.proofs.Common.{◌≡◌, ⊎_elim, ℕ, ◌+◌, ◌<◌, ◌≤◌, Bool, true, false, List, [], length, set, get_or, refl, ap, sym, ◌∙◌, arith, subst, length-drop, inl}
 use Rattle.std.{specs.Prelude.{◌≢◌, ◌==◌, if◌then◌else◌, nat_eq, slice_index}, proofs.lemmas.Bool.{cases_lt, false≢true, Decides.{eqb_tells}}}
 use Rattle.std.{proofs.lemmas.List.{length-set, get_or-set_same, get_or-set_other}, specs.Prelude.{All}}
-use Rattle.area_layout.specs.Layout.{total}
+use Rattle.area_layout.specs.Layout.{all_buffers}
 use Rattle.board_face.specs.{AppEvents.{reserve_of}, Sides.{IsApp}, Holders.{ended_in, returning_count, returned_in}}
 use Rattle.board_face.specs.{Counts.{pool_count, user_count, EndedWereReturned}, Used.{HasFewPicks}, Returns.{entries_on_way}, Steps.{side_user_taken}}
 use Rattle.board_face.specs.declared.views.{parts.Setting.{Setting}, nic.NicSide.{NicSide}, app.AppSide.{AppSide}}
@@ -10,7 +10,7 @@ use Rattle.board_face.proofs.{Parts.{user_part, owed_count, owed-count, loans_in
 use Rattle.board_face.proofs.{AppLemmas.{pool_count-app, user_count-app}, PlacesByEvent.{app_places-stretch}, ArePlacedLemmas.{ArePlaced-app}}
 use Rattle.board_face.proofs.{MadeLastLemmas.{IsMadeLast-app}, IsFilledByOneLemmas.{IsFilledByOne-app}, FillingsFitLemmas.{FillingsFit-same}}
 use Rattle.board_face.proofs.ListLemmas.{eqb_same, not-eqb}
-use Rattle.ref_words.{specs.{Words.{Words, user_of, listed_in}, Sides.{HasScrubLists}, Rings.{EntryFits}, Rule.{RefRule}}, proofs.RingSteps.{rings-app}}
+use Rattle.ref_words.{specs.{Words.{Words, user_word_of, listed_bit}, Sides.{HasScrubLists}, Rings.{EntryFits}, Rule.{RefRule}}, proofs.RingSteps.{rings-app}}
 use Rattle.ref_words.proofs.{Counting.{if_so}, Frees.{AreKept-app, free_places-hands}, SideSteps.{mine, own-setting, SidesRule-app, is-app}, UserSteps.{IsUserStep}}
 use Rattle.ref_words.proofs.{Judging.{own-users}, LineLemmas.{AreByLine-app}}
 
@@ -30,11 +30,11 @@ if-part true l m n e = absurd (let none : ⊥ = cc in none)
 if-part false l m n e = refl
 
 module _ (setting : Setting) (words : Words) (nic : NicSide) (apps : List AppSide) (a : ℕ) (app : AppSide) (b : ℕ)
-    (rule : RefRule setting words nic apps) (here : IsApp apps a app) (there : b < total setting.layout)
+    (rule : RefRule setting words nic apps) (here : IsApp apps a app) (there : b < all_buffers setting.layout)
     (next : app.inside.scrub_mark ≡ b) (quiet : app.view.quiet ≡ true)
     (lent : app.view.loans ≡ []) (counted : app.view.scrubbed ≡ false) where
   abbrev n : ℕ
-  n = user_of words a b
+  n = user_word_of words a b
 
   abbrev now : AppSide
   now = side_user_taken app b n
@@ -89,8 +89,8 @@ module _ (setting : Setting) (words : Words) (nic : NicSide) (apps : List AppSid
   owed-now : (c : ℕ) → owed_count c nic now + if_so (b == c) n ≡ owed_count c nic app
   owed-now c = omega (arith, took c, few c, returned_in-count c app)
 
-  layouts : total app.view.setting.layout ≡ total setting.layout
-  layouts = ap (λ s. total s.layout) (own-setting setting nic apps a app rule.sides here)
+  layouts : all_buffers app.view.setting.layout ≡ all_buffers setting.layout
+  layouts = ap (λ s. all_buffers s.layout) (own-setting setting nic apps a app rule.sides here)
 
   if-other : (c : ℕ) → b < c → if_so (b == c) n ≡ 0
   if-other c less = ap (λ x. if_so x n) (not-eqb b c (λ e. absurd (omega (arith, e, less))))
@@ -114,28 +114,28 @@ module _ (setting : Setting) (words : Words) (nic : NicSide) (apps : List AppSid
       below c less ne = ⊎_elim (λ small. omega (arith, small, next)) (λ past. absurd (ne (omega (arith, past, less)))) (cases_lt c b)
 
   -- nor of a number that is no buffer's
-  none-past : (c : ℕ) → total setting.layout ≤ c → owed_count c nic now ≡ 0
+  none-past : (c : ℕ) → all_buffers setting.layout ≤ c → owed_count c nic now ≡ 0
   none-past c past =
       let bare : AppSide = record app { view = record app.view { returned = [] } } in
       omega (
         arith,
         owed-now c,
         pool_count-app c nic apps a app bare here,
-        (rule.sides.by_one c).inside (omega (arith, past, ap (λ s. total s.layout) rule.sides.set.card)),
+        (rule.sides.by_one c).inside (omega (arith, past, ap (λ s. all_buffers s.layout) rule.sides.set.card)),
       )
 
-  all-below : nat_eq (b + 1) (total app.view.setting.layout) ≡ true → b + 1 ≡ total setting.layout
+  all-below : nat_eq (b + 1) (all_buffers app.view.setting.layout) ≡ true → b + 1 ≡ all_buffers setting.layout
   all-below e = ⊎_elim
       (λ t. t.1 ∙ layouts)
       (λ t. absurd (false≢true (sym t.0 ∙ e)))
-      (eqb_tells (b + 1) (total app.view.setting.layout))
+      (eqb_tells (b + 1) (all_buffers app.view.setting.layout))
 
-  none-anywhere : (c : ℕ) → b + 1 ≡ total setting.layout → owed_count c nic now ≡ 0
+  none-anywhere : (c : ℕ) → b + 1 ≡ all_buffers setting.layout → owed_count c nic now ≡ 0
   none-anywhere c whole =
       ⊎_elim
       (λ less. none-below c (omega (arith, less, whole)))
       (λ past. none-past c past)
-      (cases_lt c (total setting.layout))
+      (cases_lt c (all_buffers setting.layout))
 
   places-less : (c : ℕ) → ended_in c nic app + returning_count c nic now ≤ ended_in c nic now + returning_count c nic app
   places-less c = omega (arith, took c, owes c)
@@ -229,7 +229,7 @@ module _ (setting : Setting) (words : Words) (nic : NicSide) (apps : List AppSid
           done = λ e. ⊎_elim
               (λ t. t.1)
               (λ t. absurd (false≢true (sym t.0 ∙ e)))
-              (eqb_tells (b + 1) (total app.view.setting.layout));
+              (eqb_tells (b + 1) (all_buffers app.view.setting.layout));
           whole = λ e. subst (λ m. (b + 1 == m) ≡ true) e (eqb_same (b + 1));
           taken = λ c less. omega (arith, owed-count c nic now, none-below c less);
           untaken = λ c past.
@@ -246,7 +246,7 @@ module _ (setting : Setting) (words : Words) (nic : NicSide) (apps : List AppSid
     here = sym none-now;
     others = others-same;
     pool = same_pool;
-    free = λ c. omega (arith, free_places-hands (listed_in words) c nic apps a app now here);
-    kept = AreKept-app (listed_in words) nic apps a app now here refl rule.kept;
+    free = λ c. omega (arith, free_places-hands (listed_bit words) c nic apps a app now here);
+    kept = AreKept-app (listed_bit words) nic apps a app now here refl rule.kept;
     rings = rings-app setting words nic apps a app now here refl refl refl refl refl refl refl rule.rings;
   }

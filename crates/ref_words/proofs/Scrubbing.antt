@@ -2,21 +2,21 @@
 use Rattle.std.proofs.Common.{◌≡◌, ⊎_elim, ℕ, ◌+◌, ◌-◌, ◌<◌, ◌≤◌, Bool, List, length, set, get_or, refl, ap, sym, ◌∙◌, arith}
 use Rattle.std.{specs.Prelude.{◌≢◌, ◌==◌, ◌&&◌, nat_lt, slice_index}, proofs.lemmas.Bool.{lt-ltb, le-ltb, cases_lt, Decides.{eqb_tells}}}
 use Rattle.std.proofs.lemmas.List.{length-set, get_or_past, get_or-set_same, get_or-set_other}
-use Rattle.area_layout.specs.Layout.{total, pool_buffers}
+use Rattle.area_layout.specs.Layout.{all_buffers, pool_buffers}
 use Rattle.board_face.specs.{AppEvents.{reserve_of}, Sides.{IsApp}, Counts.{pool_count, EndedWereReturned}, declared.views.parts.Setting.{Setting}}
 use Rattle.board_face.{specs.{declared.views.{nic.NicSide.{NicSide}, app.AppSide.{AppSide}}, Steps.{side_owes_lowered}}, proofs.NicLemmas.{app_count-stretch}}
 use Rattle.board_face.proofs.{AppLemmas.{pool_count-app, user_count-app}, PlacesByEvent.{app_places-stretch}, ArePlacedLemmas.{ArePlaced-app}}
 use Rattle.board_face.proofs.{MadeLastLemmas.{IsMadeLast-app}, IsFilledByOneLemmas.{IsFilledByOne-app}, FillingsFitLemmas.{FillingsFit-same}}
-use Rattle.ref_words.{specs.{Words.{Words, pool_of, listed_in}, Rule.{RefRule}}, proofs.{RingSteps.{rings-app}, Counting.{if_so, and-false}}}
+use Rattle.ref_words.{specs.{Words.{Words, pool_word_of, listed_bit}, Rule.{RefRule}}, proofs.{RingSteps.{rings-app}, Counting.{if_so, and-false}}}
 use Rattle.ref_words.proofs.{Frees.{AreFreeOnce-fewer, AreKept-app, free_places-hands}, SideSteps.{own-was, mine, own-setting, SidesRule-app}, PoolSteps.{IsPoolStep}}
 use Rattle.ref_words.proofs.{Shutting.{last-is}, Releasing.{hands-case}, LineLemmas.{AreByLine-app}}
 use Rattle.zr_kinds.proofs.Booleans.{and-true}
 
 module _ (setting : Setting) (words : Words) (nic : NicSide) (apps : List AppSide) (a : ℕ) (app : AppSide) (b n : ℕ)
-    (rule : RefRule setting words nic apps) (here : IsApp apps a app) (there : b < total setting.layout)
+    (rule : RefRule setting words nic apps) (here : IsApp apps a app) (there : b < all_buffers setting.layout)
     (owes : slice_index app.inside.scrub_owes b ≡ n) (some : 0 < n) where
   abbrev last : Bool
-  last = pool_of words b == n
+  last = pool_word_of words b == n
 
   abbrev now : AppSide
   now = side_owes_lowered app b last
@@ -67,10 +67,10 @@ module _ (setting : Setting) (words : Words) (nic : NicSide) (apps : List AppSid
   same-n : if_so (b == b) n ≡ n
   same-n = omega (arith, owes-now b, owes, get_or-set_same app.inside.scrub_owes b 0 0 listed)
 
-  counted : pool_count b nic apps' + n ≡ pool_of words b
+  counted : pool_count b nic apps' + n ≡ pool_word_of words b
   counted = omega (arith, rule.pool b there, less b, same-n)
 
-  pub enough : n ≤ pool_of words b
+  pub enough : n ≤ pool_word_of words b
   enough = let c = counted in omega arith
 
   pools : pool_buffers app.view.setting.layout ≡ pool_buffers nic.view.setting.layout
@@ -79,7 +79,7 @@ module _ (setting : Setting) (words : Words) (nic : NicSide) (apps : List AppSid
   none-other : (c : ℕ) → c ≢ b → if_so (b == c) n ≡ 0
   none-other c other = ⊎_elim (λ t. absurd (other (sym t.1))) (λ t. ap (λ x. if_so x n) t.0) (eqb_tells b c)
 
-  pub step : IsPoolStep setting words nic nic apps apps' b (pool_of words b - n)
+  pub step : IsPoolStep setting words nic nic apps apps' b (pool_word_of words b - n)
   step = record {
     there = there;
     sides = SidesRule-app setting nic apps a app rule.sides here now (record {
@@ -104,11 +104,11 @@ module _ (setting : Setting) (words : Words) (nic : NicSide) (apps : List AppSid
     here = let c = counted in omega arith;
     others = λ c other. omega (arith, less c, none-other c other);
     users = λ x c. omega (arith, user_count-app x c nic apps a app now here);
-    free = AreFreeOnce-fewer (listed_in words) nic nic apps apps' b n came refl some less
-        (λ c. omega (arith, free_places-hands (listed_in words) c nic apps a app now here, hands-case came app.inside.hands b c))
+    free = AreFreeOnce-fewer (listed_bit words) nic nic apps apps' b n came refl some less
+        (λ c. omega (arith, free_places-hands (listed_bit words) c nic apps a app now here, hands-case came app.inside.hands b c))
         (λ small. and-true last _ (lt-ltb b (pool_buffers app.view.setting.layout) (omega (arith, small, pools)))
-        ∙ last-is (pool_of words b) (pool_count b nic apps') n counted)
+        ∙ last-is (pool_word_of words b) (pool_count b nic apps') n counted)
         (λ past. and-false last _ (le-ltb b (pool_buffers app.view.setting.layout) (omega (arith, past, pools)))) rule.free;
-    kept = AreKept-app (listed_in words) nic apps a app now here refl rule.kept;
+    kept = AreKept-app (listed_bit words) nic apps a app now here refl rule.kept;
     rings = rings-app setting words nic apps a app now here refl refl refl refl refl refl refl rule.rings;
   }

@@ -6,7 +6,7 @@ use mathlib.Core.Logic.{dite}
 use native.Mathlib.Decide.{ℕ_discrete}
 use lib.ListN.{get_elem?}
 use Rattle.atomic_table.proofs.Lists.{at_set, at_snoc, set_else}
-use Rattle.board_face.proofs.{ListLemmas.{eqb_same, not-eqb}, Tallies.{weight, weight-le}}
+use Rattle.board_face.proofs.{ListLemmas.{eqb_same, not-eqb}, Tallies.{one_if, one_if-le}}
 use Rattle.ref_words.specs.{declared.view.View.{View}, Seated.{times_in, times_taken, AreTaken, AreDealt, dealt_out, due_view, no_role, both_sides}}
 
 module _ {V S : Type 0} (sides : V → List S) (number : S → ℕ) where
@@ -28,8 +28,8 @@ module _ {V S : Type 0} (sides : V → List S) (number : S → ℕ) where
   in-at : (ss : List S) (m : ℕ) (s : S) → get_elem? ss m ≡ some s → 1 ≤ times_in sides number (number s) ss
   in-at [] m s e = absurd (some-ne-none s (sym e))
   in-at (x ∷ xs) zero s e =
-      let same : weight (number x == number s) ≡ weight (number s == number s) = ap (λ u. weight (number u == number s)) (some-injective x s e) in
-      omega (arith, same, ap weight (eqb_same (number s)))
+      let same : one_if (number x == number s) ≡ one_if (number s == number s) = ap (λ u. one_if (number u == number s)) (some-injective x s e) in
+      omega (arith, same, ap one_if (eqb_same (number s)))
   in-at (x ∷ xs) (suc m) s e = omega (arith, in-at xs m s e)
 
   taken-two : (k : ℕ) (views : List V) (i j : ℕ) (v u : V) → i ≢ j → get_elem? views i ≡ some v → get_elem? views j ≡ some u
@@ -60,7 +60,7 @@ module _ {V S : Type 0} (sides : V → List S) (number : S → ℕ) where
   at-append (x ∷ xs) ys (suc m) t e = ⊎_elim (λ h. inl (suc h.0, h.1)) (λ h. inr h) (at-append xs ys m t e)
 
   one-in : (k : ℕ) (s : S) (ss : List S) → ss ≡ s ∷ [] → number s ≡ k → times_in sides number k ss ≡ 1
-  one-in k s ss e is = ap (times_in sides number k) e ∙ omega (arith, ap weight (ap (λ n. n == k) is ∙ eqb_same k))
+  one-in k s ss e is = ap (times_in sides number k) e ∙ omega (arith, ap one_if (ap (λ n. n == k) is ∙ eqb_same k))
 
   none-in : (k : ℕ) (ss : List S) → ss ≡ [] → times_in sides number k ss ≡ 0
   none-in k ss e = ap (times_in sides number k) e
@@ -91,7 +91,7 @@ module _ {V S : Type 0} (sides : V → List S) (number : S → ℕ) where
     moves side' id v w s s' at one one' same now others =
         let bound = (taken.has id zero v s at (head-at (sides v) s one)).0 in
         let in_v : (k : ℕ) → times_in sides number k (sides w) ≡ times_in sides number k (sides v) = λ k. ap (times_in sides number k) one'
-        ∙ (ap (λ n. weight (n == k) + 0) same ∙ sym (ap (times_in sides number k) one)) in
+        ∙ (ap (λ n. one_if (n == k) + 0) same ∙ sym (ap (times_in sides number k) one)) in
         record {
           told = λ k small. omega (arith, taken.told k small, taken-set k views id v w at, in_v k);
           once = taken.once;
@@ -146,7 +146,7 @@ module _ {V S : Type 0} (sides : V → List S) (number : S → ℕ) where
           (λ (ne : j ≢ k).
           let not_here : times_in sides number j (sides w) ≡ 0 = ap (times_in sides number j) one ∙ omega (
             arith,
-            ap weight (ap (λ n. n == j) is
+            ap one_if (ap (λ n. n == j) is
                 ∙ not-eqb k j (λ e. ne (sym e))),
           ) in
           omega (arith, taken.told j small, taken-set j views id v w at, none-in j (sides v) none, not_here, others j small ne));
@@ -291,7 +291,7 @@ module _ (roles : List ℕ) (views : List View) (dealt : AreDealt roles views) w
             ))
             (λ (ne : x ≢ r).
             let other : times_in (λ (v : View). v.due) (λ x. x) x v.due ≡ 0 = ap (times_in {V = View} (λ v. v.due) (λ x. x) x) one
-            ∙ omega (arith, ap weight (not-eqb r x (λ e. ne (sym e)))) in
+            ∙ omega (arith, ap one_if (not-eqb r x (λ e. ne (sym e)))) in
             omega (arith, due, out', same, gone, before, other, get_or-set_other roles r x 1 0 ne));
         once = λ x small. (deal-rests' x (omega (arith, small, many)));
         desk = λ i u at' ne.
@@ -336,8 +336,8 @@ module _ (roles : List ℕ) (views : List View) (dealt : AreDealt roles views) w
             (λ x. x) n v.dealt ≡ 0) e fresh in
             let alone : times_taken (λ v. v.dealt) (λ x. x) x views ≡ times_in (λ (v : View). v.dealt)
             (λ x. x) x v.dealt = only-desk x views v at dealt.desk in
-            omega (arith, more, push, set', none, alone, weight-le (r == x)))
-            (λ (ne : r ≢ x). omega (arith, more, push, set', dealt.once x small, ap weight (not-eqb r x ne)));
+            omega (arith, more, push, set', none, alone, one_if-le (r == x)))
+            (λ (ne : r ≢ x). omega (arith, more, push, set', dealt.once x small, ap one_if (not-eqb r x ne)));
         desk = λ i u at' ne.
             ⊎_elim
             (λ (h : get_elem? tail i ≡ some u).

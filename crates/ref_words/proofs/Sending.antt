@@ -11,7 +11,7 @@ use Rattle.board_face.proofs.NicLemmas.{pool_count-sent, pool_count-sent_linear,
 use Rattle.board_face.proofs.{ArePlacedLemmas.{ArePlaced-sent, ArePlaced-sent_linear}, IsFilledByOneLemmas.{IsFilledByOne-sent, IsFilledByOne-sent_linear}}
 use Rattle.board_face.proofs.{MadeLastLemmas.{IsMadeLast-sent, IsMadeLast-sent_linear}, SideLemmas.{IsApp-at}}
 use Rattle.word_rings.specs.Slots.{note_body}
-use Rattle.ref_words.specs.{Words.{Words, listed_in, with_note}, Rings.{NoteFits, words_of_note, note_so_far, writes_note_at}, Sides.{IsTakenInOrder}, Rule.{RefRule}}
+use Rattle.ref_words.specs.{Words.{Words, listed_bit, with_note}, Rings.{NoteFits, words_of_note, note_so_far, writes_note_at}, Sides.{IsTakenInOrder}, Rule.{RefRule}}
 use Rattle.ref_words.proofs.{RingSteps.{AllRings}, RingMoves.{slot-here, slot-other, rings-parts}, SlotWords.{ring-here, ring-other, differ-note}}
 use Rattle.ref_words.proofs.{SlotSteps.{DifferInSlots, RefRule-slot}, CardSteps.{SidesRule-card}, Frees.{AreKept-card}, Writing.{take-mapped}}
 use Rattle.ref_words.proofs.Ringing as ringing
@@ -134,7 +134,7 @@ module _ (setting : Setting) (words : Words) (nic : NicSide) (apps : List AppSid
           pool = is.pools;
           users = λ x b. user_count-nic x b nic (record nic.view { pieces = v.pieces; sent = nic.view.sent ++ s ∷ [] }) apps refl;
           free = λ b. refl;
-          kept = AreKept-card (listed_in words) nic like apps refl refl refl (λ b. omega arith) rule.kept;
+          kept = AreKept-card (listed_bit words) nic like apps refl refl refl (λ b. omega arith) rule.kept;
           rings = rings-then;
         }))
 

@@ -2,7 +2,7 @@
 use Rattle.std.proofs.Common.{◌≡◌, ⊎_elim, ℕ, ◌<◌, ◌≤◌, true, List, [], ◌∷◌, length, set, get_or, ap, refl, sym, ◌∙◌, arith, subst, inr}
 use Rattle.std.{specs.Prelude.{◌≢◌, ◌⊎◌, All}, proofs.lemmas.{List.{length-set, get_or-set_same, get_or-set_other, Elements.{All-set}}, Bool.Decides.{eqb_tells}}}
 use Rattle.zr_kinds.specs.declared.ring.Rqe.{Rqe}
-use Rattle.area_layout.specs.Layout.{pool_buffers, total}
+use Rattle.area_layout.specs.Layout.{pool_buffers, all_buffers}
 use Rattle.board_face.specs.{AppEvents.{reserve_of}, Sides.{IsApp}, Holders.{ended_in, returned_in}, Counts.{pool_count, EndedWereReturned}}
 use Rattle.board_face.specs.{Places.{ArePlaced, IsMadeLast}, Fillings.{IsFilledByOne, FillingsFit}, Used.{HasFewPicks}, Returns.{AreReturns, entries_on_way}}
 use Rattle.board_face.{specs.declared.views.{parts.Setting.{Setting}, nic.NicSide.{NicSide}, app.AppSide.{AppSide}}, proofs.SideLemmas.{AreNumbered-set}}
@@ -49,9 +49,9 @@ pub is-app : {setting : Setting} {nic : NicSide} {apps : List AppSide} {a : ℕ}
     → a < apps_of setting
 is-app rule here = let h = here.there in omega (arith, rule.set.many)
 
-pub in-area : {setting : Setting} {nic : NicSide} {apps : List AppSide} {b : ℕ} → SidesRule setting nic apps → b < total nic.view.setting.layout
-    → b < total setting.layout
-in-area rule within = omega (arith, ap (λ s. total s.layout) rule.set.card)
+pub in-area : {setting : Setting} {nic : NicSide} {apps : List AppSide} {b : ℕ} → SidesRule setting nic apps → b < all_buffers nic.view.setting.layout
+    → b < all_buffers setting.layout
+in-area rule within = omega (arith, ap (λ s. all_buffers s.layout) rule.set.card)
 
 module _ (setting : Setting) (nic : NicSide) (apps : List AppSide) (a : ℕ) (app : AppSide) (rule : SidesRule setting nic apps) (here : IsApp apps a app) where
   -- what holds of all applications holds of this one

@@ -2,16 +2,16 @@
 use Rattle.std.{proofs.Common.{◌≡◌, ℕ, ◌/◌, ◌%◌, List, [], get_or, refl, ap, sym, ◌∙◌, subst}, specs.{Prelude.{◌==◌}, Int.{bit_at}}}
 use Rattle.board_face.specs.{Counts.{pool_count, user_count}, FreeOnce.{free_places, AreFreeOnce}, NicEvents.{word_bits}, Used.{AreKept}}
 use Rattle.board_face.specs.declared.views.{parts.Setting.{Setting}, nic.NicSide.{NicSide}, app.AppSide.{AppSide}}
-use Rattle.ref_words.{specs.{Words.{Words, HasSizes, listed_in}, Sides.{SidesRule}, Rule.{RefRule}}, proofs.{RingSteps.{AllRings}, UserSteps.{AreFreeOnce-same}}}
+use Rattle.ref_words.{specs.{Words.{Words, WordsHaveSizes, listed_bit}, Sides.{SidesRule}, Rule.{RefRule}}, proofs.{RingSteps.{AllRings}, UserSteps.{AreFreeOnce-same}}}
 
 -- the words differ in slots or in the area alone
 pub record DifferInSlots (setting : Setting) (words words' : Words) : Type 0 where
-  pub sizes : HasSizes setting words'
+  pub sizes : WordsHaveSizes setting words'
   pub pool : words'.pool ≡ words.pool
   pub users : words'.users ≡ words.users
   pub free : words'.free ≡ words.free
 
-pub no-word : (setting : Setting) (words : Words) → HasSizes setting words → DifferInSlots setting words words
+pub no-word : (setting : Setting) (words : Words) → WordsHaveSizes setting words → DifferInSlots setting words words
 no-word setting words sizes = record { sizes = sizes; pool = refl; users = refl; free = refl }
 
 -- What is to be known of the sides after the step.
@@ -19,8 +19,8 @@ pub record IsSlotStep (setting : Setting) (words words' : Words) (nic now : NicS
   pub sides : SidesRule setting now apps'
   pub pool : (b : ℕ) → pool_count b now apps' ≡ pool_count b nic apps
   pub users : (a b : ℕ) → user_count a b now apps' ≡ user_count a b nic apps
-  pub free : (b : ℕ) → free_places (listed_in words) b now apps' ≡ free_places (listed_in words) b nic apps
-  pub kept : AreKept (listed_in words) now apps'
+  pub free : (b : ℕ) → free_places (listed_bit words) b now apps' ≡ free_places (listed_bit words) b nic apps
+  pub kept : AreKept (listed_bit words) now apps'
   pub rings : AllRings setting words' now apps'
 
 pub RefRule-slot : (setting : Setting) (words words' : Words) (nic now : NicSide) (apps apps' : List AppSide) → RefRule setting words nic apps

@@ -3,7 +3,7 @@ use Rattle.std.{proofs.Common.{◌≡◌, ℕ, ◌<◌, List, [], length, set, g
 use Rattle.std.proofs.lemmas.List.{length-set, get_or-set_same, get_or-set_other, Elements.{All-set}}
 use Rattle.board_face.specs.{NicCalls.{apps_of}, declared.views.parts.Setting.{Setting}}
 use Rattle.word_rings.specs.Slots.{note_width, refill_width}
-use Rattle.ref_words.{proofs.SlotSteps.{DifferInSlots}, specs.Words.{Words, HasSizes, AreSlots, with_word, with_slot_word, with_refill, with_note}}
+use Rattle.ref_words.{proofs.SlotSteps.{DifferInSlots}, specs.Words.{Words, WordsHaveSizes, AreSlots, with_word, with_slot_word, with_refill, with_note}}
 
 module _ (rings : List (List (List ℕ))) (a s i n : ℕ) where
   -- the ring in which it changes, and the others
@@ -25,7 +25,7 @@ module _ (rings : List (List (List ℕ))) (a s i n : ℕ) where
             (length-set slot i n ∙ ring.wide s [] (omega (arith, small, ring.many))) ring.wide;
       }) all
 
-module _ (setting : Setting) (w : Words) (sizes : HasSizes setting w) (a s i n : ℕ) (app : a < apps_of setting) (small : s < setting.places) where
+module _ (setting : Setting) (w : Words) (sizes : WordsHaveSizes setting w) (a s i n : ℕ) (app : a < apps_of setting) (small : s < setting.places) where
   -- no other word changes
   pub differ-refill : DifferInSlots setting w (with_refill w a s i n)
   differ-refill =

@@ -12,7 +12,8 @@ use Rattle.board_face.specs.declared.views.app.{AppInside.{AppInside}, LentPiece
 use Rattle.board_face.{specs.declared.views.app.{SpareOwn.{SpareOwn}, AppSide.{AppSide}}, proofs.ListLemmas.{All-without, same_filling-is}}
 use Rattle.board_face.proofs.TextsByEvent.{AppIsShown-same, AppIsShown-cut, AppIsShown-released, AppIsShown-lent, AppIsShown-lent_own, AppIsShown-ended}
 use Rattle.board_face.proofs.AreShownLemmas.{AppIsShown-spare_begun}
-use Rattle.ref_words.{specs.{Lines.{byte_in}, Sides.{SidesRule}, TextRule.{IsAtHand, IsOfSpare, IsOfLoan, HasTexts, AreTexts}}, proofs.ScrubTaking.{raised-at}}
+use Rattle.ref_words.specs.{Lines.{byte_in_area}, Sides.{SidesRule}, TextRule.{IsAtHand, IsOfSpare, IsReadFromLoan, HasTexts, AreTexts}}
+use Rattle.ref_words.proofs.ScrubTaking.{raised-at}
 
 -- What an application fills and has out, and what it read, stay.
 pub record LeavesOwnTexts (app now : AppSide) : Type 0 where
@@ -30,13 +31,13 @@ module _ (layout : Shape) (area : List (List ℕ)) (nic : NicSide) (app now : Ap
       → All (λ (s : SpareOwn). s.own.start ≡ 0 → s.bytes ≡ []) now.view.owns
       → now.view.reads ≡ app.view.reads → HasTexts layout area nic app → HasTexts layout area nic now
   HasTexts-app number same spares loans unfilled reads has = record {
-    making = subst (λ m. IfSome m (λ making. IsAtHand layout making × (IsOfSpare now making ⊎ IsOfLoan layout area now making))) (sym same)
+    making = subst (λ m. IfSome m (λ making. IsAtHand layout making × (IsOfSpare now making ⊎ IsReadFromLoan layout area now making))) (sym same)
         (IfSome_then app.inside.making has.making (λ making is. (is.0, of making is.1)));
     unfilled = unfilled;
     reads = rw (number, reads) has.reads;
   }
     where
-      of : (making : Making) → IsOfSpare app making ⊎ IsOfLoan layout area app making → IsOfSpare now making ⊎ IsOfLoan layout area now making
+      of : (making : Making) → IsOfSpare app making ⊎ IsReadFromLoan layout area app making → IsOfSpare now making ⊎ IsReadFromLoan layout area now making
       of making (inl is) = inl (record { own = is.own; out = spares is.own is.begin is.out; begin = is.begin; place = is.place; unknown = is.unknown })
       of making (inr is) = inr (record {
         loan = is.loan;
@@ -61,7 +62,7 @@ module _ (layout : Shape) (area : List (List ℕ)) (nic : NicSide) (app now : Ap
 module _ (setting : Setting) (area : List (List ℕ)) (nic : NicSide) (apps : List AppSide) (a : ℕ) (app now : AppSide) (here : IsApp apps a app)
     (sides : SidesRule setting nic (set apps a now)) where
   abbrev byte : ℕ → ℕ → ℕ
-  byte = byte_in setting.layout area
+  byte = byte_in_area setting.layout area
 
   pub AreTexts-app : (AppIsShown byte nic app → AppIsShown byte nic now)
       → (HasTexts setting.layout area nic app → HasTexts setting.layout area nic now)
@@ -128,7 +129,7 @@ longer loans one loan out = subst (λ places. Contains places loan) (sym (map-ap
 module _ (setting : Setting) (area : List (List ℕ)) (nic : NicSide) (apps : List AppSide) (a : ℕ) (app : AppSide) (here : IsApp apps a app)
     (texts : AreTexts setting.layout area nic apps) where
   abbrev bytes : ℕ → ℕ → ℕ
-  bytes = byte_in setting.layout area
+  bytes = byte_in_area setting.layout area
 
   pub texts-cut : (place : Place) (at : ℕ) → HasHeld app.view place → at < place.len
       → SidesRule setting nic (set apps a (app_at app (cut app.view place at)))

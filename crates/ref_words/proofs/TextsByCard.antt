@@ -7,7 +7,7 @@ use Rattle.board_face.specs.{Holders.{ended_in, lowered_in_hand}, Shown.{AppIsSh
 use Rattle.board_face.specs.{Steps.{side_begun, side_shut, side_judged, side_user_lowered, side_both_lowered}, declared.views.parts.Setting.{Setting}}
 use Rattle.board_face.specs.declared.views.{parts.Filling.{Filling}, nic.{Judged.TheVariants.{Not, Owed, UserLowered}, NicSide.{NicSide}}, app.AppSide.{AppSide}}
 use Rattle.board_face.proofs.{TextsByEvent.{AppIsShown-ended}, FillingsFitLemmas.{FillingsFit-own}}
-use Rattle.ref_words.{specs.{Lines.{byte_in}, Sides.{SidesRule}, TextRule.{IsInMaking, HasTexts, AreTexts}}, proofs.InHand.{in_hand, if-none}}
+use Rattle.ref_words.{specs.{Lines.{byte_in_area}, Sides.{SidesRule}, TextRule.{IsInMaking, HasTexts, AreTexts}}, proofs.InHand.{in_hand, if-none}}
 
 -- Neither pieces nor notes change, and no loan that was ended is owed again.
 pub record LeavesTexts (nic now : NicSide) : Type 0 where
@@ -25,7 +25,7 @@ module _ (setting : Setting) (area : List (List ℕ)) (nic now : NicSide) (apps 
   pub AreTexts-moved : LeavesTexts nic now → IfSome now.inside.making (IsInMaking setting.layout) → AreTexts setting.layout area nic apps
       → AreTexts setting.layout area now apps
   AreTexts-moved leaves made texts =
-      let byte = byte_in setting.layout area in
+      let byte = byte_in_area setting.layout area in
       record {
         shown = record {
           card = record { pieces = rw leaves.pieces texts.shown.card.pieces };

@@ -6,7 +6,7 @@ use Rattle.board_face.specs.{AppCalls.{HasLoan}, AppEvents.{app_saw, told_end, a
 use Rattle.board_face.specs.declared.views.{parts.Setting.{Setting}, nic.NicSide.{NicSide}, app.{AppInside.{AppInside}, AppLook.TheVariants.{NoNote}}}
 use Rattle.board_face.{specs.declared.views.app.{AppView.{AppView}, AppSide.{AppSide}}, proofs.AppLemmas.{SameHoldings}}
 use Rattle.board_face.proofs.TextsByEvent.{AppIsShown-same, AppIsShown-abandoned}
-use Rattle.ref_words.specs.{Lines.{byte_in}, FreeSteps.{side_swept, side_nic_listed, side_app_listed, side_word_looked, side_bit_cleared}}
+use Rattle.ref_words.specs.{Lines.{byte_in_area}, FreeSteps.{side_swept, side_nic_listed, side_app_listed, side_word_looked, side_bit_cleared}}
 use Rattle.ref_words.specs.PhaseSteps.{side_ended, side_leave_looked, side_left, side_end_looked, side_note_sought, side_reserve_looked, side_abandoned}
 use Rattle.ref_words.specs.{RestSteps.{side_raw_looked, side_any_looked, side_last_looked}, Sides.{SidesRule}, TextRule.{AreTexts}}
 use Rattle.ref_words.proofs.{TextsByCard.{AreTexts-card}, TextsByApp.{LeavesOwnTexts, HasTexts-left, HasTexts-idle, AreTexts-app, AppIsShown-inside}}
@@ -37,7 +37,7 @@ module _ (setting : Setting) (area : List (List ℕ)) (nic : NicSide) (apps : Li
 module _ (setting : Setting) (area : List (List ℕ)) (nic : NicSide) (apps : List AppSide) (a : ℕ) (app : AppSide) (here : IsApp apps a app)
     (texts : AreTexts setting.layout area nic apps) where
   abbrev byte : ℕ → ℕ → ℕ
-  byte = byte_in setting.layout area
+  byte = byte_in_area setting.layout area
 
   -- what it has out, filled and read stays, and what a scrub took
   stays : (v : AppView) (inside : AppInside) → SameHoldings app.view v → LeavesOwnTexts app (record { view = v; inside = inside })

@@ -11,10 +11,10 @@ use Rattle.board_face.specs.SlotSteps.{side_sent, side_sent_linear, side_slot_lo
 use Rattle.board_face.specs.declared.views.{parts.Setting.{Setting}, nic.{Dealt.{Dealt}, Fate.{Fate, TheVariants.{Honoured, Stray}}, Judged.{Judged}}}
 use Rattle.board_face.specs.declared.views.nic.{Judged.TheVariants.{Not, Stray as judged_stray, BothLowered}, NicSide.{NicSide}, SentNote.{SentNote}, NicView.{NicView}}
 use Rattle.board_face.{specs.declared.views.app.{WrittenEntry.{WrittenEntry}, AppSide.{AppSide}}, proofs.Parts.{count-tally}}
-use Rattle.board_face.proofs.{RelayLemmas.{Relayed-sent, Relayed-sent_other}, SideLemmas.{IsApp-at}, Tallies.{weight, tally-push}}
+use Rattle.board_face.proofs.{RelayLemmas.{Relayed-sent, Relayed-sent_other}, SideLemmas.{IsApp-at}, Tallies.{one_if, tally-push}}
 use Rattle.board_face.proofs.TextsByEvent.{AppIsShown-same, AppIsShown-took_note, AppIsShown-took_linear, AppIsShown-ended}
 use Rattle.board_face.{proofs.{AreShownLemmas.{AppIsShown-gave, AreShown-sent, AreShown-sent_linear}, Counting.{weight-and}}, specs.Laws.{IsNextNote}}
-use Rattle.ref_words.specs.{Words.{Words}, Lines.{byte_in}, Sides.{SidesRule, IsTakenInOrder, IsDealtInOrder}, Rule.{RefRule}, TextRule.{AreTexts}}
+use Rattle.ref_words.specs.{Words.{Words}, Lines.{byte_in_area}, Sides.{SidesRule, IsTakenInOrder, IsDealtInOrder}, Rule.{RefRule}, TextRule.{AreTexts}}
 use Rattle.ref_words.proofs.{InHand.{in_hand, if-none}, TextsByCard.{ends-in-hand, AreTexts-card}}
 use Rattle.ref_words.proofs.TextsByApp.{HasTexts-left, HasTexts-idle, AreTexts-app, AppIsShown-inside}
 
@@ -23,7 +23,7 @@ use Rattle.ref_words.proofs.TextsByApp.{HasTexts-left, HasTexts-idle, AreTexts-a
 module _ (setting : Setting) (area : List (List ℕ)) (nic : NicSide) (apps : List AppSide) (a : ℕ) (app : AppSide) (here : IsApp apps a app)
     (texts : AreTexts setting.layout area nic apps) where
   abbrev byte : ℕ → ℕ → ℕ
-  byte = byte_in setting.layout area
+  byte = byte_in_area setting.layout area
 
   -- a look at a slot, or a word stored or loaded there
   seen : (now : AppSide) → now ≡ record {
@@ -146,7 +146,7 @@ module _ (setting : Setting) (area : List (List ℕ)) (nic : NicSide) (apps : Li
   -- as much is ended by an entry that was dealt with as was for it while it was in hand
   module _ (entry : Rqe) (how : Judged) (fate : Fate) (at : nic.inside.entry ≡ in_hand a entry how)
       (same : (x c : ℕ) → lowered_in_hand x c (in_hand a entry how)
-      ≤ weight (is_honoured_for x c (record { app = a; entry = entry; fate = fate }))) (sides : SidesRule setting (side_dealt nic a entry fate) apps) where
+      ≤ one_if (is_honoured_for x c (record { app = a; entry = entry; fate = fate }))) (sides : SidesRule setting (side_dealt nic a entry fate) apps) where
     texts-dealt : AreTexts setting.layout area (side_dealt nic a entry fate) apps
     texts-dealt =
         let d : Dealt = record { app = a; entry = entry; fate = fate } in
@@ -196,7 +196,7 @@ relay nic app taken dealt reads = record {
 module _ (setting : Setting) (words : Words) (nic : NicSide) (apps : List AppSide) (a : ℕ) (rule : RefRule setting words nic apps)
     (is_app : a < apps_of setting) (texts : AreTexts setting.layout words.area nic apps) where
   abbrev showing : ℕ → ℕ → ℕ
-  showing = byte_in setting.layout words.area
+  showing = byte_in_area setting.layout words.area
 
   -- an application of the list is there by its number
   numbered : (app : AppSide) → Contains apps app → IsApp apps app.view.app app

@@ -2,7 +2,7 @@
 use Rattle.std.{specs.Prelude.{◌≡◌, ℕ, []}, proofs.lemmas.List.Elements.{All-nil}}
 use Rattle.board_face.specs.{NicCalls.{apps_of}, Holders.{sent_to}, Opened.{new_nic, new_app, new_apps}, Relay.{IsAsSent}, declared.views.parts.Setting.{Setting}}
 use Rattle.board_face.{specs.declared.views.app.SpareOwn.{SpareOwn}, proofs.OpenedLemmas.{news, All-new, AreShown-opened}}
-use Rattle.ref_words.specs.{Lines.{byte_in}, Words.{opened_words}, TextRule.{HasTexts, TextRule}}
+use Rattle.ref_words.specs.{Lines.{byte_in_area}, Words.{opened_words}, TextRule.{HasTexts, TextRule}}
 
 module _ (setting : Setting) where
   has-none : (a : ℕ) → HasTexts setting.layout (opened_words setting).area (new_nic setting) (new_app setting a)
@@ -14,7 +14,7 @@ module _ (setting : Setting) where
 
   pub texts : TextRule setting (opened_words setting) (new_nic setting) (new_apps setting 0 (apps_of setting))
   texts = record {
-    shown = AreShown-opened (byte_in setting.layout (opened_words setting).area) setting _ (news setting 0 (apps_of setting));
+    shown = AreShown-opened (byte_in_area setting.layout (opened_words setting).area) setting _ (news setting 0 (apps_of setting));
     making = tt;
     others = All-new (HasTexts setting.layout (opened_words setting).area (new_nic setting)) setting 0 (apps_of setting) has-none;
   }

@@ -9,8 +9,8 @@ use Rattle.board_face.specs.{Shown.{IsShown, origin_bytes, bytes_sent, AppIsShow
 use Rattle.board_face.specs.declared.views.{parts.{Setting.{Setting}, Making.{Making}}, nic.{NicSide.{NicSide}, SentNote.{SentNote}}}
 use Rattle.board_face.specs.declared.views.app.{Origin.{Origin, TheVariants.{Note as of_note, Copied as of_copy}}, Reading.{Reading}, AppSide.{AppSide}}
 use Rattle.board_face.proofs.{LiesLemmas.{loan-lies}, TextsByEvent.{AppIsShown-same, IsShown-loan}}
-use Rattle.ref_words.specs.{Words.{Words}, Lines.{joined, byte_in, lines_of, text_in, AreWide}, Rule.{RefRule}, Sides.{SidesRule}}
-use Rattle.ref_words.specs.{AreaSteps.{at_hand, part_of, side_at_hand, side_read}, TextRule.{IsAtHand, IsOfSpare, IsOfLoan, HasTexts, AreTexts}}
+use Rattle.ref_words.specs.{Words.{Words}, Lines.{joined, byte_in_area, lines_at, text_in, AreWide}, Rule.{RefRule}, Sides.{SidesRule}}
+use Rattle.ref_words.specs.{AreaSteps.{making_in_hand, part_of, side_at_hand, side_read}, TextRule.{IsAtHand, IsOfSpare, IsReadFromLoan, HasTexts, AreTexts}}
 use Rattle.ref_words.proofs.{LaidLines.{lines-wide, joined-same, length-text, text-byte}, Laying.{joined-length}, TextsByApp.{AreTexts-app, AppIsShown-inside}}
 
 -- ---- bytes of a text
@@ -67,14 +67,14 @@ module _ (setting : Setting) (words : Words) (nic : NicSide) (apps : List AppSid
 
     -- what stands there
     abbrev lines : List (List ℕ)
-    lines = lines_of setting.layout words.area part
+    lines = lines_at setting.layout words.area part
 
     abbrev got : List ℕ
     got = text_in part lines
 
-    shown : IsShown (byte_in setting.layout words.area) place (origin_bytes notes origin place.len)
-    shown = IsShown-loan (byte_in setting.layout words.area) nic app place out
-        (subst (AppIsShown (byte_in setting.layout words.area) nic) here.is (texts.shown.apps a app here.there))
+    shown : IsShown (byte_in_area setting.layout words.area) place (origin_bytes notes origin place.len)
+    shown = IsShown-loan (byte_in_area setting.layout words.area) nic app place out
+        (subst (AppIsShown (byte_in_area setting.layout words.area) nic) here.is (texts.shown.apps a app here.there))
 
     lies : LiesIn setting.layout part
     lies =
@@ -89,7 +89,7 @@ module _ (setting : Setting) (words : Words) (nic : NicSide) (apps : List AppSid
         let next : place.offset + from + i ≡ place.offset + (from + i) = omega arith in
         let small : i < n = omega (arith, less, long) in
         text-byte setting.layout words.area refs.layout refs.sizes.area refs.sizes.lines part lies some i small
-        ∙ (ap (byte_in setting.layout words.area place.buffer) next ∙ shown.bytes (from + i) (omega (arith, small, within))))
+        ∙ (ap (byte_in_area setting.layout words.area place.buffer) next ∙ shown.bytes (from + i) (omega (arith, small, within))))
 
     pub shows : ShowsCopy origin from got
     shows = copy-is notes origin from got as-sent
@@ -100,8 +100,8 @@ module _ (setting : Setting) (words : Words) (nic : NicSide) (apps : List AppSid
         let now = side_read app place from n lines in
         let v = has_read app.view place from got in
         AreTexts-app setting words.area nic apps a app now here sides
-        (λ is. AppIsShown-inside (byte_in setting.layout words.area) nic (app_at app v) now.inside (λ b. omega arith)
-        (AppIsShown-same (byte_in setting.layout words.area) nic app v
+        (λ is. AppIsShown-inside (byte_in_area setting.layout words.area) nic (app_at app v) now.inside (λ b. omega arith)
+        (AppIsShown-same (byte_in_area setting.layout words.area) nic app v
         (record { app = refl; taken = refl; helds = refl; owns = refl; loans = refl; returned = refl }) is))
         (λ has. record {
           making = (
@@ -117,24 +117,24 @@ module _ (setting : Setting) (words : Words) (nic : NicSide) (apps : List AppSid
   given sides =
       let now = side_at_hand app None in
       AreTexts-app setting words.area nic apps a app now here sides
-      (AppIsShown-inside (byte_in setting.layout words.area) nic app now.inside (λ b. omega arith))
+      (AppIsShown-inside (byte_in_area setting.layout words.area) nic app now.inside (λ b. omega arith))
       (λ has. record { making = tt; unfilled = has.unfilled; reads = has.reads }) texts
 
-  pub stands : (place : Place) (lines : List (List ℕ)) → app.inside.making ≡ at_hand place (joined lines) → 0 < length lines
-      → AreWide lines → lines_of setting.layout words.area place ≡ lines
+  pub stands : (place : Place) (lines : List (List ℕ)) → app.inside.making ≡ making_in_hand place (joined lines) → 0 < length lines
+      → AreWide lines → lines_at setting.layout words.area place ≡ lines
   stands place lines at some wide =
-      joined-same (lines_of setting.layout words.area place) lines
+      joined-same (lines_at setting.layout words.area place) lines
       (lines-wide setting.layout place words.area refs.sizes.lines)
       wide (of (record { place = place; bytes = joined lines }) is.1 refl)
     where
       made : Making
       made = record { place = place; bytes = joined lines }
 
-      is : IsAtHand setting.layout made × (IsOfSpare app made ⊎ IsOfLoan setting.layout words.area app made)
-      is = subst (λ m. IfSome m (λ making. IsAtHand setting.layout making × (IsOfSpare app making ⊎ IsOfLoan setting.layout words.area app making))) at
+      is : IsAtHand setting.layout made × (IsOfSpare app made ⊎ IsReadFromLoan setting.layout words.area app made)
+      is = subst (λ m. IfSome m (λ making. IsAtHand setting.layout making × (IsOfSpare app making ⊎ IsReadFromLoan setting.layout words.area app making))) at
           mine.making
 
-      of : (making : Making) → IsOfSpare app making ⊎ IsOfLoan setting.layout words.area app making → making.bytes ≡ joined lines
-          → joined (lines_of setting.layout words.area making.place) ≡ joined lines
+      of : (making : Making) → IsOfSpare app making ⊎ IsReadFromLoan setting.layout words.area app making → making.bytes ≡ joined lines
+          → joined (lines_at setting.layout words.area making.place) ≡ joined lines
       of making (inl spare) words = absurd (omega (arith, some, joined-length 64 lines wide, ap length (sym words ∙ spare.unknown)))
       of making (inr loan) words = loan.stand ∙ words

@@ -4,17 +4,17 @@ use Rattle.std.proofs.Common.{◌≡◌, ⊎_elim, ℕ, ◌+◌, ◌-◌, ◌*�
 use Rattle.std.{proofs.Common.{refl, ap, sym, ◌∙◌, subst, inl, inr, arith}, specs.Prelude.{◌⊎◌, ◌&&◌, All, IfSome, nat_lt}}
 use Rattle.std.proofs.lemmas.{Bool.{cases_lt, eq-eqb}, Option.{IfSome_then}, List.Elements.{All-head, All-tail, All-push, All-map, All-contains, All-weaker}}
 use Rattle.zr_kinds.specs.declared.place.Place.{Place}
-use Rattle.area_layout.{specs.Layout.{Shape, LiesIn, total, size_of}, proofs.Words.{words_apart}}
+use Rattle.area_layout.{specs.Layout.{Shape, LiesIn, all_buffers, size_of}, proofs.Words.{words_apart}}
 use Rattle.board_face.specs.{FineSteps.{side_text_done}, Lists.{without}, Tokens.{next_place, filled_by, same_filling}, AppEvents.{begin_place, filled, owns_without}}
 use Rattle.board_face.specs.{AppCalls.{HasSpare, HasLoan}, Counts.{pool_count}, Fillings.{IsFilledByOne}, Places.{places_of, ends_behind, has_byte}}
 use Rattle.board_face.specs.{Sides.{IsApp, app_at}, declared.views.{parts.{Setting.{Setting}, Filling.{Filling}, Making.{Making}}, nic.NicSide.{NicSide}}}
 use Rattle.board_face.{specs.declared.views.app.{SpareOwn.{SpareOwn}, AppSide.{AppSide}}, proofs.ListLemmas.{same_filling-is, All-without}}
-use Rattle.board_face.proofs.{Tallies.{weight, tally}, Parts.{count-tally}, PlaceTallies.{in_buffer, app_places}}
+use Rattle.board_face.proofs.{Tallies.{one_if, tally}, Parts.{count-tally}, PlaceTallies.{in_buffer, app_places}}
 use Rattle.board_face.proofs.{ApartLemmas.{has-weight}, LiesLemmas.{total-at, loans-at}, PlacesByEvent.{places-app}, SideLemmas.{IsApp-at}}
 use Rattle.board_face.proofs.{ArePlacedLemmas.{less_spare, spare-free, places-none}, StoresAtLemmas.{HasNoText, HasNoText-making, HasNoText-behind}}
 use Rattle.board_face.proofs.{AreShownLemmas.{AreShown-stored_at, AreShown-text_done}, TextsByEvent.{AppIsShown-filled}}
-use Rattle.ref_words.specs.{Words.{Words}, Lines.{joined, first_line, line_at, byte_in, begin_line, lines_of, laid, HaveText}, Rule.{RefRule}, Sides.{SidesRule}}
-use Rattle.ref_words.specs.{AreaSteps.{at_hand, side_at_hand, side_spare_filled}, TextRule.{IsAtHand, IsInMaking, IsOfSpare, IsOfLoan, HasTexts, AreTexts}}
+use Rattle.ref_words.specs.{Words.{Words}, Lines.{joined, first_line, line_at, byte_in_area, begin_line, lines_at, laid, HaveText}, Rule.{RefRule}, Sides.{SidesRule}}
+use Rattle.ref_words.specs.{AreaSteps.{making_in_hand, side_at_hand, side_spare_filled}, TextRule.{IsAtHand, IsInMaking, IsOfSpare, IsReadFromLoan, HasTexts, AreTexts}}
 use Rattle.ref_words.proofs.{AreaLines.{size-lines, lines_apart}, LaidLines.{lines_of-laid, stores-lines, shown-lines}, TextsByApp.{AreTexts-app, AppIsShown-inside}}
 
 -- ---- whose a buffer is
@@ -34,12 +34,12 @@ unfilled-tally b test own begin (s ∷ owns) all =
   where
     first : (c : Bool) → same_filling own s.own ≡ c
         → tally (has_text b test) owns ≤ tally (has_text b test) (without (λ (y : SpareOwn). same_filling own y.own) owns)
-        → weight (has_text b test s) + tally (has_text b test) owns
+        → one_if (has_text b test s) + tally (has_text b test) owns
         ≤ tally (has_text b test) (cond c owns (s ∷ without (λ (y : SpareOwn). same_filling own y.own) owns))
     first true e rest =
         let empty : s.bytes ≡ [] = All-head (λ (y : SpareOwn). y.own.start ≡ 0 → y.bytes ≡ []) s owns all
         (ap (λ (o : Filling). o.start) (same_filling-is own s.own e) ∙ begin) in
-        omega (arith, ap (λ bs. weight (nat_lt 0 (length bs) && in_buffer b test (begin_place s.own.buffer (length bs)))) empty)
+        omega (arith, ap (λ bs. one_if (nat_lt 0 (length bs) && in_buffer b test (begin_place s.own.buffer (length bs)))) empty)
     first false e rest = omega (arith, rest)
 
 -- no text lies in the buffer of a spare of which nothing is used
@@ -65,7 +65,7 @@ module _ (setting : Setting) (words : Words) (nic : NicSide) (apps : List AppSid
   abbrev layout : Shape
   layout = setting.layout
 
-  module _ (p : Place) (lines : List (List ℕ)) (aligned : p.offset % 64 ≡ 0) (whole : p.len ≡ 64 * length lines) (few : p.buffer < total layout)
+  module _ (p : Place) (lines : List (List ℕ)) (aligned : p.offset % 64 ≡ 0) (whole : p.len ≡ 64 * length lines) (few : p.buffer < all_buffers layout)
       (within : p.offset + p.len ≤ size_of layout p.buffer) (none : HasNoText nic apps p) where
     abbrev now : List (List ℕ)
     now = laid words.area (begin_line layout p) lines
@@ -75,7 +75,7 @@ module _ (setting : Setting) (words : Words) (nic : NicSide) (apps : List AppSid
         → p.offset ≤ x → x < p.offset + p.len → loan.offset ≤ x → x < loan.offset + loan.len → ⊥
     no-loan k app loan here out same x from inside begins ends =
         let test = in_buffer p.buffer (has_byte x) in
-        let one : weight (test loan) ≡ weight (has_byte x loan) = ap (λ c. weight (c && has_byte x loan)) (eq-eqb loan.buffer p.buffer same) in
+        let one : one_if (test loan) ≡ one_if (has_byte x loan) = ap (λ c. one_if (c && has_byte x loan)) (eq-eqb loan.buffer p.buffer same) in
         let all = none x from inside in
         omega (
           arith,
@@ -87,8 +87,8 @@ module _ (setting : Setting) (words : Words) (nic : NicSide) (apps : List AppSid
         )
 
     -- what is read of a loan stands in its lines
-    still-read : (k : ℕ) (app : AppSide) (making : Making) → IsApp apps k app → IsAtHand layout making → IsOfLoan layout words.area app making
-        → lines_of layout now making.place ≡ lines_of layout words.area making.place
+    still-read : (k : ℕ) (app : AppSide) (making : Making) → IsApp apps k app → IsAtHand layout making → IsReadFromLoan layout words.area app making
+        → lines_at layout now making.place ≡ lines_at layout words.area making.place
     still-read k app making here hand is =
         let q = making.place in
         let some = hand.some in
@@ -123,8 +123,8 @@ module _ (setting : Setting) (words : Words) (nic : NicSide) (apps : List AppSid
       reads = has.reads;
     }
       where
-        of : (making : Making) → IsAtHand layout making → IsOfSpare app making ⊎ IsOfLoan layout words.area app making
-            → IsOfSpare app making ⊎ IsOfLoan layout now app making
+        of : (making : Making) → IsAtHand layout making → IsOfSpare app making ⊎ IsReadFromLoan layout words.area app making
+            → IsOfSpare app making ⊎ IsReadFromLoan layout now app making
         of making hand (inl spare) = inl spare
         of making hand (inr is) = inr (record {
           loan = is.loan;
@@ -137,7 +137,7 @@ module _ (setting : Setting) (words : Words) (nic : NicSide) (apps : List AppSid
 
     AreTexts-laid : AreTexts layout now nic apps
     AreTexts-laid = record {
-      shown = AreShown-stored_at (byte_in layout words.area) (byte_in layout now) nic apps p
+      shown = AreShown-stored_at (byte_in_area layout words.area) (byte_in_area layout now) nic apps p
           (stores-lines layout words.area refs.layout p lines aligned whole within) none texts.shown;
       making = texts.making;
       others = λ k d small. HasTexts-laid k (get_or apps k d) (IsApp-at apps k d refs.sides.set.numbers small) (texts.others k d small);
@@ -146,7 +146,7 @@ module _ (setting : Setting) (words : Words) (nic : NicSide) (apps : List AppSid
   -- ---- the card
 
   -- the piece in the making is the last of its buffer, and shares no byte with others
-  pub placed : (own : Filling) (bytes : List ℕ) (lines : List (List ℕ)) → nic.inside.making ≡ at_hand (next_place own (length bytes)) []
+  pub placed : (own : Filling) (bytes : List ℕ) (lines : List (List ℕ)) → nic.inside.making ≡ making_in_hand (next_place own (length bytes)) []
       → HaveText lines bytes
       → AreTexts layout (laid words.area (begin_line layout (next_place own (length bytes))) lines) (side_text_done nic own bytes) apps
   placed own bytes lines busy have =
@@ -168,7 +168,7 @@ module _ (setting : Setting) (words : Words) (nic : NicSide) (apps : List AppSid
       (omega (arith, aligned, fits, many, size-lines layout own.buffer refs.layout)) none in
       let new = shown-lines layout words.area refs.layout refs.sizes.area p is.hand.lies aligned lines bytes refl have in
       record {
-        shown = AreShown-text_done (byte_in layout area) nic apps own bytes it busy refl new was.shown;
+        shown = AreShown-text_done (byte_in_area layout area) nic apps own bytes it busy refl new was.shown;
         making = tt;
         others = All-weaker (HasTexts layout area nic) (HasTexts layout area (side_text_done nic own bytes)) (λ app has. assumption has) apps was.others;
       }
@@ -189,19 +189,19 @@ module _ (setting : Setting) (words : Words) (nic : NicSide) (apps : List AppSid
         All-contains (λ (o : Filling). o.buffer ≡ own.buffer → pool_count own.buffer nic apps ≡ 1) (map (λ (s : SpareOwn). s.own) app.view.owns) own
         (All-map (λ (o : Filling). o.buffer ≡ own.buffer → pool_count own.buffer nic apps ≡ 1) (λ (s : SpareOwn). s.own) app.view.owns
         spares) out refl in
-        let layouts : total nic.view.setting.layout ≡ total layout = ap (λ (s : Setting). total s.layout) refs.sides.set.card in
+        let layouts : all_buffers nic.view.setting.layout ≡ all_buffers layout = ap (λ (s : Setting). all_buffers s.layout) refs.sides.set.card in
         record {
           buffer = ⊎_elim (λ within. omega (arith, within, layouts)) (λ past. absurd (omega (arith, by_one.inside past, held)))
-              (cases_lt own.buffer (total nic.view.setting.layout));
+              (cases_lt own.buffer (all_buffers nic.view.setting.layout));
           bytes = let least = ((words_apart layout refs.layout).size own.buffer).least in omega arith;
         }
 
   pub taken : (a : ℕ) (app : AppSide) (own : Filling) (len : ℕ) → IsApp apps a app → HasSpare app.view own → own.start ≡ 0 → 0 < len → len ≤ 256
-      → SidesRule setting nic (set apps a (side_at_hand app (at_hand (begin_place own.buffer len) [])))
-      → AreTexts layout words.area nic (set apps a (side_at_hand app (at_hand (begin_place own.buffer len) [])))
+      → SidesRule setting nic (set apps a (side_at_hand app (making_in_hand (begin_place own.buffer len) [])))
+      → AreTexts layout words.area nic (set apps a (side_at_hand app (making_in_hand (begin_place own.buffer len) [])))
   taken a app own len here out begin some few sides =
-      let now = side_at_hand app (at_hand (begin_place own.buffer len) []) in
-      AreTexts-app setting words.area nic apps a app now here sides (AppIsShown-inside (byte_in layout words.area) nic app now.inside (λ b. omega arith))
+      let now = side_at_hand app (making_in_hand (begin_place own.buffer len) []) in
+      AreTexts-app setting words.area nic apps a app now here sides (AppIsShown-inside (byte_in_area layout words.area) nic app now.inside (λ b. omega arith))
       (λ has. record {
         making = (
           record { lies = lies a app own len here out few; some = some },
@@ -228,8 +228,8 @@ module _ (setting : Setting) (words : Words) (nic : NicSide) (apps : List AppSid
       let now = side_spare_filled app own bytes in
       let one : SpareOwn = record { own = filled_by own (length bytes); bytes = bytes } in
       AreTexts-app setting area nic apps a app now here sides
-      (λ shown. AppIsShown-inside (byte_in layout area) nic (app_at app (filled app.view own bytes)) now.inside (λ b. omega arith)
-      (AppIsShown-filled (byte_in layout area) nic app own bytes new shown))
+      (λ shown. AppIsShown-inside (byte_in_area layout area) nic (app_at app (filled app.view own bytes)) now.inside (λ b. omega arith)
+      (AppIsShown-filled (byte_in_area layout area) nic app own bytes new shown))
       (λ has. record {
         making = tt;
         unfilled = All-push (λ (s : SpareOwn). s.own.start ≡ 0 → s.bytes ≡ []) (owns_without app.view own) one

@@ -2,15 +2,15 @@
 use Rattle.std.proofs.Common.{◌≡◌, ⊎_elim, ℕ, ◌+◌, ◌-◌, ◌<◌, ◌≤◌, List, length, get_or, refl, ap, sym, ◌∙◌, arith, subst, length-drop}
 use Rattle.std.{specs.Prelude.{◌≢◌, ◌==◌, ◌&&◌, if◌then◌else◌, Contains}, proofs.lemmas.{List.Elements.{All-contains}, Bool.Decides.{eqb_tells}}}
 use Rattle.zr_kinds.specs.declared.ring.Rqe.{Rqe}
-use Rattle.area_layout.specs.Layout.{total}
+use Rattle.area_layout.specs.Layout.{all_buffers}
 use Rattle.board_face.specs.{AppEvents.{reserve_of}, NicCalls.{apps_of}, Sides.{IsApp}, Opened.{new_app}}
 use Rattle.board_face.specs.Holders.{lowered_in_hand, returning_in_hand, ended_in, returning_count, returned_in, owed_in}
 use Rattle.board_face.specs.{Counts.{pool_count, user_count, EndedWereReturned}, Steps.{side_user_lowered}, declared.views.parts.Setting.{Setting}}
-use Rattle.board_face.{specs.declared.views.{nic.{Judged.TheVariants.{Owed, UserLowered}, NicSide.{NicSide}}, app.AppSide.{AppSide}}, proofs.Tallies.{weight}}
+use Rattle.board_face.{specs.declared.views.{nic.{Judged.TheVariants.{Owed, UserLowered}, NicSide.{NicSide}}, app.AppSide.{AppSide}}, proofs.Tallies.{one_if}}
 use Rattle.board_face.proofs.{Parts.{user_part, user_count-parts, total-shift, owed_count, loans_in, came_back_in, returned_in-count}, NicLemmas.{pool_count-stretch}}
 use Rattle.board_face.proofs.{ArePlacedLemmas.{ArePlaced-stretch}, MadeLastLemmas.{IsMadeLast-stretch}, IsFilledByOneLemmas.{IsFilledByOne-fewer}}
 use Rattle.board_face.proofs.{SideLemmas.{IsApp-at}, Counting.{user_case, weight-and, weight-same}}
-use Rattle.ref_words.specs.{Words.{Words, user_of, listed_in}, Sides.{IsInHand}, Rule.{RefRule}}
+use Rattle.ref_words.specs.{Words.{Words, user_word_of, listed_bit}, Sides.{IsInHand}, Rule.{RefRule}}
 use Rattle.ref_words.proofs.{CardSteps.{AreReturns-owed, IsScrubbedSoFar-owed, HasNoneOwed-owed}, RingSteps.{rings-card}, Frees.{AreKept-card}, UserSteps.{IsUserStep}}
 use Rattle.ref_words.proofs.{InHand.{in_hand, some-is, if-none, same-if, other-if, other-pair}, SideSteps.{in-area}, LineLemmas.{AreByLine-stretch}}
 
@@ -25,10 +25,10 @@ module _ (setting : Setting) (words : Words) (nic : NicSide) (apps : List AppSid
   not-lowered : (x c : ℕ) → lowered_in_hand x c nic.inside.entry ≡ 0
   not-lowered x c = ap (lowered_in_hand x c) at ∙ if-none (a == x)
 
-  ends : (c : ℕ) (x : AppSide) → ended_in c now x ≡ ended_in c nic x + weight ((a == x.view.app) && (b == c))
+  ends : (c : ℕ) (x : AppSide) → ended_in c now x ≡ ended_in c nic x + one_if ((a == x.view.app) && (b == c))
   ends c x = omega (arith, not-lowered x.view.app c, weight-and (a == x.view.app) (b == c))
 
-  returns : (c : ℕ) (x : AppSide) → returning_count c now x ≡ returning_count c nic x + weight ((a == x.view.app) && (b == c))
+  returns : (c : ℕ) (x : AppSide) → returning_count c now x ≡ returning_count c nic x + one_if ((a == x.view.app) && (b == c))
   returns c x =
       let was : returning_in_hand x.view.app c nic.inside.entry ≡ 0 = ap (returning_in_hand x.view.app c) at ∙ if-none (a == x.view.app) in
       omega (arith, was, weight-and (a == x.view.app) (b == c))
@@ -44,7 +44,7 @@ module _ (setting : Setting) (words : Words) (nic : NicSide) (apps : List AppSid
   sound-at c k x here = subst (EndedWereReturned c nic) here.is (rule.sides.returned c k x here.there)
 
   -- the application owes something in the buffer
-  owes : (c k : ℕ) (x : AppSide) → IsApp apps k x → ended_in c nic x + weight ((a == x.view.app) && (b == c)) ≤ length (returned_in c x)
+  owes : (c k : ℕ) (x : AppSide) → IsApp apps k x → ended_in c nic x + one_if ((a == x.view.app) && (b == c)) ≤ length (returned_in c x)
   owes c k x here =
       ⊎_elim
       (λ t. let e : k ≡ a = t.1 in
@@ -52,8 +52,8 @@ module _ (setting : Setting) (words : Words) (nic : NicSide) (apps : List AppSid
       ⊎_elim
       (λ u. let f : b ≡ c = u.1 in
       let more : ended_in c nic x < length (returned_in c x) = subst (λ n. ended_in n nic x < length (returned_in n x)) f ((known.owed b refl).1 x m) in
-      omega (arith, more, same-if a x.view.app b c m.number, ap weight u.0))
-      (λ u. omega (arith, (sound-at c k x here).ended, same-if a x.view.app b c m.number, ap weight u.0))
+      omega (arith, more, same-if a x.view.app b c m.number, ap one_if u.0))
+      (λ u. omega (arith, (sound-at c k x here).ended, same-if a x.view.app b c m.number, ap one_if u.0))
       (eqb_tells b c))
       (λ t. omega (arith, (sound-at c k x here).ended, other-if a x.view.app b c (λ e. t.1 (sym here.number ∙ e))))
       (eqb_tells k a)
@@ -74,14 +74,14 @@ module _ (setting : Setting) (words : Words) (nic : NicSide) (apps : List AppSid
             (sound-at c a app mine) (sound-now c a app mine) (omega (arith, ends c app, returns c app)),
       )
 
-  fewer_users : (x c : ℕ) → user_count x c now apps + weight ((a == x) && (b == c)) ≡ user_count x c nic apps
+  fewer_users : (x c : ℕ) → user_count x c now apps + one_if ((a == x) && (b == c)) ≡ user_count x c nic apps
   fewer_users x c =
-      let w = weight ((a == x) && (b == c)) in
-      let owed : owed_count c nic app ≡ owed_count c now app + weight (b == c) =
+      let w = one_if ((a == x) && (b == c)) in
+      let owed : owed_count c nic app ≡ owed_count c now app + one_if (b == c) =
       omega (arith, ends c app, same-if a app.view.app b c mine.number, owes c a app mine, returned_in-count c app) in
-      let split = user_case (app.view.app == x) (loans_in c app) (owed_count c nic app) (owed_count c now app) (weight (b == c)) owed in
-      let joined : (if app.view.app == x then weight (b == c) else 0) ≡ w =
-      ap (λ n. if n == x then weight (b == c) else 0) mine.number ∙ weight-and (a == x) (b == c) in
+      let split = user_case (app.view.app == x) (loans_in c app) (owed_count c nic app) (owed_count c now app) (one_if (b == c)) owed in
+      let joined : (if app.view.app == x then one_if (b == c) else 0) ≡ w =
+      ap (λ n. if n == x then one_if (b == c) else 0) mine.number ∙ weight-and (a == x) (b == c) in
       let target : user_part x c nic app ≡ user_part x c now app + w = omega (arith, split, joined) in
       let others : (y : AppSide) → y.view.app ≢ a → user_part x c nic y ≡ user_part x c now y = λ y ne.
       ap (λ h. if y.view.app == x then loans_in c y + (came_back_in c y - h) else 0) (omega (arith, ends c y, other-if a y.view.app b c ne)) in
@@ -89,16 +89,16 @@ module _ (setting : Setting) (words : Words) (nic : NicSide) (apps : List AppSid
       (rw mine.is target) in
       omega (arith, user_count-parts x c now apps, user_count-parts x c nic apps, less)
 
-  there : b < total setting.layout
+  there : b < all_buffers setting.layout
   there = in-area rule.sides (known.owed b refl).0
 
   is-app : a < apps_of setting
   is-app = let k = known.app in omega (arith, rule.sides.set.many)
 
-  and-one : weight ((a == a) && (b == b)) ≡ 1
+  and-one : one_if ((a == a) && (b == b)) ≡ 1
   and-one = same-if a a b b refl ∙ weight-same b
 
-  pub owed : 0 < user_of words a b
+  pub owed : 0 < user_word_of words a b
   owed = omega (arith, rule.users a b is-app there, fewer_users a b, and-one)
 
   small-before : (c : ℕ) (x : AppSide) → Contains apps x → returning_count c nic x ≤ ended_in c nic x
@@ -112,7 +112,7 @@ module _ (setting : Setting) (words : Words) (nic : NicSide) (apps : List AppSid
 
   -- one loan of the buffer is owed no more
   fewer : (c k : ℕ) (x : AppSide) → IsApp apps k x
-      → length (owed_in c now x) + weight ((a == x.view.app) && (b == c)) ≡ length (owed_in c nic x)
+      → length (owed_in c now x) + one_if ((a == x.view.app) && (b == c)) ≡ length (owed_in c nic x)
   fewer c k x here =
       omega (
         arith,
@@ -122,7 +122,7 @@ module _ (setting : Setting) (words : Words) (nic : NicSide) (apps : List AppSid
         owes c k x here,
       )
 
-  pub step : IsUserStep setting words nic now apps apps a b (user_of words a b - 1)
+  pub step : IsUserStep setting words nic now apps apps a b (user_word_of words a b - 1)
   step = record {
     app = is-app;
     there = there;
@@ -157,7 +157,7 @@ module _ (setting : Setting) (words : Words) (nic : NicSide) (apps : List AppSid
             first = known.first;
             named = known.named;
             owed = λ c e. absurd (let none : ⊥ = cc in none);
-            lowered = λ c e. let same : b ≡ c = cc in subst (λ n. n < total nic.view.setting.layout) same (known.owed b refl).0;
+            lowered = λ c e. let same : b ≡ c = cc in subst (λ n. n < all_buffers nic.view.setting.layout) same (known.owed b refl).0;
             stray = λ e. absurd (let none : ⊥ = cc in none);
           });
       scrub = λ k x here. IsScrubbedSoFar-owed nic now x (λ c. omega (arith, fewer c k x here)) (rule.sides.scrub k x here);
@@ -167,6 +167,6 @@ module _ (setting : Setting) (words : Words) (nic : NicSide) (apps : List AppSid
     others = λ x c other. omega (arith, fewer_users x c, other-pair a x b c (λ e f. other (sym e, sym f)));
     pool = same_pool;
     free = λ c. refl;
-    kept = AreKept-card (listed_in words) nic now apps refl refl refl (λ c. omega arith) rule.kept;
+    kept = AreKept-card (listed_bit words) nic now apps refl refl refl (λ c. omega arith) rule.kept;
     rings = rings-card setting words nic now apps refl refl refl refl rule.rings;
   }

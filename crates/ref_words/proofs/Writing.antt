@@ -7,7 +7,7 @@ use Rattle.board_face.specs.{Returns.{AreReturns, IsOfLoan, entries_on_way}, Sid
 use Rattle.board_face.{specs.declared.views.app.{WrittenEntry.{WrittenEntry}, AppSide.{AppSide}}, proofs.AppLemmas.{pool_count-app, user_count-app}}
 use Rattle.board_face.proofs.{ArePlacedLemmas.{ArePlaced-app}, FillingsFitLemmas.{FillingsFit-same}, IsFilledByOneLemmas.{IsFilledByOne-app}}
 use Rattle.board_face.proofs.{MadeLastLemmas.{IsMadeLast-app}, Parts.{app_count, user_part}, PlaceTallies.{app_places}, WrittenLemmas.{way-written}}
-use Rattle.ref_words.specs.{Words.{Words, listed_in, with_refill}, Rings.{AreRings, EntryFits, IsLastRaw, words_of_entry, writes_entry_at}}
+use Rattle.ref_words.specs.{Words.{Words, listed_bit, with_refill}, Rings.{AreRings, EntryFits, IsLastRaw, words_of_entry, writes_entry_at}}
 use Rattle.ref_words.{specs.{Sides.{IsFirst, IsFirstRaw, IsDealtInOrder}, Rule.{RefRule}}, proofs.RingSteps.{AllRings, rings-others}}
 use Rattle.ref_words.proofs.{SlotWords.{ring-here, ring-other, differ-refill}, SlotSteps.{DifferInSlots, RefRule-slot}, SideSteps.{SidesRule-app, own-was, is-app}}
 use Rattle.ref_words.proofs.{Frees.{AreKept-app, free_places-hands}, LineLemmas.{AreByLine-app}}
@@ -160,7 +160,7 @@ module _ (setting : Setting) (words : Words) (nic : NicSide) (apps : List AppSid
           });
           pool = pools;
           users = λ x b. omega (arith, user_count-app x b nic apps a app like here, is.users x b);
-          free = λ b. omega (arith, free_places-hands (listed_in words) b nic apps a app like here);
-          kept = AreKept-app (listed_in words) nic apps a app like here refl rule.kept;
+          free = λ b. omega (arith, free_places-hands (listed_bit words) b nic apps a app like here);
+          kept = AreKept-app (listed_bit words) nic apps a app like here refl rule.kept;
           rings = rings-then;
         }))

@@ -6,8 +6,8 @@ use Rattle.board_face.specs.declared.views.{parts.{Filling.{Filling}, Making.{Ma
 use Rattle.ref_words.specs.Lines.{joined, text_in}
 
 -- A text is stored at the place, or the bytes that stand in its lines are read.
-abbrev pub at_hand : Place → List ℕ → Option Making
-at_hand place bytes = Some (record { place = place; bytes = bytes })
+abbrev pub making_in_hand : Place → List ℕ → Option Making
+making_in_hand place bytes = Some (record { place = place; bytes = bytes })
 
 -- an application's side, with these lines at hand
 abbrev pub side_at_hand : AppSide → Option Making → AppSide
@@ -30,7 +30,7 @@ part_of place from n = record place { offset = place.offset + from; len = n }
 abbrev pub side_read : AppSide → Place → ℕ → ℕ → List (List ℕ) → AppSide
 side_read app place from n lines = record {
   view = has_read app.view place from (text_in (part_of place from n) lines);
-  inside = record app.inside { making = at_hand (part_of place from n) (joined lines) };
+  inside = record app.inside { making = making_in_hand (part_of place from n) (joined lines) };
 }
 
 -- ---- the steps of a call together are its event

@@ -10,20 +10,20 @@ found_below word n zero = []
 found_below word n (suc k) = if bit_at n k == 1 then (word_bits * word + k) ∷ found_below word n k else found_below word n k
 
 -- all that n lists there
-abbrev pub found_in : ℕ → ℕ → List ℕ
-found_in word n = found_below word n word_bits
+abbrev pub all_listed_in : ℕ → ℕ → List ℕ
+all_listed_in word n = found_below word n word_bits
 
 -- ---- the card
 
 -- it swept a word, where it found n
 abbrev pub side_swept : NicSide → ℕ → ℕ → NicSide
-side_swept nic word n = nic_at nic (swept nic.view word (found_in word n))
+side_swept nic word n = nic_at nic (swept nic.view word (all_listed_in word n))
 
 -- What the card knows once it swept a word, where it found n: the buffers found are of the pool and of this word, the highest first, and
 -- the cache has room for them. Buffers of swept words that are neither cached nor were taken were picked as spares, and each spare is for
 -- a byte of an unsplit note.
 pub record IsSwept (nic : NicSide) (j n : ℕ) : Type 0 where
-  pub event : SweptWord nic.view (side_swept nic j n).view j (length (found_in j n))
+  pub event : SweptWord nic.view (side_swept nic j n).view j (length (all_listed_in j n))
   pub room : length (side_swept nic j n).view.cache ≤ cache_room
   pub bound : lost_of (side_swept nic j n).view ≤ sent_unsplit_bytes nic.view
 

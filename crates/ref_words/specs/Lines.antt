@@ -27,8 +27,8 @@ abbrev pub line_at : Shape → ℕ → ℕ → ℕ
 line_at layout buffer offset = first_line layout buffer + offset / 64
 
 -- that byte; past a buffer's end there is none
-abbrev pub byte_in : Shape → List (List ℕ) → ℕ → ℕ → ℕ
-byte_in layout area buffer offset =
+abbrev pub byte_in_area : Shape → List (List ℕ) → ℕ → ℕ → ℕ
+byte_in_area layout area buffer offset =
     if nat_lt offset (size_of layout buffer) then slice_index (slice_index_or area (line_at layout buffer offset) []) (offset % 64) else 0
 
 -- ---- the lines of a place
@@ -49,8 +49,8 @@ abbrev pub has_line : Shape → ℕ → Place → Bool
 has_line layout k p = nat_le (begin_line layout p) k && nat_lt k (begin_line layout p + line_count p)
 
 -- what stands in the lines of a place, and the bytes of the place
-abbrev pub lines_of : Shape → List (List ℕ) → Place → List (List ℕ)
-lines_of layout area p = take (line_count p) (drop (begin_line layout p) area)
+abbrev pub lines_at : Shape → List (List ℕ) → Place → List (List ℕ)
+lines_at layout area p = take (line_count p) (drop (begin_line layout p) area)
 
 abbrev pub text_in : Place → List (List ℕ) → List ℕ
 text_in p lines = take p.len (drop (p.offset % 64) (joined lines))

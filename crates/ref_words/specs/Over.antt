@@ -3,7 +3,7 @@ use Rattle.std.specs.Prelude.{◌≡◌, ℕ, ◌+◌, ◌<◌, ◌≤◌, true,
 use Rattle.area_layout.specs.Layout.{pool_buffers}
 use Rattle.board_face.specs.{Ended.{IsServed}, Holders.{nic_holders, app_holders}, Sides.{IsApp}, declared.views.{parts.Setting.{Setting}, nic.NicSide.{NicSide}}}
 use Rattle.board_face.specs.declared.views.app.AppSide.{AppSide}
-use Rattle.ref_words.specs.{Words.{Words, listed_in}, Rule.{BoardRule}}
+use Rattle.ref_words.specs.{Words.{Words, listed_bit}, Rule.{BoardRule}}
 
 -- The card has ended, and has no free buffer in hand.
 pub record CardIsOver (nic : NicSide) : Type 0 where
@@ -27,6 +27,6 @@ pub record OverLaw : Type 0 where
       → BoardRule setting words nic apps → IsApp apps a app → AppIsOver app → app_holders b nic app ≡ []
   pub free : (setting : Setting) (words : Words) (nic : NicSide) (apps : List AppSide) (b : ℕ)
       → BoardRule setting words nic apps → CardIsOver nic → All AppIsOver apps → b < pool_buffers setting.layout
-      → count_by (nat_eq b) nic.view.cache + (if listed_in words b then 1 else 0) ≡ 1
+      → count_by (nat_eq b) nic.view.cache + (if listed_bit words b then 1 else 0) ≡ 1
   pub reserves : (setting : Setting) (words : Words) (nic : NicSide) (apps : List AppSide) (b : ℕ)
       → BoardRule setting words nic apps → pool_buffers setting.layout ≤ b → count_by (nat_eq b) nic.view.cache ≡ 0

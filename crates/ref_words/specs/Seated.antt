@@ -32,11 +32,11 @@ pub record AreDealt (roles : List ℕ) (views : List View) : Type 0 where
   pub desk : (i : ℕ) (v : View) → get_elem? views i ≡ some v → i ≢ 0 → v.dealt ≡ []
 
 -- the view of a seat that has the card's role, or an application's, or is to take a role, or has none
-abbrev pub card_view : NicSide → View
-card_view nic = record { nics = nic ∷ []; apps = []; due = []; dealt = [] }
+abbrev pub card_seat_view : NicSide → View
+card_seat_view nic = record { nics = nic ∷ []; apps = []; due = []; dealt = [] }
 
-abbrev pub app_view : AppSide → View
-app_view app = record { nics = []; apps = app ∷ []; due = []; dealt = [] }
+abbrev pub app_seat_view : AppSide → View
+app_seat_view app = record { nics = []; apps = app ∷ []; due = []; dealt = [] }
 
 abbrev pub due_view : ℕ → View
 due_view r = record { nics = []; apps = []; due = r ∷ []; dealt = [] }

@@ -1,7 +1,7 @@
 -- What holds of the sides of all roles between any two steps, whatever the words are.
 use Rattle.std.specs.{Prelude.{◌≡◌, ℕ, ◌<◌, ◌≤◌, ◌⊎◌, ◌++◌, true, false, List, [], ◌∷◌, length, map, take, count_by, All, Option, Some, None, slice_index}, List.{flat_map}}
 use Rattle.zr_kinds.specs.declared.{place.Place.{Place}, ring.Rqe.{Rqe}}
-use Rattle.area_layout.specs.Layout.{total, judged}
+use Rattle.area_layout.specs.Layout.{all_buffers, judged}
 use Rattle.board_face.specs.{NicCalls.{apps_of}, AppEvents.{reserve_of}, Counts.{pool_count, EndedWereReturned}, Places.{ArePlaced, IsMadeLast, places_of, filled_places, kind_place}}
 use Rattle.board_face.specs.{Fillings.{IsFilledByOne, FillingsFit}, Used.{HasFewPicks}, Relay.{dealt_entries, as_taken, IsProper}, Returns.{AreReturns, entries_on_way}}
 use Rattle.board_face.specs.{Sides.{AreNumbered, IsApp}, Judged.{IsHonouredAsNamed}, Holders.{app_holders, ended_in, returned_in, owed_in, sent_to}}
@@ -35,15 +35,15 @@ AreByLine b nic apps = (x : ℕ) → (count_by (touches x) (places_of b nic apps
 
 -- what a scrub takes and owes is told for each buffer
 pub record HasScrubLists (setting : Setting) (app : AppSide) : Type 0 where
-  pub took : length app.inside.scrub_took ≡ total setting.layout
-  pub owes : length app.inside.scrub_owes ≡ total setting.layout
+  pub took : length app.inside.scrub_took ≡ all_buffers setting.layout
+  pub owes : length app.inside.scrub_owes ≡ all_buffers setting.layout
 
 -- How far an application's scrub came: nothing is owed any more of the buffers below its mark, and nothing was taken of those
 -- from there on. It began when all refill slots were quiet and no loan was out, and with the last buffer it is done.
 pub record IsScrubbedSoFar (nic : NicSide) (app : AppSide) : Type 0 where
-  pub within : app.inside.scrub_mark ≤ total app.view.setting.layout
-  pub done : app.view.scrubbed ≡ true → app.inside.scrub_mark ≡ total app.view.setting.layout
-  pub whole : app.inside.scrub_mark ≡ total app.view.setting.layout → app.view.scrubbed ≡ true
+  pub within : app.inside.scrub_mark ≤ all_buffers app.view.setting.layout
+  pub done : app.view.scrubbed ≡ true → app.inside.scrub_mark ≡ all_buffers app.view.setting.layout
+  pub whole : app.inside.scrub_mark ≡ all_buffers app.view.setting.layout → app.view.scrubbed ≡ true
   pub taken : (b : ℕ) → b < app.inside.scrub_mark → length (owed_in b nic app) ≡ 0
   pub untaken : (b : ℕ) → app.inside.scrub_mark ≤ b → slice_index app.inside.scrub_took b ≡ 0
   pub quiet : 0 < app.inside.scrub_mark → app.view.quiet ≡ true
@@ -95,8 +95,8 @@ pub record IsInHand (nic : NicSide) (apps : List AppSide) (inhand : EntryInHand)
   pub first : (app : AppSide) → IsApp apps inhand.app app → IsFirst inhand.entry (entries_on_way nic app)
   pub named : (b : ℕ) → judged_for inhand.judged ≡ Some b → judged nic.view.setting.layout inhand.entry ≡ Some b
   pub owed : (b : ℕ) → inhand.judged ≡ Owed b
-      → (b < total nic.view.setting.layout) × ((app : AppSide) → IsApp apps inhand.app app → ended_in b nic app < length (returned_in b app))
-  pub lowered : (b : ℕ) → inhand.judged ≡ UserLowered b → b < total nic.view.setting.layout
+      → (b < all_buffers nic.view.setting.layout) × ((app : AppSide) → IsApp apps inhand.app app → ended_in b nic app < length (returned_in b app))
+  pub lowered : (b : ℕ) → inhand.judged ≡ UserLowered b → b < all_buffers nic.view.setting.layout
   pub stray : inhand.judged ≡ Stray → (app : AppSide) → IsApp apps inhand.app app → IsFirstRaw (entries_on_way nic app)
 
 -- the card knows a next slot of each ring

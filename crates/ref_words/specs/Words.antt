@@ -2,7 +2,7 @@
 -- bits and slots of rings are those of docs/BOARDS.md; each group is a list, so that a store in one leaves the others as they are.
 use Rattle.std.specs.Prelude.{◌≡◌, ℕ, zero, suc, ◌+◌, ◌-◌, ◌*◌, ◌/◌, ◌%◌, ◌^◌, ◌<◌, ◌≤◌, Bool, List, [], ◌∷◌, ◌++◌, length, min, replicate, slice_index}
 use Rattle.std.specs.{Prelude.{slice_index_or, slice_set, ◌==◌, All, bit_and, bit_or}, List.{flat_map}, Int.{bit_at, bit_not, w64}}
-use Rattle.area_layout.specs.Layout.{IsLayout, pool_buffers, total}
+use Rattle.area_layout.specs.Layout.{IsLayout, pool_buffers, all_buffers}
 use Rattle.word_rings.specs.Slots.{note_width, refill_width}
 use Rattle.board_face.specs.{NicCalls.{apps_of, free_words_of}, NicEvents.{word_bits}, declared.views.parts.Setting.{Setting}}
 use Rattle.ref_words.specs.Lines.{joined, area_lines, AreWide, laid}
@@ -43,7 +43,7 @@ roles_of setting = 1 + apps_of setting
 -- how many words each group has
 abbrev pub group_sizes : Setting → List ℕ
 group_sizes setting =
-    roles_of setting ∷ roles_of setting ∷ total setting.layout ∷ apps_of setting * total setting.layout ∷ free_words_of setting
+    roles_of setting ∷ roles_of setting ∷ all_buffers setting.layout ∷ apps_of setting * all_buffers setting.layout ∷ free_words_of setting
     ∷ apps_of setting * (setting.places * note_width) ∷ apps_of setting * (setting.places * refill_width) ∷ []
 
 -- how many the first ones have
@@ -69,8 +69,8 @@ phase_at setting r = begin_at setting 1 + r
 abbrev pub pool_at : Setting → ℕ → ℕ
 pool_at setting b = begin_at setting 2 + b
 
-abbrev pub user_at : Setting → ℕ → ℕ → ℕ
-user_at setting a b = begin_at setting 3 + (a * total setting.layout + b)
+abbrev pub user_word_at : Setting → ℕ → ℕ → ℕ
+user_word_at setting a b = begin_at setting 3 + (a * all_buffers setting.layout + b)
 
 -- of the free list, and of a slot of an application's rings
 abbrev pub free_at : Setting → ℕ → ℕ
@@ -106,12 +106,12 @@ pub record AreSlots (places width : ℕ) (slots : List (List ℕ)) : Type 0 wher
   pub many : length slots ≡ places
   pub wide : All (λ slot. length slot ≡ width) slots
 
-pub record HasSizes (setting : Setting) (w : Words) : Type 0 where
+pub record WordsHaveSizes (setting : Setting) (w : Words) : Type 0 where
   pub roles : length w.roles ≡ roles_of setting
   pub phases : length w.phases ≡ roles_of setting
-  pub pool : length w.pool ≡ total setting.layout
+  pub pool : length w.pool ≡ all_buffers setting.layout
   pub users : length w.users ≡ apps_of setting
-  pub rows : All (λ row. length row ≡ total setting.layout) w.users
+  pub rows : All (λ row. length row ≡ all_buffers setting.layout) w.users
   pub free : length w.free ≡ free_words_of setting
   pub area : length w.area ≡ area_lines setting.layout
   pub lines : AreWide w.area
@@ -123,22 +123,22 @@ pub record HasSizes (setting : Setting) (w : Words) : Type 0 where
 -- ---- counts and bits
 
 -- a buffer's bit in the free list
-abbrev pub listed_in : Words → ℕ → Bool
-listed_in w b = bit_at (slice_index w.free (b / word_bits)) (b % word_bits) == 1
+abbrev pub listed_bit : Words → ℕ → Bool
+listed_bit w b = bit_at (slice_index w.free (b / word_bits)) (b % word_bits) == 1
 
 -- a word of the free list, and the words with another number there
-abbrev pub free_of : Words → ℕ → ℕ
-free_of w j = slice_index w.free j
+abbrev pub free_word_of : Words → ℕ → ℕ
+free_word_of w j = slice_index w.free j
 
 abbrev pub with_free : Words → ℕ → ℕ → Words
 with_free w j n = record w { free = slice_set w.free j n }
 
 -- the words with a buffer's bit set, and with it cleared
 abbrev pub with_listed : Words → ℕ → Words
-with_listed w b = with_free w (b / word_bits) (bit_or (free_of w (b / word_bits)) (2 ^ (b % word_bits)))
+with_listed w b = with_free w (b / word_bits) (bit_or (free_word_of w (b / word_bits)) (2 ^ (b % word_bits)))
 
 abbrev pub with_unlisted : Words → ℕ → Words
-with_unlisted w b = with_free w (b / word_bits) (bit_and (free_of w (b / word_bits)) (bit_not w64 (2 ^ (b % word_bits))))
+with_unlisted w b = with_free w (b / word_bits) (bit_and (free_word_of w (b / word_bits)) (bit_not w64 (2 ^ (b % word_bits))))
 
 -- the words with one role taken
 abbrev pub with_role : Words → ℕ → Words
@@ -148,11 +148,11 @@ with_role w r = record w { roles = slice_set w.roles r 1 }
 abbrev pub with_pool : Words → ℕ → ℕ → Words
 with_pool w b n = record w { pool = slice_set w.pool b n }
 
-abbrev pub pool_of : Words → ℕ → ℕ
-pool_of w b = slice_index w.pool b
+abbrev pub pool_word_of : Words → ℕ → ℕ
+pool_word_of w b = slice_index w.pool b
 
-abbrev pub user_of : Words → ℕ → ℕ → ℕ
-user_of w a b = slice_index (slice_index_or w.users a []) b
+abbrev pub user_word_of : Words → ℕ → ℕ → ℕ
+user_word_of w a b = slice_index (slice_index_or w.users a []) b
 
 -- the words with another user count of an application for a buffer
 abbrev pub with_user : Words → ℕ → ℕ → ℕ → Words
@@ -204,8 +204,8 @@ abbrev pub opened_words : Setting → Words
 opened_words setting = record {
   roles = replicate (roles_of setting) 0;
   phases = replicate (roles_of setting) 0;
-  pool = replicate (total setting.layout) 0;
-  users = replicate (apps_of setting) (replicate (total setting.layout) 0);
+  pool = replicate (all_buffers setting.layout) 0;
+  users = replicate (apps_of setting) (replicate (all_buffers setting.layout) 0);
   free = free_list (pool_buffers setting.layout) (free_words_of setting);
   area = replicate (area_lines setting.layout) (replicate 64 0);
   notes = replicate (apps_of setting) (replicate setting.places (replicate note_width 0));

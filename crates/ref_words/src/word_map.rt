@@ -1,7 +1,7 @@
 ghost use Rattle.std.specs.Prelude.{◌≡◌, ◌+◌, ◌^◌, ◌<◌, ◌≤◌};
-ghost use Rattle.area_layout.specs.Layout.{IsLayout, total, size_of};
+ghost use Rattle.area_layout.specs.Layout.{IsLayout, all_buffers, size_of};
 ghost use Rattle.board_face.specs.NicCalls.{apps_of, free_words_of};
-ghost use Rattle.ref_words.specs.{Words.{roles_of, table_words, role_at, phase_at, pool_at, user_at, free_at, note_at, refill_at}, Lines.{area_lines, line_at}};
+ghost use Rattle.ref_words.specs.{Words.{roles_of, table_words, role_at, phase_at, pool_at, user_word_at, free_at, note_at, refill_at}, Lines.{area_lines, line_at}};
 ghost use Rattle.word_rings.specs.Slots.{note_width, refill_width};
 
 use area_layout::Layout;
@@ -111,7 +111,7 @@ impl WordMap {
 
     /// The word of a buffer's pool count.
     pub fn pool(&self, buffer: u32) -> usize
-        requires { buffer < total self.now.layout }
+        requires { buffer < all_buffers self.now.layout }
         ensures value { result ≡ pool_at self.now buffer }
         ensures within { result < table_words self.now }
     {
@@ -121,8 +121,8 @@ impl WordMap {
     /// The word of an application's user count for a buffer.
     pub fn user(&self, app: u32, buffer: u32) -> usize
         requires app { app < apps_of self.now }
-        requires buffer { buffer < total self.now.layout }
-        ensures value { result ≡ user_at self.now app buffer }
+        requires buffer { buffer < all_buffers self.now.layout }
+        ensures value { result ≡ user_word_at self.now app buffer }
         ensures within { result < table_words self.now }
     {
         self.users + (app as usize * self.layout.total() as usize + buffer as usize)
@@ -172,7 +172,7 @@ impl WordMap {
 
     /// The line of the area that has a buffer's byte at an offset.
     pub fn line(&self, buffer: u32, offset: u32) -> usize
-        requires buffer { buffer < total self.now.layout }
+        requires buffer { buffer < all_buffers self.now.layout }
         requires offset { offset < size_of self.now.layout buffer }
         ensures value { result ≡ line_at self.now.layout buffer offset }
         ensures within { result < area_lines self.now.layout }

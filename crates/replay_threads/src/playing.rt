@@ -1,6 +1,6 @@
 //! All turns of a run: the reading and the roles side by side, and rounds for what is left.
 ghost use Rattle.std.specs.Prelude.{◌≡◌, true, All, IsTrue};
-ghost use Rattle.card_feed.specs.Feed.{IsReady};
+ghost use Rattle.card_feed.specs.Feed.{IsFeedReady};
 ghost use Rattle.capture_beside.specs.{Cards.{CardGoes}, Reader.{ReaderGoes}};
 ghost use Rattle.app_lanes.specs.Lanes.{AllGo};
 
@@ -25,7 +25,7 @@ fn join_loops<S: Source + Send, W: Sits + Send, G: Gate + Sync, R: Threads + Wai
     card: &mut CardLane<'_>,
     lanes: &mut [W],
 )
-    requires ready { IsReady card.old.feed card.old.seat.side.view }
+    requires ready { IsFeedReady card.old.feed card.old.seat.side.view }
     requires fit { All W.fits lanes.old }
     ensures reader { ReaderGoes S.left S.faults source.old source.new reader.old reader.new }
     ensures card { CardGoes card.old card.new }
@@ -34,7 +34,7 @@ fn join_loops<S: Source + Send, W: Sits + Send, G: Gate + Sync, R: Threads + Wai
     join_mut(
         rt,
         &mut ||
-            requires { IsReady card.now.feed card.now.seat.side.view }
+            requires { IsFeedReady card.now.feed card.now.seat.side.view }
         { join_reading(rt, gate, beside, free, source, reader, card) },
         &mut ||
             requires { All W.fits lanes.now }
@@ -54,7 +54,7 @@ fn play_beside<S: Source + Send, W: Sits + Send, G: Gate + Sync, R: Threads + Wa
     card: &mut CardLane<'_>,
     lanes: &mut [W],
 )
-    requires ready { IsReady card.old.feed card.old.seat.side.view }
+    requires ready { IsFeedReady card.old.feed card.old.seat.side.view }
     requires fit { All W.fits lanes.old }
     ensures reader { ReaderGoes S.left S.faults source.old source.new reader.old reader.new }
     ensures card { CardGoes card.old card.new }
@@ -100,7 +100,7 @@ fn play_rounds<S: Source, W: Sits + Send, G: Gate + Sync, R: Threads + Sync>(
     card: &mut CardLane<'_>,
     lanes: &mut [W],
 ) -> bool
-    requires ready { IsReady card.old.feed card.old.seat.side.view }
+    requires ready { IsFeedReady card.old.feed card.old.seat.side.view }
     requires fit { All W.fits lanes.old }
     ensures reader { ReaderGoes S.left S.faults source.old source.new reader.old reader.new }
     ensures card { CardGoes card.old card.new }
@@ -150,7 +150,7 @@ pub fn play<S: Source + Send, W: Sits + Send, G: Gate + Sync, R: Threads + Wait 
     card: &mut CardLane<'_>,
     lanes: &mut [W],
 )
-    requires ready { IsReady card.old.feed card.old.seat.side.view }
+    requires ready { IsFeedReady card.old.feed card.old.seat.side.view }
     requires fit { All W.fits lanes.old }
     ensures reader { ReaderGoes S.left S.faults source.old source.new reader.old reader.new }
     ensures card { CardGoes card.old card.new }

@@ -3,7 +3,7 @@ ghost use Rattle.std.specs.Prelude.{◌≡◌, ◌≤◌, [], length, map, vec_l
 ghost use Rattle.card_feed.specs.Plan.{IsPlan};
 ghost use Rattle.run_account.specs.{Ran.{LacksMemoryBeside, told_of}, Views.{ends_at, streams}};
 ghost use Rattle.replay_threads.specs.Played.{BeginWith, HasPlayed, IsOpenedFor, RanByThreads};
-ghost use Rattle.capture_beside.specs.Reader.{IsOpened};
+ghost use Rattle.capture_beside.specs.Reader.{IsReaderOpened};
 ghost use Rattle.app_lanes.specs.Seated.{left_end};
 
 use crate::moving::move_last;
@@ -49,7 +49,11 @@ struct Begun {
 
 /// How many buffers are free at first for the card alone: none where applications take some to copy into.
 fn free_at_first(plan: &Plan, layout: &Layout) -> u32 {
-    if plan.options.split == 0 { layout.buffers() } else { 0 }
+    if plan.options.split == 0 {
+        layout.buffers()
+    } else {
+        0
+    }
 }
 
 /// All turns of the run of a plan, from a board at which nothing has happened, until every role is back at the desk. It takes
@@ -75,7 +79,7 @@ fn play_seated<'b, S: Source + Send, T: Shelf + Send, G: Gate + Sync, R: Threads
         × (length plan.now.ports.items ≤ vec_capacity begun.lefts) }
     requires shelves { vec_len shelves.old ≡ length plan.now.ports.items }
     requires lanes { (lanes.items ≡ []) × (length plan.now.ports.items ≤ vec_capacity lanes) }
-    requires reading { IsOpened reading }
+    requires reading { IsReaderOpened reading }
     ensures played { let m = streams S.left S.faults T.kept T.counts in
         HasPlayed (ends_at m source.old shelves.old.items) (ends_at m source.new shelves.new.items)
         plan.now desk.new result.0 (map left_end result.1.items) }

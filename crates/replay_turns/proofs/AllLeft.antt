@@ -6,8 +6,8 @@ use Rattle.board_face.specs.declared.views.app.AppLook.TheVariants as look
 use Rattle.plain_board.specs.{Board.{Board, side_of, others_of}, Seen.{IsSeenBy}, Returns.{entries_on_way, is_raw}}
 use Rattle.app_worker.specs.{State.{Bare, Working}, Turns.{Because, look_of}, declared.turn.Why.{Why}}
 use Rattle.app_worker.specs.declared.turn.Why.TheVariants.{NoNote, RefillFull, Unsettled, ReserveHeld, NotQuiet}
-use Rattle.run_account.specs.{Running.{AreOver}, declared.run.{Run.{Run}, Worker.{Worker}}}
-use Rattle.replay_turns.{specs.{Running.{RunFits}, Stuck.{IsCardStuck, IsKeptBack, StuckRunsAreOver}}, proofs.{BoardOver.{side-is}, Reserve.{not-held}}}
+use Rattle.run_account.specs.{Running.{IsRunOver}, declared.run.{Run.{Run}, Worker.{Worker}}}
+use Rattle.replay_turns.{specs.{Running.{RunFits}, Stuck.{IsCardStuck, IsAppKeptBack, StuckRunsAreOver}}, proofs.{BoardOver.{side-is}, Reserve.{not-held}}}
 use Rattle.card_feed.proofs.OfFlow.{there}
 
 -- It is kept back by nothing but that no note has come.
@@ -49,7 +49,7 @@ module _ (board : Board) (run : Run) (shelves : ℕ) (fits : RunFits board run s
       none seen.1)
   by-why a w at within none NotQuiet because seen = let empty = ap length none in absurd (omega (arith, empty, seen))
 
-  pub kept-waits : (a : ℕ) (w : Worker) → slice_get run.workers.items a ≡ Some w → IsCardStuck board run → IsKeptBack board a w
+  pub kept-waits : (a : ℕ) (w : Worker) → slice_get run.workers.items a ≡ Some w → IsCardStuck board run → IsAppKeptBack board a w
       → WaitsForNote board a w
   kept-waits a w at card kept =
       let within : a < length run.workers.items = slice_get_within run.workers.items a w at in
@@ -82,7 +82,7 @@ module _ (board : Board) (run : Run) (shelves : ℕ) (fits : RunFits board run s
       absurd (let wrong : true ≡ false = sym ended ∙ on in let none : ⊥ = cc in none))
       (waiting a w at)
 
-  pub all-left : AreOver run
+  pub all-left : IsRunOver run
   all-left = record {
     card = card-closed;
     apps = λ a d within.

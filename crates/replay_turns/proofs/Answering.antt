@@ -6,10 +6,10 @@ use Rattle.board_face.specs.{AppEvents.{app_gist, reserve_of}, NicCalls.{apps_of
 use Rattle.board_face.specs.{declared.views.nic.NicView.{NicView}, Sides.{side_in}}
 use Rattle.page_pool.specs.Dealing.{CountsStrays}
 use Rattle.plain_board.specs.{Board.{Board, side_of, others_of}, Seen.{IsSeenBy, IsSeenByCard}}
-use Rattle.app_worker.specs.{Core.{Each}, Stages.{NoneInReserve}, State.{State, LiesOutside}, Turns.{Answers, Because, IsCaughtUp, MayPoll, Turns, look_of}}
+use Rattle.app_worker.specs.{Core.{Each}, Stages.{NoneInReserve}, State.{State, LiesOutside}, Turns.{AnswersTurn, Because, IsCaughtUp, MayPoll, Turns, look_of}}
 use Rattle.app_worker.specs.declared.turn.{Turn.{Turn, TheVariants.{Idle, Finished}}, Why.{Why, TheVariants.{NoNote, RefillFull, Unsettled, ReserveHeld, NotQuiet}}}
 use Rattle.card_feed.specs.{Feed.{FeedState, feed_steps}, Turns.{IsIdle}}
-use Rattle.replay_turns.specs.{Rounds.{DidNothing}, Steps.{worker_steps, steps_from, run_steps}, Stuck.{IsKeptBack}, declared.role.Role.TheVariants.{Card, App}}
+use Rattle.replay_turns.specs.{Rounds.{DidNothing}, Steps.{worker_steps, steps_from, run_steps}, Stuck.{IsAppKeptBack}, declared.role.Role.TheVariants.{Card, App}}
 use Rattle.replay_turns.proofs.Rising.{steps-alike, steps-set}
 use Rattle.run_account.specs.declared.run.{Run.{Run}, Worker.{Worker}}
 
@@ -125,7 +125,7 @@ module _ (board board_now : Board) (was now : Run) (app : ℕ) (w_was w_now : Wo
         (λ (t, other). ap (λ (side : AppSide). app_gist side.view) (others b other))
         (eqb_tells b app)
 
-    app-idle : IsKeptBack board_now app w_now → DidNothing (App app) board board_now was now
+    app-idle : IsAppKeptBack board_now app w_now → DidNothing (App app) board board_now was now
     app-idle kept = record {
       same = record {
         feed = subst (λ (f : FeedState). f ≡ record was.feed { pool = record was.feed.pool { stats = f.pool.stats } }) (sym feed_is) refl;
@@ -138,7 +138,7 @@ module _ (board board_now : Board) (was now : Run) (app : ℕ) (w_was w_now : Wo
       stuck = λ w at.
           let at_was : slice_get was.workers.items app ≡ Some w = ap (λ items. slice_get items app) (sym items-same) ∙ at in
           let is : w_now ≡ w = cc in
-          inr (subst (IsKeptBack board_now app) is kept);
+          inr (subst (IsAppKeptBack board_now app) is kept);
     }
 
   -- what keeps it back is so after the turn too
@@ -149,7 +149,7 @@ module _ (board board_now : Board) (was now : Run) (app : ℕ) (w_was w_now : Wo
   app-idles kept kept_now faults faults_now result did here leaves why is seen =
       let old = (side_of board app).view in
       let new = (side_of board_now app).view in
-      let before = subst (λ turn. Answers w_was.state w_now.state old new faults faults_now turn) is did.answer in
+      let before = subst (λ turn. AnswersTurn w_was.state w_now.state old new faults faults_now turn) is did.answer in
       let gist : app_gist new ≡ app_gist old = ap (λ (v : AppView). app_gist v) before.0.view in
       let stays : w_now.left ≡ false = ⊎_elim
       (λ (left : w_now.left ≡ true). absurd (let wrong : Idle why ≡ Finished = sym is ∙ leaves left in let none : ⊥ = cc in none))

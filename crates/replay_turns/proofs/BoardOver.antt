@@ -2,7 +2,7 @@
 use Rattle.std.proofs.Common.{◌≡◌, ℕ, ◌<◌, length, sym, ap, ◌∙◌, arith}
 use Rattle.board_face.{specs.{Blank.{blank_app}, Ended.{HaveEnded}, Sides.{IsApp}, declared.views.parts.Setting.{Setting}}, proofs.SideLemmas.{IsApp-at}}
 use Rattle.plain_board.{specs.Board.{Board, stand_of, side_of}, proofs.Ending.{boards-end_well}}
-use Rattle.run_account.{specs.{Running.{AreOver}, declared.run.Run.{Run}}, proofs.Gone.{card-ended, all-left}}
+use Rattle.run_account.{specs.{Running.{IsRunOver}, declared.run.Run.{Run}}, proofs.Gone.{card-ended, all-left}}
 use Rattle.replay_turns.specs.Running.{RunFits}
 
 module _ (board : Board) (run : Run) (shelves : ℕ) (fits : RunFits board run shelves) where
@@ -12,7 +12,7 @@ module _ (board : Board) (run : Run) (shelves : ℕ) (fits : RunFits board run s
   pub side-is : (a : ℕ) → a < length run.workers.items → IsApp board.apps a (side_of board a)
   side-is a within = IsApp-at board.apps a blank_app fits.sound.set.numbers (omega (arith, within, many-sides))
 
-  pub have-ended : AreOver run → HaveEnded board.nic board.apps
+  pub have-ended : IsRunOver run → HaveEnded board.nic board.apps
   have-ended over =
       let card = card-ended board.nic board.apps run fits.roles over in
       let left = all-left board.nic board.apps run fits.roles over many-sides in

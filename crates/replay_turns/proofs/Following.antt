@@ -1,7 +1,7 @@
 -- Turns behind turns.
 use Rattle.std.{proofs.Common.{ℕ, suc, Bool, true, false, List, [], ◌∷◌, ◌++◌, map, ◌⊎◌, ◌+◌, ◌≡◌, inl, inr, refl, subst, arith}, specs.Prelude.{MatchBool}}
 use Rattle.run_account.specs.Views.{Streams}
-use Rattle.replay_turns.specs.{Following.{Moves, Follows, round_of, rounds_of}, Running.{Moment}, Schedule.{role_of}, declared.role.Role.{Role, TheVariants.{App}}}
+use Rattle.replay_turns.specs.{Following.{RoleMoves, Follows, round_of, rounds_of}, Running.{Moment}, Schedule.{role_of}, declared.role.Role.{Role, TheVariants.{App}}}
 
 module _ {S T : Type 0} {m : Streams S T} where
   pub follows-through : (roles more : List Role) (first mid last : Moment m) → Follows roles first mid
@@ -12,14 +12,14 @@ module _ {S T : Type 0} {m : Streams S T} where
 
   -- one more letter
   pub follows-letter : (turns : List ℕ) (letter : ℕ) (first was now : Moment m) → Follows (map role_of turns) first was
-      → Moves (role_of letter) was now → Follows (map role_of (turns ++ letter ∷ [])) first now
-  follows-letter [] letter first was now same moves = (now, subst (λ x. Moves (role_of letter) x now) same moves, refl)
+      → RoleMoves (role_of letter) was now → Follows (map role_of (turns ++ letter ∷ [])) first now
+  follows-letter [] letter first was now same moves = (now, subst (λ x. RoleMoves (role_of letter) x now) same moves, refl)
   follows-letter (other ∷ turns) letter first was now before moves =
       (before.0, before.1, follows-letter turns letter before.0 was now before.2 moves)
 
   -- one more application of a round
   pub follows-app : (app : ℕ) (first was now : Moment m) → Follows (round_of app) first was
-      → Moves (App app) was now → Follows (round_of (app + 1)) first now
+      → RoleMoves (App app) was now → Follows (round_of (app + 1)) first now
   follows-app app first was now before moves =
       subst (λ n. Follows (round_of n) first now) (let e : suc app ≡ app + 1 = omega arith in e)
       (follows-through (round_of app) (App app ∷ []) first was now before (now, moves, refl))

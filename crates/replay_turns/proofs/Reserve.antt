@@ -5,8 +5,8 @@ use Rattle.area_layout.{specs.Layout.{Shape, IsLayout, judged}, proofs.Words.{pl
 use Rattle.board_face.specs.{AppEvents.{app_gist, entry_of, reserve_of}, Counts.{user_count}, Returns.{entries_on_way, returns, is_some_of, loans_out, abandoned_in}}
 use Rattle.board_face.specs.{Sides.{IsApp}, declared.views.app.{LentPiece.{LentPiece}, TakenNote.{TakenNote}, WrittenEntry.{WrittenEntry}, AppSide.{AppSide}}}
 use Rattle.board_face.proofs.{Parts.{count-tally, returned_in-count}, Tallies.{tally, tally-map}}
-use Rattle.plain_board.{specs.{Board.{Board, stand_of, others_of}, Seen.{HoldsReserve, all_of}, Sound.{IsSound}, Users.{IsMadeOfLoans}}, proofs.AppFrames.{has-setting}}
-use Rattle.plain_board.proofs.{OwnSide.{seen-users}, Reserves.{users-are_loans}}
+use Rattle.plain_board.specs.{Board.{Board, stand_of, others_of}, Seen.{HoldsReserve, all_app_sides}, Sound.{IsSound}, Users.{IsMadeOfLoans}}
+use Rattle.plain_board.proofs.{AppFrames.{has-setting}, OwnSide.{seen-users}, Reserves.{users-are_loans}}
 use Rattle.flow_queues.{specs.{declared.queues.Lending.{Lending}, Entries.{loans_of, lies_in}}, proofs.Tokens.{total-append, even-lies, even-bytes}}
 use Rattle.app_worker.specs.{Core.{total, Each, is_odd, lent_piece, over_read, read_out}, State.{State, Common, Working, LiesOutside, odd_loans}, Turns.{IsCaughtUp}}
 use Rattle.app_worker.proofs.Flushing.{lies-away}
@@ -108,7 +108,7 @@ module _ (board : Board) (a : ℕ) (x : AppSide) (st : State) (sound : IsSound (
   pub not-held : HoldsReserve (app_gist x.view) (others_of board a) → ⊥
   not-held holds =
       let b = reserve_of x.view in
-      let users : user_count x.view.app b board.nic (all_of (app_gist x.view) (others_of board a)) ≡ 0 =
+      let users : user_count x.view.app b board.nic (all_app_sides (app_gist x.view) (others_of board a)) ≡ 0 =
       seen-users (stand_of board) a x sound here x.view.app b ∙ (ap (λ n. user_count n b board.nic board.apps) here.number ∙ no-users) in
       let spares = ap (λ own. count_by (λ s. s.own.buffer == b) own) common.owns in
       let held = holds.held in

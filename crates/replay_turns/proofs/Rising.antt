@@ -4,7 +4,7 @@ use Rattle.std.{specs.{Prelude.{MatchBool}, List.{slice_get}}, proofs.lemmas.Boo
 use Rattle.zr_kinds.specs.declared.behaviour.Stopped.TheVariants as stop
 use Rattle.zr_kinds.specs.declared.fault.Fault.TheVariants.{Memory as memory_fault, Write as write_fault}
 use Rattle.board_face.specs.{declared.views.app.{AppView.{AppView}, AppSide.{AppSide}}, AppEvents.{app_gist}}
-use Rattle.app_worker.specs.{State.{State, Bare, Working, one_if, app_steps}, Turns.{Turns, Answers}, declared.turn.Turn.{Turn}}
+use Rattle.app_worker.specs.{State.{State, Bare, Working, one_if, app_steps}, Turns.{Turns, AnswersTurn}, declared.turn.Turn.{Turn}}
 use Rattle.app_worker.specs.declared.turn.{Turn.TheVariants.{Did, Idle, Finished, Failed}, Why.{Why}}
 use Rattle.plain_board.specs.Board.{Board, side_of}
 use Rattle.replay_turns.specs.Steps.{worker_steps, steps_from, TurnsRise}
@@ -52,7 +52,7 @@ module _ (was now : Worker) (old new : AppView) (kept kept_now : ℕ → Option 
       omega (arith, steps-later, ap one_if both.0, ap one_if both.1, left-first)
 
   rises-by : (turn : Turn) → result ≡ turn → ((why : Why) → turn ≢ Idle why)
-      → Answers was.state now.state old new faults faults_now turn → worker_steps old was < worker_steps new now
+      → AnswersTurn was.state now.state old new faults faults_now turn → worker_steps old was < worker_steps new now
   rises-by Did is some answer = omega (arith, answer, bare-later, left-first)
   rises-by (Idle why) is some answer = absurd (some why refl)
   rises-by Finished is some answer = omega (arith, steps-later, bare-later, left-first, ap one_if (gone is))

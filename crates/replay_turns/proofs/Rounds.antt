@@ -7,7 +7,7 @@ use Rattle.plain_board.specs.{Board.{Board, side_of}, Seen.{card_of, self_of}}
 use Rattle.app_worker.specs.declared.turn.Why.TheVariants.{NoNote}
 use Rattle.card_feed.specs.Feed.{FeedState, feed_steps}
 use Rattle.replay_turns.specs.{Rounds.{StandsStill, DidNothing}, Running.{RunFits}, Steps.{steps_from, run_steps}}
-use Rattle.replay_turns.specs.{Stuck.{IsCardStuck, IsKeptBack, IsAppStuck, AreStuck}, declared.role.Role.TheVariants.{Card, App}}
+use Rattle.replay_turns.specs.{Stuck.{IsCardStuck, IsAppKeptBack, IsAppStuck, AreStuck}, declared.role.Role.TheVariants.{Card, App}}
 use Rattle.replay_turns.proofs.{AllLeft.{WaitsForNote, kept-waits}, Answering.{because-stays}, Rising.{steps-alike}}
 use Rattle.run_account.specs.declared.run.{Run.{Run}, Worker.{Worker}}
 
@@ -49,7 +49,7 @@ module _ (board board_now : Board) (was now : Run) (same : StandsStill board boa
   }
 
   -- who waits for a note goes on waiting for it
-  waits-on : (a : ℕ) (w : Worker) → WaitsForNote board a w → IsKeptBack board_now a w
+  waits-on : (a : ℕ) (w : Worker) → WaitsForNote board a w → IsAppKeptBack board_now a w
   waits-on a w waits = record {
     why = NoNote;
     because = because-stays NoNote w.state (side_of board a).view (side_of board_now a).view (same.app a) waits.because;

@@ -1,7 +1,7 @@
 -- How far a run can still come, which each round that did something brings down.
 use Rattle.std.{proofs.Common.{◌≡◌, ℕ, ◌-◌, ◌<◌, ◌≤◌, List, [], ◌∷◌, length, Some, refl, ap, ◌∙◌, arith}, specs.List.{slice_get}}
 use Rattle.plain_board.specs.Board.{Board}
-use Rattle.replay_turns.{specs.{Rounds.{IsOfPlan}, Running.{Moment, Plays, RunsSince}, Steps.{run_steps, run_most}}, proofs.Bounds.{runs-within}}
+use Rattle.replay_turns.{specs.{Rounds.{IsOfPlan}, Running.{Moment, PlaysTurns, RunsSince}, Steps.{run_steps, run_most}}, proofs.Bounds.{runs-within}}
 use Rattle.run_account.specs.{Views.{Streams}, declared.run.{Run.{Run}, Worker.{Worker}}}
 
 -- how many entries may follow each loan, which is the same for all applications
@@ -24,7 +24,7 @@ comes-down : (before after most steps steps_now : ℕ) → before ≡ most → a
     → after - steps_now < before - steps
 comes-down before after most steps steps_now was now rises within = omega (arith, was, now, rises, within)
 
-module _ {S T : Type 0} {m : Streams S T} (was now : Moment m) (of : IsOfPlan was) (plays : Plays was now) where
+module _ {S T : Type 0} {m : Streams S T} (was now : Moment m) (of : IsOfPlan was) (plays : PlaysTurns was now) where
   -- it stays a run of that plan
   pub still-of : IsOfPlan now
   still-of = record { first = of.first; plan = of.plan; runs = plays.runs of.first of.plan of.runs }

@@ -6,7 +6,7 @@ use Rattle.page_pool.specs.Pool.{PoolState}
 use Rattle.card_feed.specs.{Counts.{AreAllSwept, searches_in, sweeping_in, sweeps_in}, Feed.{FeedState, FeedStands}, declared.plan.Plan.{Plan}}
 use Rattle.card_feed.proofs.{Beginning.{feeds_stand}, Sweeping.{plays-all}}
 use Rattle.run_account.specs.{Ran.{Told}, Views.{Ends, Streams}, declared.run.Run.{Run}}
-use Rattle.replay_turns.specs.{Following.{Moves, Follows, IsNewRun, RunsBy}, Running.{Moment, moment}, declared.role.Role.{Role, TheVariants.{Card, App}}}
+use Rattle.replay_turns.specs.{Following.{RoleMoves, Follows, IsNewRun, RunsBy}, Running.{Moment, moment}, declared.role.Role.{Role, TheVariants.{Card, App}}}
 
 -- the card stands by these frames, and each sweep is counted
 record SweptSoFar {S T : Type 0} {m : Streams S T} (first : S) (ports : List ℕ) (split : ℕ) (now : Moment m) : Type 0 where
@@ -18,7 +18,7 @@ module _ {S T : Type 0} {m : Streams S T} (first : S) (ports : List ℕ) (split 
   abbrev Stands : Moment m → Type 0
   Stands now = SweptSoFar first ports split now
 
-  moved : (role : Role) (was now : Moment m) → Moves role was now → Stands was → Stands now
+  moved : (role : Role) (was now : Moment m) → RoleMoves role was now → Stands was → Stands now
   moved Card was now moves before =
       let turns = moves.turns first ports split before.frames before.stands in
       record {

@@ -3,12 +3,12 @@ use Rattle.std.proofs.{Common.{◌≡◌, ◌≢◌, ℕ, ◌<◌, ◌≤◌, Li
 use Rattle.std.specs.List.{slice_get}
 use Rattle.zr_kinds.specs.Limits.{most_records}
 use Rattle.board_face.specs.{declared.views.{app.AppSide.{AppSide}, parts.Setting.{Setting}, nic.{Dealt.{Dealt}, NicSide.{NicSide}}}, Sides.{side_in}}
-use Rattle.plain_board.specs.{Board.{Board, stand_of, sides_of, side_of}, Recorded.{IsRecorded}, Stand.{setting_of}, Sound.{IsSound}}
-use Rattle.card_feed.specs.{Feed.{FeedState, IsReady, FeedStands}, Turns.{FeedTurns}, declared.plan.Plan.{Plan}}
+use Rattle.plain_board.specs.{Board.{Board, stand_of, sides_of, side_of}, Recorded.{IsRecorded}, Stand.{setting_of_arrays}, Sound.{IsSound}}
+use Rattle.card_feed.specs.{Feed.{FeedState, IsFeedReady, FeedStands}, Turns.{FeedTurns}, declared.plan.Plan.{Plan}}
 use Rattle.run_account.specs.{Behind.{behind}, CardTurns.{CardActs, card_moment, turns}}
 use Rattle.run_account.{specs.{Running.{WorkerFits, WorkerGoes}, Views.{Ends, Streams, counts_at, ends_at, kept_at}, declared.run.{Run.{Run}, Worker.{Worker}}}, proofs.DealtEntries.{dealt-of}}
 use Rattle.run_account.proofs.Places.{InSet, here, there, in-set, get-set_same, get-set_other, get-within, kept-here, kept-there, losses-here, losses-there}
-use Rattle.replay_turns.specs.Running.{Moment, Plays, RunFits, RunsSince, moment, moment_at}
+use Rattle.replay_turns.specs.Running.{Moment, PlaysTurns, RunFits, RunsSince, moment, moment_at}
 
 -- ---- the board
 
@@ -27,14 +27,14 @@ setting-same : (board board_now : Board) → IsSound (stand_of board) → IsSoun
     → board_now.nic.view.setting ≡ board.nic.view.setting
 setting-same board board_now sound sound_now apps some =
     sound_now.set.card
-    ∙ one-setting (setting_of board.arrays) (setting_of board_now.arrays) board.apps some sound.set.roles
-    (subst (λ all. All (λ (app : AppSide). app.view.setting ≡ setting_of board_now.arrays) all) apps sound_now.set.roles)
+    ∙ one-setting (setting_of_arrays board.arrays) (setting_of_arrays board_now.arrays) board.apps some sound.set.roles
+    (subst (λ all. All (λ (app : AppSide). app.view.setting ≡ setting_of_arrays board_now.arrays) all) apps sound_now.set.roles)
     ∙ sym sound.set.card
 
 -- ---- the card
 
 module _ (board board_now : Board) (was now : Run) (workers : now.workers.items ≡ was.workers.items) (apps : board_now.apps ≡ board.apps)
-    (sound_now : IsSound (stand_of board_now)) (ready : IsReady now.feed board_now.nic.view) where
+    (sound_now : IsSound (stand_of board_now)) (ready : IsFeedReady now.feed board_now.nic.view) where
   pub card-fits : (n : ℕ) → RunFits board was n → IsRecorded (sides_of board_now) board_now.log → RunFits board_now now n
   card-fits n fits recorded = record {
     sound = sound_now;
@@ -102,7 +102,7 @@ module _ (board board_now : Board) (was now : Run) (app : ℕ) (w_was w_now : Wo
     sound = sound_now;
     recorded = recorded;
     roles = record {
-      ready = subst (λ f. IsReady f board_now.nic.view) (sym feed_is) (subst (λ nic. IsReady was.feed nic.view) (sym nic_is) fits.roles.ready);
+      ready = subst (λ f. IsFeedReady f board_now.nic.view) (sym feed_is) (subst (λ nic. IsFeedReady was.feed nic.view) (sym nic_is) fits.roles.ready);
       worker = λ a w is. elim (get-now a w is) [
         | here at same ↦ subst (λ b. WorkerFits (side_of board_now b).view w) (sym at)
             (subst (λ x. WorkerFits (side_of board_now app).view x) (sym same) worker_now)
@@ -165,7 +165,7 @@ module _ (board board_now : Board) (was now : Run) (app : ℕ) (w_was w_now : Wo
 
 -- ---- turns behind turns
 
-pub plays-through : {S T : Type 0} {m : Streams S T} (a b c : Moment m) → Plays a b → Plays b c → Plays a c
+pub plays-through : {S T : Type 0} {m : Streams S T} (a b c : Moment m) → PlaysTurns a b → PlaysTurns b c → PlaysTurns a c
 plays-through a b c before after = record {
   fits = after.fits;
   workers = after.workers ∙ before.workers;

@@ -3,11 +3,11 @@ use Rattle.std.{proofs.{Common.{◌≡◌, ℕ, ◌<◌, ◌≤◌, ◌||◌, Bo
 use Rattle.zr_kinds.specs.{Limits.{most_records}, declared.outcome.Tally.{Tally}}
 use Rattle.board_face.specs.{NicCalls.{apps_of}, declared.views.{parts.Setting.{Setting}, nic.{NicLook.{NicLook}, NicView.{NicView}}}}
 use Rattle.plain_board.specs.{Board.{Board, stand_of}, Sound.{IsSound}}
-use Rattle.card_feed.specs.{Coming.{ComesTo}, Feed.{FeedKnows, FeedState, IsReady, feed_steps}, Offered.{WantsRoom}, Turns.{FeedSteps, HasLooked}, declared.plan.Plan.{Plan}}
+use Rattle.card_feed.specs.{Coming.{ComesTo}, Feed.{FeedKnows, FeedState, IsFeedReady, feed_steps}, Offered.{WantsRoom}, Turns.{FeedSteps, HasLooked}, declared.plan.Plan.{Plan}}
 use Rattle.card_feed.specs.declared.{intake.Stage.{Stage}, arrived.Arrived.TheVariants.{Nothing}}
 use Rattle.run_account.specs.CardTurns.{CardActs, card_moment, steps as acts}
 use Rattle.run_account.{specs.{Views.{Ends, Streams}, declared.run.Run.{Run}}, proofs.DealtEntries.{dealt-of, dealt-up}}
-use Rattle.replay_turns.{specs.{Rounds.{DidNothing}, Running.{Moment, Plays, RunFits, RunsSince, moment}, Steps.{run_steps}, declared.role.Role.{Role}}, proofs.{Rounds.{steps-same}, Turns.{card-on}}}
+use Rattle.replay_turns.{specs.{Rounds.{DidNothing}, Running.{Moment, PlaysTurns, RunFits, RunsSince, moment}, Steps.{run_steps}, declared.role.Role.{Role}}, proofs.{Rounds.{steps-same}, Turns.{card-on}}}
 
 -- ---- the card
 
@@ -22,7 +22,7 @@ looked-later false Rests tells beside was now old new idle =
     omega (arith, feed, view)
 
 module _ (board board_now : Board) (was now : Run) (workers : now.workers.items ≡ was.workers.items) (apps : board_now.apps ≡ board.apps)
-    (sound_now : IsSound (stand_of board_now)) (ready : IsReady now.feed board_now.nic.view)
+    (sound_now : IsSound (stand_of board_now)) (ready : IsFeedReady now.feed board_now.nic.view)
     (steps : (ports : List ℕ) (split : ℕ) (frames : List (List ℕ)) → FeedKnows ports split frames was.feed board.nic.view
     → FeedSteps ports split frames Nothing was.feed now.feed board.nic.view board_now.nic.view) where
   -- the run goes on by a step of the card for which nothing has come
@@ -70,5 +70,5 @@ rises-on first was now false false before rose later rises is = absurd (true≢f
 
 -- ---- nothing was done
 
-pub plays-none : {S T : Type 0} {m : Streams S T} (now : Moment m) → RunFits now.board now.run (length now.ends.shelves) → Plays now now
+pub plays-none : {S T : Type 0} {m : Streams S T} (now : Moment m) → RunFits now.board now.run (length now.ends.shelves) → PlaysTurns now now
 plays-none now fits = record { fits = fits; workers = refl; many = refl; room = refl; runs = λ first plan runs. runs }

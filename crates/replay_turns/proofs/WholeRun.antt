@@ -6,9 +6,9 @@ use Rattle.plain_board.specs.Board.{Board}
 use Rattle.flow_queues.specs.Ends.{AppEnd}
 use Rattle.zr_kinds.specs.Limits.{most_records}
 use Rattle.card_feed.specs.{Counts.{searches_in}, declared.{outcome.Outcome.{Outcome}, plan.Plan.{Plan}}}
-use Rattle.run_account.specs.{Ran.{TellsOf, Ran, LacksMemory, told_of}, Running.{HasRun, AreOver, ends_of}, Views.{Streams, ends_at}, declared.run.Run.{Run}}
+use Rattle.run_account.specs.{Ran.{TellsOf, Ran, RunLacksMemory, told_of}, Running.{HasRun, IsRunOver, ends_of}, Views.{Streams, ends_at}, declared.run.Run.{Run}}
 use Rattle.run_account.proofs.{Ended.{end-few, end-well, end-told}, Leaving.{has-run}}
-use Rattle.replay_turns.specs.{Following.{Follows, FollowsRounds, IsNewRun, RunsBy, rounds_of}, Rounds.{IsOfPlan}, Running.{BeginsWith, Moment, Plays, PlaysBy, RunFits, RunsSince, moment_at}, Schedule.{role_of}}
+use Rattle.replay_turns.specs.{Following.{Follows, FollowsRounds, IsNewRun, RunsBy, rounds_of}, Rounds.{IsOfPlan}, Running.{BeginsWith, Moment, PlaysTurns, PlaysBy, RunFits, RunsSince, moment_at}, Schedule.{role_of}}
 use Rattle.replay_turns.proofs.{BoardOver.{have-ended}, Following.{follows-through}, StepsLeft.{still-of}, Turns.{plays-through}}
 
 pub on-err : {A E : Type 0} (r : Result A E) (P : Type 0) → P → OnErr r P
@@ -27,16 +27,16 @@ module _ {S T : Type 0} {m : Streams S T} (source : S) (items lent : List T) (n 
   pub one-of : IsOfPlan (moment_at m source lent opened begun)
   one-of = record { first = ends_at m source lent; plan = plan; runs = begins (ends_at m source lent) (omega (arith, size, enough, ap length is)) }
 
-  module _ (now : Moment m) (plays : Plays (moment_at m source lent opened begun) now) where
+  module _ (now : Moment m) (plays : PlaysTurns (moment_at m source lent opened begun) now) where
     abbrev ends : List AppEnd
     ends = ends_of now.run.workers.items
 
     pub since : RunsSince (ends_at m source items) plan now
-    since = (subst (λ shelves. Plays (moment_at m source shelves opened begun) now) is plays).runs (ends_at m source items) plan
+    since = (subst (λ shelves. PlaysTurns (moment_at m source shelves opened begun) now) is plays).runs (ends_at m source items) plan
         (begins (ends_at m source items) (omega (arith, size, enough)))
 
     -- what a run that is over leaves: its shelves are put back in place of all
-    module _ (over : AreOver now.run) (all : List T) where
+    module _ (over : IsRunOver now.run) (all : List T) where
       back-is : take n (now.ends.shelves ++ drop (length now.ends.shelves) all) ≡ now.ends.shelves
       back-is = back n now.ends.shelves all (plays.many ∙ ap length is ∙ sym size)
 
@@ -58,18 +58,18 @@ module _ {S T : Type 0} {m : Streams S T} (source : S) (items lent : List T) (n 
       whole-few outcome tells =
           end-few (ends_at m source items) now.ends plan now.board.nic now.board.apps now.run.feed ends outcome ended ran tells
 
-      pub whole-lacks : LacksMemory (ends_at m source items)
+      pub whole-lacks : RunLacksMemory (ends_at m source items)
           (ends_at m now.ends.source (take n (now.ends.shelves ++ drop (length now.ends.shelves) all))) plan
       whole-lacks =
           let told = end-told m (ends_at m source items) now.ends plan now.board.nic now.board.apps now.run.feed ends ended ran in
-          subst (λ shelves. LacksMemory (ends_at m source items) (ends_at m now.ends.source shelves) plan) (sym back-is)
+          subst (λ shelves. RunLacksMemory (ends_at m source items) (ends_at m now.ends.source shelves) plan) (sym back-is)
           (inr (told.0, now.board.nic, now.board.apps, told.2))
 
 -- ---- the turns of a text, and then rounds
 
 module _ {S T : Type 0} {m : Streams S T} (source : S) (items lent : List T) (n : ℕ) (opened : Board) (begun : Run) (mid : Moment m) (again : List T)
     (size : n ≡ length items) (is : lent ≡ items) (is_again : again ≡ take n (mid.ends.shelves ++ drop (length mid.ends.shelves) items))
-    (plays : Plays (moment_at m source lent opened begun) mid) where
+    (plays : PlaysTurns (moment_at m source lent opened begun) mid) where
   abbrev resumed : Moment m
   resumed = moment_at m mid.ends.source again mid.board mid.run
 
@@ -84,13 +84,13 @@ module _ {S T : Type 0} {m : Streams S T} (source : S) (items lent : List T) (n 
   pub text-plan : IsOfPlan (moment_at m source lent opened begun) → IsOfPlan resumed
   text-plan of = subst (λ (at : Moment m). IsOfPlan at) (sym same) (still-of _ mid of plays)
 
-  pub text-plays : (now : Moment m) → Plays resumed now → Plays (moment_at m source lent opened begun) now
-  text-plays now second = plays-through _ mid now plays (subst (λ (at : Moment m). Plays at now) same second)
+  pub text-plays : (now : Moment m) → PlaysTurns resumed now → PlaysTurns (moment_at m source lent opened begun) now
+  text-plays now second = plays-through _ mid now plays (subst (λ (at : Moment m). PlaysTurns at now) same second)
 
   -- its turns were those of the text, and then whole rounds
   pub text-by : (now : Moment m) (plan : Plan) (turns : List ℕ) → IsNewRun plan opened begun
       → Follows (map role_of turns) (moment_at m source lent opened begun) mid
-      → PlaysBy (FollowsRounds (length mid.run.workers.items)) resumed now → AreOver now.run
+      → PlaysBy (FollowsRounds (length mid.run.workers.items)) resumed now → IsRunOver now.run
       → (outcome : Outcome) → TellsOf now.run plan.ports.items outcome → (all : List T)
       → RunsBy (ends_at m source items) (ends_at m now.ends.source (take n (now.ends.shelves ++ drop (length now.ends.shelves) all))) plan turns
       (told_of outcome) now.board

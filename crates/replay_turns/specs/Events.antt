@@ -5,11 +5,11 @@ use Rattle.plain_board.specs.{Board.{Board, sides_of, stand_of}, Recorded.{IsRec
 use Rattle.card_feed.specs.declared.plan.Plan.{Plan}
 
 -- it has room for so many events where the plan asks for a log, and for none else
-abbrev pub room_of : Plan → ℕ
-room_of plan = if plan.options.events then most_events else 0
+abbrev pub log_room_of : Plan → ℕ
+log_room_of plan = if plan.options.events then most_events else 0
 
 -- The board that a run of this plan leaves is sound, and its log tells of it.
 pub record LeavesBoard (plan : Plan) (board : Board) : Type 0 where
   pub sound : IsSound (stand_of board)
   pub recorded : IsRecorded (sides_of board) board.log
-  pub room : board.log.room ≡ room_of plan
+  pub room : board.log.room ≡ log_room_of plan

@@ -5,8 +5,8 @@ use Rattle.plain_board.specs.{Board.{Board, new_board, stand_of, side_of, others
 use Rattle.app_worker.specs.{Turns.{Turns, look_of}, declared.turn.{Turn.{Turn, TheVariants.{Idle, Finished}}, Why.{Why}}}
 use Rattle.card_feed.specs.{Counts.{sweeping_in, sweeps_in}, Feed.{FeedStands, WantsRecord, feed_steps, new_feed}, Plan.{layout_of}, Turns.{FeedTurns, IsIdle}, declared.outcome.Outcome.{Outcome}}
 use Rattle.card_feed.specs.declared.plan.Plan.{Plan}
-use Rattle.run_account.specs.{Ran.{Ran, TellsOf, Told, told_of}, Running.{AreNew, AreOver}, Views.{Ends, Streams}, declared.run.{Run.{Run}, Worker.{Worker}}}
-use Rattle.replay_turns.specs.{Events.{LeavesBoard, room_of}, Running.{Moment, moment}, Schedule.{role_of}, declared.role.Role.{Role, TheVariants.{Card, App}}}
+use Rattle.run_account.specs.{Ran.{Ran, TellsOf, Told, told_of}, Running.{AreNew, IsRunOver}, Views.{Ends, Streams}, declared.run.{Run.{Run}, Worker.{Worker}}}
+use Rattle.replay_turns.specs.{Events.{LeavesBoard, log_room_of}, Running.{Moment, moment}, Schedule.{role_of}, declared.role.Role.{Role, TheVariants.{Card, App}}}
 
 -- Nothing of a board but an application's side moved, and what its log has.
 pub record OnlyAppMoved (app : ℕ) (was now : Board) : Type 0 where
@@ -52,15 +52,15 @@ pub record AppMoves {S T : Type 0} {m : Streams S T} (app : ℕ) (worker : Worke
   pub sound : IsSound (stand_of now.board)
 
 -- The role had a turn. An application that has left does nothing in it.
-abbrev pub Moves : {S T : Type 0} → {m : Streams S T} → Role → Moment m → Moment m → Type 0
-Moves Card was now = CardMoves was now
-Moves (App app) was now = (worker : Worker) × (slice_get was.run.workers.items app ≡ Some worker)
+abbrev pub RoleMoves : {S T : Type 0} → {m : Streams S T} → Role → Moment m → Moment m → Type 0
+RoleMoves Card was now = CardMoves was now
+RoleMoves (App app) was now = (worker : Worker) × (slice_get was.run.workers.items app ≡ Some worker)
     × (((worker.left ≡ true) × (now ≡ was)) ⊎ ((worker.left ≡ false) × AppMoves app worker was now))
 
 -- These roles had turns, one after another.
 abbrev pub Follows : {S T : Type 0} → {m : Streams S T} → List Role → Moment m → Moment m → Type 0
 Follows [] was now = now ≡ was
-Follows {S} {T} {m} (role ∷ roles) was now = (next : Moment m) × Moves role was next × Follows roles next now
+Follows {S} {T} {m} (role ∷ roles) was now = (next : Moment m) × RoleMoves role was next × Follows roles next now
 
 -- the first applications, in their order
 abbrev pub first_apps : ℕ → List Role
@@ -81,7 +81,7 @@ FollowsRounds apps was now = (rounds : ℕ) × Follows (rounds_of apps rounds) w
 
 -- Nobody has taken a turn.
 pub record IsNewRun (plan : Plan) (board : Board) (run : Run) : Type 0 where
-  pub board_is : board ≡ new_board (layout_of plan) plan.options.ring (room_of plan)
+  pub board_is : board ≡ new_board (layout_of plan) plan.options.ring (log_room_of plan)
   pub feed_is : run.feed ≡ new_feed plan.ports.items plan.options.split
   pub workers : AreNew plan run.workers.items
 
@@ -95,7 +95,7 @@ pub record RunsBy {S T : Type 0} {m : Streams S T} (was now : Ends m) (plan : Pl
   pub last : Run
   pub rounds : ℕ
   pub follows : Follows (map role_of turns ++ rounds_of (length plan.ports.items) rounds) (moment was opened begun) (moment now board_now last)
-  pub over : AreOver last
+  pub over : IsRunOver last
   pub outcome : Outcome
   pub tells : TellsOf last plan.ports.items outcome
   pub told_is : told ≡ told_of outcome

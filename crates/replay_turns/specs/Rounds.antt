@@ -5,7 +5,7 @@ use Rattle.page_pool.specs.Dealing.{CountsStrays}
 use Rattle.plain_board.specs.Board.{Board, side_of}
 use Rattle.card_feed.specs.declared.plan.Plan.{Plan}
 use Rattle.run_account.specs.{Views.{Ends, Streams}, declared.run.Run.{Run}}
-use Rattle.replay_turns.specs.{Running.{Moment, Plays, RunsSince}, Steps.{run_steps}, Stuck.{AreStuck, IsStuck}, declared.role.Role.{Role}}
+use Rattle.replay_turns.specs.{Running.{Moment, PlaysTurns, RunsSince}, Steps.{run_steps}, Stuck.{AreStuck, IsStuck}, declared.role.Role.{Role}}
 
 -- All is as it was, but for looks and what the applications know of their refill slots.
 pub record StandsStill (board board_now : Board) (was now : Run) : Type 0 where
@@ -23,7 +23,7 @@ pub record DidNothing (role : Role) (board board_now : Board) (was now : Run) : 
 
 -- Turns of which this says whether something was done: they bring nothing back, and where something was done further.
 pub record PlaysOn {S T : Type 0} {m : Streams S T} (did : Bool) (was now : Moment m) : Type 0 where
-  pub plays : Plays was now
+  pub plays : PlaysTurns was now
   pub later : run_steps was.board was.run ≤ run_steps now.board now.run
   pub rises : did ≡ true → run_steps was.board was.run < run_steps now.board now.run
 

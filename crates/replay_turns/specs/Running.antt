@@ -32,7 +32,7 @@ pub record RunFits (board : Board) (run : Run) (shelves : ℕ) : Type 0 where
   pub shelves_enough : length run.workers.items ≤ shelves
 
 -- Some turns: what is kept fits the board again, its log has room for as many events, and the run goes on.
-pub record Plays {S T : Type 0} {m : Streams S T} (was now : Moment m) : Type 0 where
+pub record PlaysTurns {S T : Type 0} {m : Streams S T} (was now : Moment m) : Type 0 where
   pub fits : RunFits now.board now.run (length now.ends.shelves)
   pub workers : length now.run.workers.items ≡ length was.run.workers.items
   pub many : length now.ends.shelves ≡ length was.ends.shelves
@@ -41,5 +41,5 @@ pub record Plays {S T : Type 0} {m : Streams S T} (was now : Moment m) : Type 0 
 
 -- Some turns, of which this holds besides.
 pub record PlaysBy {S T : Type 0} {m : Streams S T} (By : Moment m → Moment m → Type 0) (was now : Moment m) : Type 0 where
-  pub plays : Plays was now
+  pub plays : PlaysTurns was now
   pub by : By was now

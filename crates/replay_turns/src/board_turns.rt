@@ -4,7 +4,7 @@ ghost use Rattle.std.specs.Prelude.{◌≡◌, ℕ, ◌<◌, ◌≤◌, List, Ma
 ghost use Rattle.board_face.specs.{AppCalls.{IsHere}, AppEvents.{app_gist}};
 ghost use Rattle.plain_board.specs.{Board.{stand_of, sides_of, side_of, others_of}, Recorded.{IsRecorded}, Seen.{IsSeenBy, IsSeenByCard}, Sound.{IsSound}};
 ghost use Rattle.app_worker.specs.{State.{AppStands}, TurnMakes.{TurnMakes, at_work}, Turns.{look_of}, declared.turn.{Turn.TheVariants.{Idle}, Why.{Why}}};
-ghost use Rattle.card_feed.specs.{Feed.{IsReady, FeedKnows, FeedStands, WantsRecord, feed_steps}, Turns.{FeedSteps, FeedTurns, IsIdle}};
+ghost use Rattle.card_feed.specs.{Feed.{IsFeedReady, FeedKnows, FeedStands, WantsRecord, feed_steps}, Turns.{FeedSteps, FeedTurns, IsIdle}};
 ghost use Rattle.card_feed.specs.declared.arrived.Arrived.TheVariants.{Nothing};
 ghost use Rattle.replay_turns.specs.Following.{OnlyAppMoved};
 
@@ -19,8 +19,8 @@ pub(crate) fn card_step<S: Source>(
     feed: &mut Feed,
     source: &mut S,
 ) -> (PlainBoard, bool)
-    requires ready { IsReady feed.old board.nic.view }
-    ensures ready { IsReady feed.new result.0.nic.view }
+    requires ready { IsFeedReady feed.old board.nic.view }
+    ensures ready { IsFeedReady feed.new result.0.nic.view }
     ensures turns { (first : S) (ports : List ℕ) (split : ℕ) (frames : List (List ℕ))
         → FeedStands S.left S.faults first source.old ports split frames feed.old board.nic.view
         → FeedTurns S.left S.faults first source.new ports split frames feed.old feed.new
@@ -44,8 +44,8 @@ pub(crate) fn card_step<S: Source>(
 /// A turn of the card for which nothing has come: it sends what is pending and deals with entries. Each application's side stays as
 /// it is.
 pub(crate) fn card_keeps_up(board: PlainBoard, feed: &mut Feed) -> PlainBoard
-    requires ready { IsReady feed.old board.nic.view }
-    ensures ready { IsReady feed.new result.nic.view }
+    requires ready { IsFeedReady feed.old board.nic.view }
+    ensures ready { IsFeedReady feed.new result.nic.view }
     ensures steps { (ports : List ℕ) (split : ℕ) (frames : List (List ℕ))
         → FeedKnows ports split frames feed.old board.nic.view
         → FeedSteps ports split frames Nothing feed.old feed.new board.nic.view result.nic.view }

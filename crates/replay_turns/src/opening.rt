@@ -4,7 +4,7 @@ ghost use Rattle.std.specs.Prelude.{◌≡◌, ℕ, ◌≤◌, length, IfOk};
 ghost use Rattle.run_records.specs.Setting.{most_events};
 ghost use Rattle.card_feed.specs.Plan.{IsPlan, TakesTurns};
 ghost use Rattle.run_account.specs.Views.{streams};
-ghost use Rattle.replay_turns.specs.{Events.{room_of}, Following.{IsNewRun}, Running.{BeginsWith, RunFits}};
+ghost use Rattle.replay_turns.specs.{Events.{log_room_of}, Following.{IsNewRun}, Running.{BeginsWith, RunFits}};
 
 use card_feed::{Feed, Plan, new_feeds_stand};
 use plain_board::PlainBoard;
@@ -16,7 +16,7 @@ use zr_io::{Shelf, Source};
 
 /// For how many events the board's log has room.
 fn room(plan: &Plan) -> u32
-    ensures room { result ≡ room_of plan.now }
+    ensures room { result ≡ log_room_of plan.now }
     ensures most { result ≤ most_events }
 {
     if plan.options.events { MOST_EVENTS } else { 0 }

@@ -2,7 +2,7 @@
 
 ghost use Rattle.std.specs.Prelude.{◌<◌, length, map, MatchBool};
 ghost use Rattle.replay_turns.specs.{Rounds.{IsOfPlan}, Following.{Follows, FollowsRounds, round_of}, Running.{RunFits, PlaysBy, moment_at}, Schedule.{AreTurns, role_of}, Steps.{run_steps}, Stuck.{AreStuck}};
-ghost use Rattle.run_account.specs.{Running.{AreOver}, Views.{streams}};
+ghost use Rattle.run_account.specs.{Running.{IsRunOver}, Views.{streams}};
 
 use crate::Role;
 use crate::role::role_of;
@@ -68,7 +68,7 @@ pub fn play_rounds<S: Source, T: Shelf>(
     requires fits { RunFits board run.old (length shelves.old) }
     requires plan { let m = streams S.left S.faults T.kept T.counts in
         IsOfPlan (moment_at m source.old shelves.old board run.old) }
-    ensures over { AreOver run.new }
+    ensures over { IsRunOver run.new }
     ensures plays { let m = streams S.left S.faults T.kept T.counts in
         PlaysBy (FollowsRounds (length run.old.workers.items))
         (moment_at m source.old shelves.old board run.old)

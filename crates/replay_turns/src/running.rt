@@ -2,7 +2,7 @@
 
 ghost use Rattle.std.specs.Prelude.{◌≡◌, ◌≤◌, length, vec_len, IfOk, OnErr};
 ghost use Rattle.card_feed.specs.Plan.{IsPlan, TakesTurns};
-ghost use Rattle.run_account.specs.{Ran.{LacksMemory, told_of}, Views.{ends_at, streams}};
+ghost use Rattle.run_account.specs.{Ran.{RunLacksMemory, told_of}, Views.{ends_at, streams}};
 ghost use Rattle.replay_turns.specs.{Following.{RanAlone, RanByText}, Schedule.{AreTurns}};
 
 use crate::opening::open;
@@ -40,7 +40,7 @@ pub fn run_turns<S: Source, T: Shelf>(
         (ends_at m source.new shelves.new.items) plan.now turns.now (told_of it.0) it.1) }
     // Want of memory comes before the first turn or behind the last.
     ensures lacks { let m = streams S.left S.faults T.kept T.counts in
-        OnErr result (LacksMemory (ends_at m source.old shelves.old.items)
+        OnErr result (RunLacksMemory (ends_at m source.old shelves.old.items)
         (ends_at m source.new shelves.new.items) plan.now) }
 {
     let (mut board, mut run) = open::<S, T>(alloc, random, plan)?;
@@ -75,7 +75,7 @@ pub fn run_rounds<S: Source, T: Shelf, G: Gate>(
         (ends_at m source.new shelves.new.items) plan.now (told_of it.0) it.1) }
     // Want of memory comes before the first turn or behind the last.
     ensures lacks { let m = streams S.left S.faults T.kept T.counts in
-        OnErr result (LacksMemory (ends_at m source.old shelves.old.items)
+        OnErr result (RunLacksMemory (ends_at m source.old shelves.old.items)
         (ends_at m source.new shelves.new.items) plan.now) }
 {
     let (mut board, mut run) = open::<S, T>(alloc, random, plan)?;

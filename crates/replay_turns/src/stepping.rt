@@ -2,7 +2,7 @@
 
 ghost use Rattle.std.specs.Prelude.{◌<◌, length, MatchBool};
 ghost use Rattle.run_account.specs.Views.{streams};
-ghost use Rattle.replay_turns.specs.{Following.{Moves}, Rounds.{DidNothing}, Running.{RunFits, PlaysBy, moment_at}, Schedule.{IsRole}, Steps.{run_steps}, declared.role.Role.TheVariants.{App}};
+ghost use Rattle.replay_turns.specs.{Following.{RoleMoves}, Rounds.{DidNothing}, Running.{RunFits, PlaysBy, moment_at}, Schedule.{IsRole}, Steps.{run_steps}, declared.role.Role.TheVariants.{App}};
 
 use crate::Role;
 use crate::board_turns::{app_step, card_step};
@@ -21,7 +21,7 @@ fn app_turn<S: Source, T: Shelf>(
     requires fits { RunFits board run.old (length shelves.old) }
     requires app { app < length run.old.workers.items }
     ensures plays { (source : S) → let m = streams S.left S.faults T.kept T.counts in
-        PlaysBy (Moves (App app)) (moment_at m source shelves.old board run.old)
+        PlaysBy (RoleMoves (App app)) (moment_at m source shelves.old board run.old)
         (moment_at m source shelves.new result.0 run.new) }
     ensures answer { MatchBool result.1 (run_steps board run.old < run_steps result.0 run.new)
         (DidNothing (App app) board result.0 run.old run.new) }
@@ -48,7 +48,7 @@ pub fn step<S: Source, T: Shelf>(
     requires fits { RunFits board run.old (length shelves.old) }
     requires role { IsRole (length run.old.workers.items) role }
     ensures plays { let m = streams S.left S.faults T.kept T.counts in
-        PlaysBy (Moves role) (moment_at m source.old shelves.old board run.old)
+        PlaysBy (RoleMoves role) (moment_at m source.old shelves.old board run.old)
         (moment_at m source.new shelves.new result.0 run.new) }
     ensures answer { MatchBool result.1 (run_steps board run.old < run_steps result.0 run.new)
         (DidNothing role board result.0 run.old run.new) }

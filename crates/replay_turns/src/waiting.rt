@@ -2,9 +2,9 @@
 //! next is offered, and none lies about while a source has no more.
 
 ghost use Rattle.std.specs.Prelude.{◌≤◌, length};
-ghost use Rattle.card_feed.specs.Feed.{IsReady};
-ghost use Rattle.run_account.specs.{Running.{AreOver}, Views.{Ends, streams}};
-ghost use Rattle.replay_turns.specs.{Rounds.{IsOfPlan, PlaysOn, RisesOrStuck}, Running.{RunFits, Plays, PlaysBy, moment, moment_at}, Steps.{run_steps}};
+ghost use Rattle.card_feed.specs.Feed.{IsFeedReady};
+ghost use Rattle.run_account.specs.{Running.{IsRunOver}, Views.{Ends, streams}};
+ghost use Rattle.replay_turns.specs.{Rounds.{IsOfPlan, PlaysOn, RisesOrStuck}, Running.{RunFits, PlaysTurns, PlaysBy, moment, moment_at}, Steps.{run_steps}};
 
 use crate::Role;
 use crate::board_turns::card_keeps_up;
@@ -42,10 +42,10 @@ fn ask_apps<G: Gate>(gate: &G, taken: &mut Taken, run: &Run) {
 
 /// A turn of the card in which it reads nothing.
 fn keep_up<S: Source, T: Shelf>(board: PlainBoard, run: &mut Run) -> PlainBoard
-    requires ready { IsReady run.old.feed board.nic.view }
+    requires ready { IsFeedReady run.old.feed board.nic.view }
     ensures plays { let m = streams S.left S.faults T.kept T.counts in (ends : Ends m)
         → RunFits board run.old (length ends.shelves)
-        → Plays (moment ends board run.old) (moment ends result run.new) }
+        → PlaysTurns (moment ends board run.old) (moment ends result run.new) }
     ensures later { run_steps board run.old ≤ run_steps result run.new }
 {
     card_keeps_up(board, &mut run.feed)
@@ -131,9 +131,9 @@ pub fn play_waiting<S: Source, T: Shelf, G: Gate>(
     requires fits { RunFits board run.old (length shelves.old) }
     requires plan { let m = streams S.left S.faults T.kept T.counts in
         IsOfPlan (moment_at m source.old shelves.old board run.old) }
-    ensures over { AreOver run.new }
+    ensures over { IsRunOver run.new }
     ensures plays { let m = streams S.left S.faults T.kept T.counts in
-        Plays (moment_at m source.old shelves.old board run.old)
+        PlaysTurns (moment_at m source.old shelves.old board run.old)
         (moment_at m source.new shelves.new result run.new) }
 {
     let mut taken = Taken { card: 0, app: 0 };

@@ -13,7 +13,7 @@ use Rattle.app_worker.specs.Marks.{FramesStandTogether, marks_of}
 use Rattle.flow_queues.specs.{Ends.{AppEnd, HasLeft}, Returned.{HasReturned}}
 use Rattle.card_feed.specs.{Account.{offered_to, AppAccounts, AccountsFor, IsFlowRead}, Feed.{FeedState}, Sent.{IsOfOwnFlow}, Plan.{how_of}}
 use Rattle.card_feed.{specs.declared.plan.Plan.{Plan}, proofs.{Sharing.{closed_show}, SentNotes.{notes-whole, notes-own}, OwnFlows.{own-marks}, OfFlow.{there}}}
-use Rattle.run_account.{specs.{Ran.{line_of, lines_of}, Running.{HasRun}, Views.{Ends, Streams, counts_at, kept_at}}, proofs.{AppLines.{one-value, line-at, many-lines}, Gone.{side-at, many-sides}}}
+use Rattle.run_account.{specs.{Ran.{app_line_of, app_lines_of}, Running.{HasRun}, Views.{Ends, Streams, counts_at, kept_at}}, proofs.{AppLines.{one-value, line-at, many-lines}, Gone.{side-at, many-sides}}}
 use Rattle.run_account.proofs.OwnReads.{flow-read, no-flow-read}
 
 -- What was sent to an application, and what it took and read.
@@ -31,7 +31,7 @@ pub record IsLineAt (ports : List ℕ) (ends : List AppEnd) (a : ℕ) (line : Ap
   pub end : AppEnd
   pub port_at : slice_get ports a ≡ Some port
   pub end_at : slice_get ends a ≡ Some end
-  pub is : line ≡ line_of port end
+  pub is : line ≡ app_line_of port end
 
 module _ {S T : Type 0} {m : Streams S T} (was now : Ends m) (plan : Plan) (nic : NicSide) (apps : List AppSide) (feed : FeedState)
     (ends : List AppEnd) (ended : HaveEnded nic apps)
@@ -67,12 +67,12 @@ module _ {S T : Type 0} {m : Streams S T} (was now : Ends m) (plan : Plan) (nic 
   left-at a app end here at = subst (λ (side : AppSide). HasLeft (how_of plan) (kept_at was a) (kept_at now a)
       (counts_at was a) (counts_at now a) side.view end) (side-at apps a app here) (runs.app a end at)
 
-  pub line-known : (a : ℕ) (line : AppLine) → slice_get (lines_of plan.ports.items ends) a ≡ Some line
+  pub line-known : (a : ℕ) (line : AppLine) → slice_get (app_lines_of plan.ports.items ends) a ≡ Some line
       → IsLineAt plan.ports.items ends a line
   line-known a line at =
       let below : a < length plan.ports.items = omega (
         arith,
-        slice_get_within (lines_of plan.ports.items ends) a line at,
+        slice_get_within (app_lines_of plan.ports.items ends) a line at,
         many-lines plan.ports.items ends runs.many,
       ) in
       let port = there plan.ports.items a below in
@@ -85,7 +85,7 @@ module _ {S T : Type 0} {m : Streams S T} (was now : Ends m) (plan : Plan) (nic 
         is = one-value (sym at ∙ line-at plan.ports.items ends a port.0 own.0 port.1 own.1);
       }
 
-  app-accounts : (a : ℕ) (app : AppSide) (line : AppLine) → IsApp apps a app → slice_get (lines_of plan.ports.items ends) a ≡ Some line
+  app-accounts : (a : ℕ) (app : AppSide) (line : AppLine) → IsApp apps a app → slice_get (app_lines_of plan.ports.items ends) a ≡ Some line
       → AppAccounts (how_of plan) plan.options.split (steered_in plan.ports.items runs.frames) feed.refused nic a app line
   app-accounts a app line here at =
       let known = line-known a line at in
@@ -105,7 +105,7 @@ module _ {S T : Type 0} {m : Streams S T} (was now : Ends m) (plan : Plan) (nic 
         no_stray = has.no_stray;
       })
 
-  flow-accounts : (number a : ℕ) (app : AppSide) (line : AppLine) → IsApp apps a app → slice_get (lines_of plan.ports.items ends) a ≡ Some line
+  flow-accounts : (number a : ℕ) (app : AppSide) (line : AppLine) → IsApp apps a app → slice_get (app_lines_of plan.ports.items ends) a ≡ Some line
       → Gained (kept_at was a number) (kept_at now a number) (IsFlowRead app line.stopped number)
   flow-accounts number a app line here at =
       let known = line-known a line at in
@@ -113,7 +113,7 @@ module _ {S T : Type 0} {m : Streams S T} (was now : Ends m) (plan : Plan) (nic 
       (flow-read (kept_at was a) (kept_at now a) (counts_at was a) (counts_at now a) (how_of plan) app
       known.end (left-at a app known.end here known.end_at) (told a app here).whole number)
 
-  pub accounts : AccountsFor m.shelf.kept was.shelves now.shelves plan runs.frames feed.refused nic apps (lines_of plan.ports.items ends)
+  pub accounts : AccountsFor m.shelf.kept was.shelves now.shelves plan runs.frames feed.refused nic apps (app_lines_of plan.ports.items ends)
       feed.pool.stats.strays
   accounts = record {
     opened = runs.setting;

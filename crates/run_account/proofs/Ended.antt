@@ -10,15 +10,15 @@ use Rattle.flow_table.specs.{Flows.{Flow, flows_of}, Stream.{stream_of}}
 use Rattle.frames_read.specs.{Ending.{steered_in}, Reading.{HasEnded}}
 use Rattle.board_face.specs.{Ended.{HaveEnded}, Sides.{IsApp, side_in}, declared.views.{nic.NicSide.{NicSide}, app.AppSide.{AppSide}}}
 use Rattle.page_pool.specs.Pool.{all_notes}
-use Rattle.flow_queues.specs.Ends.{AppEnd, IsCounted, IsTorn, bytes_in}
-use Rattle.card_feed.specs.{Account.{AccountsFor, IsStreamedTo}, Coming.{ComesTo, is_over}, Feed.{FeedState, end_of}}
-use Rattle.card_feed.specs.{Offered.{AreRefused, AreSettled, offers_of}, Outcomes.{AreLinesOf, line_of as flow_line_of}, declared.intake.Stage.{Stage}, Plan.{how_of}}
-use Rattle.card_feed.{specs.{declared.plan.Plan.{Plan}, Counts.{AreCounted, begins_fresh, found_in, is_long, long_in, searches_in}}, proofs.Bridge.{give_streams}}
+use Rattle.flow_queues.specs.Ends.{AppEnd, IsCounted, IsTorn, bytes_written_of}
+use Rattle.card_feed.specs.{Account.{AccountsFor, IsStreamedTo}, Coming.{ComesTo, is_over}, Feed.{FeedState, fault_of_stage}, Plan.{how_of}}
+use Rattle.card_feed.specs.{Offered.{AreRefused, AreSettled, offers_of}, Outcomes.{AreLinesOf, line_of_flow as flow_line_of}, declared.intake.Stage.{Stage}}
+use Rattle.card_feed.{specs.{declared.plan.Plan.{Plan}, Counts.{AreOffersCounted, begins_fresh, found_in, is_long, long_in, searches_in}}, proofs.Bridge.{give_streams}}
 use Rattle.card_feed.specs.{Counts.{sweeping_in, sweeps_in}, declared.outcome.Outcome.{Outcome}}
 use Rattle.card_feed.{specs.Need.{AreNeeded, RefusesByNeed}, proofs.{Needing.{refuses-by-need}, OfFlow.{there}}}
 use Rattle.card_feed.specs.declared.intake.Stage.TheVariants as stage
 use Rattle.run_account.specs.Laws.{RunsAreTold, RunsEndWell}
-use Rattle.run_account.specs.Ran.{There, IsLineOf, IsStreamed, HasFailed, IsAppLine, all_loans, line_of, lines_of, AreCounts, Ran, TellsOfEnds, Told, told_of}
+use Rattle.run_account.specs.Ran.{There, IsLineOf, IsStreamed, HasFailed, IsAppLine, all_loans, app_line_of, app_lines_of, AreCounts, Ran, TellsOfEnds, Told, told_of}
 use Rattle.run_account.{specs.{Running.{HasRun}, Views.{Ends, Streams, counts_at, failed_at, kept_at, left_at}}, proofs.AppLines.{one-value, is-there, line-at, many-lines, ports-of-lines}}
 use Rattle.run_account.proofs.{Accounting.{IsTold, told, line-known, side-is, accounts}, Counted.{gained-both}, Ports.{flows-have-apps}}
 use Rattle.run_account.{proofs.{SentFew.{frames-read, offers-few}, Strays.{strays-within}, Tellable.{OutcomeTells, all-told, all-tells}}, specs.Ways.{HasCome}}
@@ -29,7 +29,7 @@ use Rattle.run_account.proofs.Written.{all-own, app-below, flow-line, written-is
 -- a reading that is over has ended
 comes-over : {S : Type 0} (Wants : List (List ℕ) → List ℕ → Type 0) (left : S → Option (List ℕ)) (faults : S → ℕ) (first now : S)
     (ports : List ℕ) (at : Stage) (frames : List (List ℕ)) → is_over at ≡ true → ComesTo Wants left faults first now ports at frames
-    → HasEnded Wants (left first) (left now) (faults first) (faults now) ports frames (end_of at)
+    → HasEnded Wants (left first) (left now) (faults first) (faults now) ports frames (fault_of_stage at)
 comes-over Wants left faults first now ports stage.Unopened frames over comes = absurd (true≢false (sym over))
 comes-over Wants left faults first now ports (stage.Open capture) frames over comes = absurd (true≢false (sym over))
 comes-over Wants left faults first now ports (stage.Over end) frames over comes = comes
@@ -68,7 +68,7 @@ module _ {S T : Type 0} {m : Streams S T} (was now : Ends m) (plan : Plan) (nic 
       (subst (λ lines. AccountsFor m.shelf.kept was.shelves now.shelves plan runs.frames feed.refused nic apps lines told_is.pool.strays)
       (sym tells.apps_are)
       (subst (λ (stats : PoolStats). AccountsFor m.shelf.kept was.shelves now.shelves plan runs.frames feed.refused nic apps
-      (lines_of plan.ports.items ends) stats.strays) (sym tells.pool) (accounts was now plan nic apps feed ends ended runs)))
+      (app_lines_of plan.ports.items ends) stats.strays) (sym tells.pool) (accounts was now plan nic apps feed ends ended runs)))
 
   counts-are : AreCounts (flows_of (steered_in plan.ports.items runs.frames)) ends tells.counts
   counts-are = subst (λ flows. AreCounts flows ends tells.counts) runs.stands.knows.flows_are tells.are
@@ -78,7 +78,7 @@ module _ {S T : Type 0} {m : Streams S T} (was now : Ends m) (plan : Plan) (nic 
       (tells.flows (ports-of-lines plan.ports.items ends runs.many ∙ sym runs.stands.knows.ports_are))
 
   app-line-at : (a port : ℕ) (end : AppEnd) → slice_get plan.ports.items a ≡ Some port → slice_get ends a ≡ Some end
-      → slice_get told_is.apps a ≡ Some (line_of port end)
+      → slice_get told_is.apps a ≡ Some (app_line_of port end)
   app-line-at a port end port_at end_at = ap (λ lines. slice_get lines a) tells.apps_are ∙ line-at plan.ports.items ends a port end port_at end_at
 
   refused-are : AreRefused plan.options.split (offers_of (steered_in plan.ports.items runs.frames)) told_is.refused
@@ -88,13 +88,13 @@ module _ {S T : Type 0} {m : Streams S T} (was now : Ends m) (plan : Plan) (nic 
       subst (AreRefused plan.options.split (offers_of (steered_in plan.ports.items runs.frames))) (sym tells.refused)
       (subst (λ offers. AreRefused plan.options.split offers feed.refused) settled.awaits settled.refused_are)
 
-  counted : AreCounted plan.options.split (offers_of (steered_in plan.ports.items runs.frames)) told_is.refused None nic.view.dealt told_is.pool
+  counted : AreOffersCounted plan.options.split (offers_of (steered_in plan.ports.items runs.frames)) told_is.refused None nic.view.dealt told_is.pool
   counted =
-      let pool : AreCounted plan.options.split (offers_of (steered_in plan.ports.items runs.frames)) feed.refused None nic.view.dealt _ =
+      let pool : AreOffersCounted plan.options.split (offers_of (steered_in plan.ports.items runs.frames)) feed.refused None nic.view.dealt _ =
       rw (runs.ready.fits.none runs.closed) at runs.stands.knows.counted in
-      subst (λ refused. AreCounted plan.options.split (offers_of (steered_in plan.ports.items runs.frames)) refused None nic.view.dealt told_is.pool)
+      subst (λ refused. AreOffersCounted plan.options.split (offers_of (steered_in plan.ports.items runs.frames)) refused None nic.view.dealt told_is.pool)
       (sym tells.refused)
-      (subst (λ (stats : PoolStats). AreCounted plan.options.split (offers_of (steered_in plan.ports.items runs.frames)) feed.refused None
+      (subst (λ (stats : PoolStats). AreOffersCounted plan.options.split (offers_of (steered_in plan.ports.items runs.frames)) feed.refused None
       nic.view.dealt stats) (sym tells.pool) pool)
 
   by-need : RefusesByNeed plan (offers_of (steered_in plan.ports.items runs.frames)) told_is.refused
@@ -150,12 +150,12 @@ module _ {S T : Type 0} {m : Streams S T} (was now : Ends m) (plan : Plan) (nic 
       → slice_get plan.ports.items flow.app ≡ Some port → slice_get ends flow.app ≡ Some end → flow.app < length plan.ports.items
       → Gained (kept_at was flow.app number) (kept_at now flow.app number)
       (λ bytes. IsStreamed end.stopped (stream_of (steered_in plan.ports.items runs.frames) told_is.refused number) bytes
-      (bytes_in number end.flows))
+      (bytes_written_of number end.flows))
   one-stream number port flow end at port_at end_at within =
       let stream : List ℕ = stream_of (steered_in plan.ports.items runs.frames) told_is.refused number in
-      let count : ℕ = bytes_in number end.flows in
+      let count : ℕ = bytes_written_of number end.flows in
       let streamed = give_streams m.shelf.kept was.shelves now.shelves plan runs.frames told_is.refused nic apps told_is.apps
-      told_is.pool.strays accounts-told number flow (side_in apps flow.app) (line_of port end) at (here-is flow.app within)
+      told_is.pool.strays accounts-told number flow (side_in apps flow.app) (app_line_of port end) at (here-is flow.app within)
       (app-line-at flow.app port end port_at end_at) (told-at flow.app within).reads in
       gained-both (kept_at was flow.app number) (kept_at now flow.app number)
       (IsStreamedTo end.stopped stream) (IsCounted end.stopped count) (λ bytes. IsStreamed end.stopped stream bytes count)
@@ -171,9 +171,9 @@ module _ {S T : Type 0} {m : Streams S T} (was now : Ends m) (plan : Plan) (nic 
       let below : flow.app < length plan.ports.items = app-below plan.ports.items _ have number flow at in
       let (port, port_at) = there plan.ports.items flow.app below in
       let (end, end_at) = end-there flow.app below in
-      is-there (slice_get told_is.flows number) (flow_line_of flow (bytes_in number end.flows)) _
+      is-there (slice_get told_is.flows number) (flow_line_of flow (bytes_written_of number end.flows)) _
       (flow-line plan.ports.items _ ends tells.counts told_is.flows have counts-are lines-are number flow end at end_at)
-      (is-there (slice_get told_is.apps flow.app) (line_of port end) _ (app-line-at flow.app port end port_at end_at)
+      (is-there (slice_get told_is.apps flow.app) (app_line_of port end) _ (app-line-at flow.app port end port_at end_at)
       (record { port = refl; base = refl; fin = refl; end = refl }, one-stream number port flow end at port_at end_at below))
 
   others : (a number : ℕ) → option_map (λ (flow : Flow). flow.app) (slice_get (flows_of (steered_in plan.ports.items runs.frames)) number) ≢ Some a
@@ -189,7 +189,7 @@ module _ {S T : Type 0} {m : Streams S T} (was now : Ends m) (plan : Plan) (nic 
       (cases_lt a (length plan.ports.items))
 
   one-app : (a port : ℕ) (end : AppEnd) → slice_get plan.ports.items a ≡ Some port → slice_get ends a ≡ Some end → a < length plan.ports.items
-      → IsAppLine (how_of plan) port (counts_at was a) (counts_at now a) told_is.flows (line_of port end)
+      → IsAppLine (how_of plan) port (counts_at was a) (counts_at now a) told_is.flows (app_line_of port end)
   one-app a port end port_at end_at within =
       let went = runs.app a end end_at in
       let has = told-at a within in
@@ -213,7 +213,7 @@ module _ {S T : Type 0} {m : Streams S T} (was now : Ends m) (plan : Plan) (nic 
   app-lines a port port_at =
       let within = slice_get_within plan.ports.items a port port_at in
       let (end, end_at) = end-there a within in
-      is-there (slice_get told_is.apps a) (line_of port end) _ (app-line-at a port end port_at end_at) (one-app a port end port_at end_at within)
+      is-there (slice_get told_is.apps a) (app_line_of port end) _ (app-line-at a port end port_at end_at) (one-app a port end port_at end_at within)
 
   -- where its shelf failed
   failed-at : (a : ℕ) (app : AppLine) → slice_get told_is.apps a ≡ Some app → app.stopped ≡ stop.Write
@@ -228,7 +228,7 @@ module _ {S T : Type 0} {m : Streams S T} (was now : Ends m) (plan : Plan) (nic 
         torn = fails.torn;
         each = λ number flow flow_line flow_at goes flow_line_at.
             let same : slice_get ends flow.app ≡ Some end = ap (slice_get ends) goes ∙ known.end_at in
-            let is : flow_line_of flow (bytes_in number end.flows) ≡ flow_line = one-value (sym (flow-line plan.ports.items _ ends
+            let is : flow_line_of flow (bytes_written_of number end.flows) ≡ flow_line = one-value (sym (flow-line plan.ports.items _ ends
             tells.counts told_is.flows (flows-have-apps plan.ports.items runs.frames) counts-are lines-are number flow end flow_at same)
             ∙ flow_line_at) in
             subst (λ (l : FlowLine). Gained (kept_at was a number) (kept_at now a number)
@@ -237,7 +237,7 @@ module _ {S T : Type 0} {m : Streams S T} (was now : Ends m) (plan : Plan) (nic 
 
   -- and by what turns it came to its line
   came-to : (a port : ℕ) (line : AppLine) → slice_get plan.ports.items a ≡ Some port → slice_get told_is.apps a ≡ Some line
-      → (end : AppEnd) × (line ≡ line_of port end)
+      → (end : AppEnd) × (line ≡ app_line_of port end)
       × HasCome plan (kept_at was a) (kept_at now a) (counts_at was a) (counts_at now a) (side_in apps a).view end
   came-to a port line port_at at =
       let within = slice_get_within plan.ports.items a port port_at in

@@ -2,7 +2,7 @@
 use Rattle.std.proofs.Common.{◌≡◌, ◌≢◌, ℕ, zero, suc, ◌+◌, ◌<◌, ◌≤◌, List, [], ◌∷◌, length, true, false, ◌==◌, if◌then◌else◌, Some, refl, ap, subst, ◌∙◌, arith, ⊎_elim}
 use Rattle.std.{specs.List.{slice_get, sum_by}, proofs.lemmas.{Bool.{eq-eqb, ne_eqb, cases_eq}, List.Sums.{sum_by-cons}}}
 use Rattle.app_worker.specs.Core.{total, Each}
-use Rattle.flow_queues.{specs.Ends.{bytes_in, times}, proofs.Shown.{none-there}}
+use Rattle.flow_queues.{specs.Ends.{bytes_written_of, times_written}, proofs.Shown.{none-there}}
 
 -- ---- sums over so many numbers from one on
 
@@ -60,31 +60,31 @@ over-one number bytes from (suc k) above below = ⊎_elim
 
 -- ---- flows
 
-first-bytes : (f : ℕ × ℕ) (fs : List (ℕ × ℕ)) (n : ℕ) → times f.0 (f ∷ fs) ≤ 1 → bytes_in n (f ∷ fs) ≡ only f.0 f.1 n + bytes_in n fs
+first-bytes : (f : ℕ × ℕ) (fs : List (ℕ × ℕ)) (n : ℕ) → times_written f.0 (f ∷ fs) ≤ 1 → bytes_written_of n (f ∷ fs) ≡ only f.0 f.1 n + bytes_written_of n fs
 first-bytes f fs n one = ⊎_elim
     (λ (same : f.0 ≡ n).
     let test : (f.0 == n) ≡ true = eq-eqb f.0 n same in
     let own : (f.0 == f.0) ≡ true = eq-eqb f.0 f.0 refl in
-    let counted : times f.0 (f ∷ fs) ≡ 1 + times f.0 fs = rw own refl in
-    let none : bytes_in n fs ≡ 0 = none-there n fs (subst (λ k. times k fs ≡ 0) same (omega (arith, one, counted))) in
+    let counted : times_written f.0 (f ∷ fs) ≡ 1 + times_written f.0 fs = rw own refl in
+    let none : bytes_written_of n fs ≡ 0 = none-there n fs (subst (λ k. times_written k fs ≡ 0) same (omega (arith, one, counted))) in
     rw (test, none) (omega arith))
     (λ (other : f.0 ≢ n).
     let test : (f.0 == n) ≡ false = ne_eqb f.0 n other in
     rw test (omega arith))
     (cases_eq f.0 n)
 
-fewer : (f : ℕ × ℕ) (fs : List (ℕ × ℕ)) (n : ℕ) → times n (f ∷ fs) ≤ 1 → times n fs ≤ 1
+fewer : (f : ℕ × ℕ) (fs : List (ℕ × ℕ)) (n : ℕ) → times_written n (f ∷ fs) ≤ 1 → times_written n fs ≤ 1
 fewer f fs n one = omega (arith, one)
 
 -- where each flow has a number of its own, below so many, the bytes of all are those of all numbers
-pub bytes-by-number : (flows : List (ℕ × ℕ)) (count : ℕ) → ((number : ℕ) → times number flows ≤ 1) → Each (λ f. f.0 < count) flows
-    → over (λ n. bytes_in n flows) 0 count ≡ total (λ f. f.1) flows
+pub bytes-by-number : (flows : List (ℕ × ℕ)) (count : ℕ) → ((number : ℕ) → times_written number flows ≤ 1) → Each (λ f. f.0 < count) flows
+    → over (λ n. bytes_written_of n flows) 0 count ≡ total (λ f. f.1) flows
 bytes-by-number [] count one below = over-zero 0 count
 bytes-by-number (f ∷ fs) count one below =
-    let same : over (λ n. bytes_in n (f ∷ fs)) 0 count ≡ over (λ n. only f.0 f.1 n + bytes_in n fs) 0 count =
-    over-same (λ n. bytes_in n (f ∷ fs)) (λ n. only f.0 f.1 n + bytes_in n fs) 0 count (λ n. first-bytes f fs n (one f.0)) in
-    let parts : over (λ n. only f.0 f.1 n + bytes_in n fs) 0 count ≡ over (only f.0 f.1) 0 count + over (λ n. bytes_in n fs) 0 count =
-    over-add (only f.0 f.1) (λ n. bytes_in n fs) 0 count in
+    let same : over (λ n. bytes_written_of n (f ∷ fs)) 0 count ≡ over (λ n. only f.0 f.1 n + bytes_written_of n fs) 0 count =
+    over-same (λ n. bytes_written_of n (f ∷ fs)) (λ n. only f.0 f.1 n + bytes_written_of n fs) 0 count (λ n. first-bytes f fs n (one f.0)) in
+    let parts : over (λ n. only f.0 f.1 n + bytes_written_of n fs) 0 count ≡ over (only f.0 f.1) 0 count + over (λ n. bytes_written_of n fs) 0 count =
+    over-add (only f.0 f.1) (λ n. bytes_written_of n fs) 0 count in
     let first : over (only f.0 f.1) 0 count ≡ f.1 = over-one f.0 f.1 0 count (omega arith) (omega (arith, below.0)) in
-    let later : over (λ n. bytes_in n fs) 0 count ≡ total (λ g. g.1) fs = bytes-by-number fs count (λ n. fewer f fs n (one n)) below.1 in
+    let later : over (λ n. bytes_written_of n fs) 0 count ≡ total (λ g. g.1) fs = bytes-by-number fs count (λ n. fewer f fs n (one n)) below.1 in
     omega (arith, same, parts, first, later)

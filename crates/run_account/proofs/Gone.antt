@@ -4,7 +4,7 @@ use Rattle.std.proofs.lemmas.Option.{slice_get_within, get_or_from_slice_get}
 use Rattle.board_face.specs.{Blank.{blank_app}, NicCalls.{apps_of}, Sides.{HaveOneSetting, IsApp, side_in}, declared.views.parts.Setting.{Setting}}
 use Rattle.board_face.specs.declared.views.{nic.NicSide.{NicSide}, app.AppSide.{AppSide}}
 use Rattle.card_feed.{specs.{Plan.{layout_of}, declared.plan.Plan.{Plan}}, proofs.OfFlow.{there}}
-use Rattle.run_account.specs.{Running.{RolesFit, AreOver}, declared.run.{Run.{Run}, Worker.{Worker}}}
+use Rattle.run_account.specs.{Running.{RolesFit, IsRunOver}, declared.run.{Run.{Run}, Worker.{Worker}}}
 
 -- it holds of each, so of that at a place
 pub all-at : {A : Type 0} (P : A → Type 0) (xs : List A) (i : ℕ) (x : A) → All P xs → slice_get xs i ≡ Some x → P x
@@ -19,7 +19,7 @@ pub many-sides : (plan : Plan) (nic : NicSide) (apps : List AppSide) → HaveOne
     → nic.view.setting ≡ record { layout = layout_of plan; places = plan.options.ring } → length apps ≡ length plan.ports.items
 many-sides plan nic apps one opened = one.many ∙ ap (λ (s : Setting). apps_of s) opened
 
-module _ (nic : NicSide) (apps : List AppSide) (run : Run) (fits : RolesFit nic apps run) (over : AreOver run) where
+module _ (nic : NicSide) (apps : List AppSide) (run : Run) (fits : RolesFit nic apps run) (over : IsRunOver run) where
   pub worker-left : (a : ℕ) (w : Worker) → slice_get run.workers.items a ≡ Some w → w.left ≡ true
   worker-left a w at = all-at (λ (u : Worker). u.left ≡ true) run.workers.items a w over.apps at
 

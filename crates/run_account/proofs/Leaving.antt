@@ -4,16 +4,16 @@ use Rattle.std.{specs.{Prelude.{MatchBool, option_map}, List.{slice_get}}, proof
 use Rattle.zr_kinds.specs.declared.behaviour.Behaviour.{Behaviour}
 use Rattle.zr_io.specs.Moved.{Gained, ShelfCounts}
 use Rattle.board_face.specs.{Sides.{side_in}, declared.views.{nic.NicSide.{NicSide}, app.{AppSide.{AppSide}, AppView.{AppView}, TakenNote.{TakenNote}}}}
-use Rattle.flow_queues.specs.{declared.queues.FlowQueue.{FlowQueue}, Ends.{AppEnd, HasLeft, IsCounted, IsTorn, bytes_in, flow_end_of, times}, Shelves.{FlowEnds}}
-use Rattle.flow_queues.specs.{Totals.{Quits, capped, lent_len, loan_entries, raw_entries}, Entries.{AreBlocks, WasLive}, Returned.{HasReturned}}
+use Rattle.flow_queues.specs.{declared.queues.FlowQueue.{FlowQueue}, Ends.{AppEnd, HasLeft, IsCounted, IsTorn, bytes_written_of, flow_end_of, times_written}}
+use Rattle.flow_queues.specs.{Shelves.{FlowEnds}, Totals.{Quits, capped, lent_len, loan_entries, raw_entries}, Entries.{AreBlocks, WasLive}, Returned.{HasReturned}}
 use Rattle.app_worker.specs.{Core.{total, Each, many, own_notes, BeginAt}, StateOf.{end_of}, Kept.{flow_bytes}, State.{Bare, Common, Working}}
 use Rattle.card_feed.specs.{Plan.{TakesTurns, how_of}, declared.plan.Plan.{Plan}}
-use Rattle.run_account.specs.{Running.{AreOver, HasRun, RolesFit, Running, WorkerFits, WorkerRuns, ends_of}, Views.{Ends, Streams, counts_at, kept_at}, declared.run.{Run.{Run}, Worker.{Worker}}}
+use Rattle.run_account.specs.{Running.{IsRunOver, HasRun, RolesFit, Running, WorkerFits, WorkerRuns, ends_of}, Views.{Ends, Streams, counts_at, kept_at}, declared.run.{Run.{Run}, Worker.{Worker}}}
 use Rattle.run_account.{specs.Ways.{by_turns}, proofs.{Counted.{flow-counted}, Gone.{worker-left}, Torn.{flow-torn}}}
 
 -- ---- flows, as their numbers with their bytes
 
-pub bytes-by : (number : ℕ) (own : List FlowQueue) → bytes_in number (map flow_end_of own) ≡ flow_bytes number own
+pub bytes-by : (number : ℕ) (own : List FlowQueue) → bytes_written_of number (map flow_end_of own) ≡ flow_bytes number own
 bytes-by number [] = refl
 bytes-by number (f ∷ fs) = ap (λ n. if f.number == number then f.bytes else n) (bytes-by number fs)
 
@@ -21,7 +21,7 @@ sum-by : (own : List FlowQueue) → total (λ f. f.1) (map flow_end_of own) ≡ 
 sum-by [] = refl
 sum-by (f ∷ fs) = ap (λ n. f.bytes + n) (sum-by fs)
 
-times-by : (number : ℕ) (own : List FlowQueue) → times number (map flow_end_of own) ≡ many number own
+times-by : (number : ℕ) (own : List FlowQueue) → times_written number (map flow_end_of own) ≡ many number own
 times-by number [] = refl
 times-by number (f ∷ fs) = ap (λ n. (if f.number == number then 1 else 0) + n) (times-by number fs)
 
@@ -40,7 +40,7 @@ module _ (first kept : ℕ → Option (List ℕ)) (losses losses_now : ShelfCoun
   common : Common w.state v
   common = fits.stands.common
 
-  counted : (number : ℕ) → Gained (first number) (kept number) (IsCounted w.state.stopped (bytes_in number (end_of w.state).flows))
+  counted : (number : ℕ) → Gained (first number) (kept number) (IsCounted w.state.stopped (bytes_written_of number (end_of w.state).flows))
   counted number =
       subst (λ n. Gained (first number) (kept number) (IsCounted w.state.stopped n)) (sym (bytes-by number w.state.flows))
       (flow-counted first kept v w.state.flows number w.state.stopped bare.flows runs.shelved runs.failed)
@@ -105,7 +105,7 @@ worker-of None end is = absurd (cc)
 worker-of (Some w) end is = (w, refl, let same : end_of w.state ≡ end = cc in same)
 
 pub has-run : {S T : Type 0} {m : Streams S T} (was now : Ends m) (plan : Plan) (nic : NicSide) (apps : List AppSide) (run : Run)
-    → RolesFit nic apps run → AreOver run → Running was now plan nic apps run
+    → RolesFit nic apps run → IsRunOver run → Running was now plan nic apps run
     → HasRun was now plan nic apps run.feed (ends_of run.workers.items)
 has-run was now plan nic apps run fits over runs = record {
   plan_is = runs.plan_is;

@@ -3,11 +3,11 @@ use Rattle.std.proofs.Common.{◌≡◌, ℕ, true, false, Bool, if◌then◌els
 use Rattle.zr_kinds.specs.declared.behaviour.Stopped.TheVariants as stop
 use Rattle.zr_io.specs.Moved.{Gained, ShelfCounts}
 use Rattle.board_face.specs.{Opened.{new_app_view}, declared.views.{parts.Setting.{Setting}, app.AppView.{AppView}}}
-use Rattle.app_worker.specs.Kept.{IsFresh, is_nothing}
+use Rattle.app_worker.specs.Kept.{IsFreshApp, is_nothing}
 use Rattle.card_feed.specs.{Plan.{TakesTurns}, declared.plan.Plan.{Plan}}
-use Rattle.run_account.specs.{Behind.{begins}, Running.{IsNew, WorkerFits, WorkerGoes, WorkerRuns}, declared.run.Worker.{Worker}}
+use Rattle.run_account.specs.{Behind.{begins}, Running.{IsNewWorker, WorkerFits, WorkerGoes, WorkerRuns}, declared.run.Worker.{Worker}}
 
-fresh : (s : Setting) (a : ℕ) → IsFresh a (new_app_view s a)
+fresh : (s : Setting) (a : ℕ) → IsFreshApp a (new_app_view s a)
 fresh s a = record {
   app_is = refl;
   helds = refl;
@@ -29,7 +29,7 @@ no-write : (b : Bool) → (if b then stop.Quit else stop.No) ≡ stop.Write → 
 no-write true is = absurd (cc)
 no-write false is = absurd (cc)
 
-module _ (plan : Plan) (s : Setting) (a : ℕ) (v : AppView) (w : Worker) (is : v ≡ new_app_view s a) (new : IsNew plan a w) where
+module _ (plan : Plan) (s : Setting) (a : ℕ) (v : AppView) (w : Worker) (is : v ≡ new_app_view s a) (new : IsNewWorker plan a w) where
   stays : w.left ≡ true → ⊥
   stays left = let e = new.left_is in absurd (cc)
 

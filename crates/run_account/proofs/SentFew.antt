@@ -10,7 +10,7 @@ use Rattle.board_face.specs.{Relay.{IsProper, as_taken}, declared.views.nic.{Nic
 use Rattle.page_pool.specs.Frames.{Offered}
 use Rattle.app_worker.specs.Core.{total}
 use Rattle.flow_queues.specs.Totals.{taken_len}
-use Rattle.card_feed.specs.{Feed.{FeedState, FeedStands}, Offered.{AreSettled, Awaits, has_payload, offered_after, offers_of, without}}
+use Rattle.card_feed.specs.{Feed.{FeedState, FeedStands}, Offered.{AreSettled, Awaits, has_payload, offered_after, offers_of, offers_without}}
 use Rattle.run_account.proofs.NoteSums.{note_len, AreFew, frames-few}
 
 -- ---- frames
@@ -64,10 +64,10 @@ sent-few : (split : ℕ) (ports : List ℕ) (frames : List (List ℕ)) (refused 
 sent-few split ports frames refused hand sent pending settles few proper =
     let offers = offers_of (steered_in ports frames) in
     let seam : take (length sent) (sent ++ pending) ≡ sent = take-append_seam sent pending in
-    let shown : AreFew (longest_payload * length (without refused settles.settled)) sent =
-    subst (AreFew (longest_payload * length (without refused settles.settled))) seam
-    (frames-few split (without refused settles.settled) (sent ++ pending) (length sent) settles.shown (subst (All IsProper) (sym seam) proper)) in
-    let kept : length (without refused settles.settled) ≤ length settles.settled = filter-few _ settles.settled in
+    let shown : AreFew (longest_payload * length (offers_without refused settles.settled)) sent =
+    subst (AreFew (longest_payload * length (offers_without refused settles.settled))) seam
+    (frames-few split (offers_without refused settles.settled) (sent ++ pending) (length sent) settles.shown (subst (All IsProper) (sym seam) proper)) in
+    let kept : length (offers_without refused settles.settled) ≤ length settles.settled = filter-few _ settles.settled in
     let all : length settles.settled ≤ length offers = settled-few hand offers settles.settled settles.awaits in
     let bytes = shown.bytes in
     record { some = shown.some; bytes = omega (arith, bytes, kept, all, offers-few ports frames, few) }

@@ -6,12 +6,12 @@ use Rattle.std.proofs.lemmas.{List.Sums.{sum_by-cons, length-filter}, Option.{sl
 use Rattle.zr_kinds.specs.declared.{outcome.AppLine.{AppLine}, ring.Rqe.{Rqe}}
 use Rattle.board_face.specs.{Ended.{HaveEnded, IsServed}, Holders.{sent_to}, Relay.{IsNoLoanStray}, Sides.{IsApp, side_in}, declared.views.nic.NicSide.{NicSide}}
 use Rattle.board_face.specs.declared.views.{nic.{Dealt.{Dealt}, Fate.{Fate, TheVariants.{Honoured, Stray}}}, app.{WrittenEntry.{WrittenEntry}, AppSide.{AppSide}}}
-use Rattle.board_face.proofs.Tallies.{weight, weight-le, tally}
+use Rattle.board_face.proofs.Tallies.{one_if, one_if-le, tally}
 use Rattle.page_pool.specs.Dealing.{is_stray, strays_in}
 use Rattle.app_worker.specs.Core.{total}
 use Rattle.flow_queues.specs.{Ends.{AppEnd}, Totals.{raw_entries, loan_entries, taken_len}}
 use Rattle.card_feed.specs.{Feed.{FeedState}, Plan.{how_of}, declared.plan.Plan.{Plan}}
-use Rattle.run_account.{specs.{Ran.{all_loans, lines_of}, Running.{HasRun}, Views.{Ends, Streams}}, proofs.{Accounting.{line-known, side-is}, AppLines.{many-lines}, FlowSums.{over}}}
+use Rattle.run_account.{specs.{Ran.{all_loans, app_lines_of}, Running.{HasRun}, Views.{Ends, Streams}}, proofs.{Accounting.{line-known, side-is}, AppLines.{many-lines}, FlowSums.{over}}}
 use Rattle.run_account.proofs.{NoteSums.{note_len}, SentFew.{most_sent, notes-few, own-few, taken-sum}, Shares.{shares}}
 
 abbrev one_raw : WrittenEntry → ℕ
@@ -37,11 +37,11 @@ within-loans h most (line ∷ lines) from each =
 -- ---- of one application
 
 one-of : {A : Type 0} (p : A → Bool) (b : Bool) (x : A) (xs : List A)
-    → tally p (if b then x ∷ xs else xs) ≡ (if b then weight (p x) else 0) + tally p xs
+    → tally p (if b then x ∷ xs else xs) ≡ (if b then one_if (p x) else 0) + tally p xs
 one-of p true x xs = refl
 one-of p false x xs = omega arith
 
-both-weigh : (b c : Bool) → (if b then weight c else 0) ≡ (if c then weight b else 0)
+both-weigh : (b c : Bool) → (if b then one_if c else 0) ≡ (if c then one_if b else 0)
 both-weigh true true = refl
 both-weigh true false = refl
 both-weigh false true = refl
@@ -60,8 +60,8 @@ tally-swap p q (x ∷ xs) = omega (
 
 stray-kind : (of_loan : Bool) (fate : Fate) (entry dealt : Rqe) (app : ℕ)
     → IsNoLoanStray (record { entry = entry; of_loan = of_loan }, record { app = app; entry = dealt; fate = fate })
-    → weight (is_stray fate) ≤ (if of_loan then 0 else 1)
-stray-kind false fate entry dealt app none = weight-le (is_stray fate)
+    → one_if (is_stray fate) ≤ (if of_loan then 0 else 1)
+stray-kind false fate entry dealt app none = one_if-le (is_stray fate)
 stray-kind true Stray entry dealt app none = absurd (false≢true (sym (none refl)))
 stray-kind true (Honoured buffer) entry dealt app none = omega arith
 
@@ -133,10 +133,10 @@ module _ {S T : Type 0} {m : Streams S T} (was now : Ends m) (plan : Plan) (nic 
       mul-le-mul_left (how_of plan).stray (omega (arith, given, loans-are a end at)) in
       omega (arith, raw, swapped, follow, most)
 
-  pub strays-within : strays_in nic.view.dealt ≤ (how_of plan).stray * all_loans (lines_of plan.ports.items ends)
+  pub strays-within : strays_in nic.view.dealt ≤ (how_of plan).stray * all_loans (app_lines_of plan.ports.items ends)
   strays-within =
       let strays : List Dealt = filter (λ (d : Dealt). is_stray d.fate) nic.view.dealt in
-      let lines : List AppLine = lines_of plan.ports.items ends in
+      let lines : List AppLine = app_lines_of plan.ports.items ends in
       let all : over (λ a. tally (λ (d : Dealt). d.app == a) strays) 0 (length plan.ports.items) ≡ length strays =
       shares (length plan.ports.items) strays
       (All-filter (λ (d : Dealt). is_stray d.fate) (λ d. d.app < length plan.ports.items) nic.view.dealt runs.dealt) in

@@ -3,8 +3,8 @@ use Rattle.std.proofs.Common.{◌≡◌, ℕ, zero, suc, ◌+◌, ◌<◌, ◌�
 use Rattle.std.{proofs.{Common.{sym, ap, ◌∙◌, length-append, arith, ⊎_elim}, lemmas.Bool.{cases_lt}}, specs.List.{slice_get}}
 use Rattle.std.proofs.lemmas.Option.{slice_get-map, slice_get_within}
 use Rattle.flow_table.specs.Flows.{Flow}
-use Rattle.flow_queues.specs.Ends.{AppEnd, bytes_in}
-use Rattle.run_account.{specs.Ran.{line_of, lines_of, AreCounts}, proofs.AppLines.{one-value}}
+use Rattle.flow_queues.specs.Ends.{AppEnd, bytes_written_of}
+use Rattle.run_account.{specs.Ran.{app_line_of, app_lines_of, AreCounts}, proofs.AppLines.{one-value}}
 use Rattle.card_feed.proofs.Lines.{get-before, get-last}
 
 -- ---- lines
@@ -14,19 +14,19 @@ pub end-at : {E : Type 0} (end : E → AppEnd) (own : List E) (a : ℕ) (e : E) 
 end-at end own a e at = slice_get-map end own a ∙ ap (option_map end) at
 
 next-line : (ports : List ℕ) (ends : List AppEnd) (i port : ℕ) (end : AppEnd) → slice_get ports i ≡ Some port → slice_get ends i ≡ Some end
-    → lines_of (take (suc i) ports) (take (suc i) ends) ≡ lines_of (take i ports) (take i ends) ++ line_of port end ∷ []
+    → app_lines_of (take (suc i) ports) (take (suc i) ends) ≡ app_lines_of (take i ports) (take i ends) ++ app_line_of port end ∷ []
 next-line [] ends i port end first second = absurd (cc)
 next-line (p ∷ ports) [] i port end first second = absurd (cc)
 next-line (p ∷ ports) (e ∷ ends) zero port end first second =
-    ap (λ q. line_of q e ∷ []) (one-value first) ∙ ap (λ u. line_of port u ∷ []) (one-value second)
+    ap (λ q. app_line_of q e ∷ []) (one-value first) ∙ ap (λ u. app_line_of port u ∷ []) (one-value second)
 next-line (p ∷ ports) (e ∷ ends) (suc i) port end first second =
-    ap (λ lines. line_of p e ∷ lines) (next-line ports ends i port end first second)
+    ap (λ lines. app_line_of p e ∷ lines) (next-line ports ends i port end first second)
 
 pub lines-more : (ports : List ℕ) (ends : List AppEnd) (i port : ℕ) (end : AppEnd) → slice_get ports i ≡ Some port → slice_get ends i ≡ Some end
-    → lines_of (take (i + 1) ports) (take (i + 1) ends) ≡ lines_of (take i ports) (take i ends) ++ line_of port end ∷ []
+    → app_lines_of (take (i + 1) ports) (take (i + 1) ends) ≡ app_lines_of (take i ports) (take i ends) ++ app_line_of port end ∷ []
 lines-more ports ends i port end first second =
     let next : i + 1 ≡ suc i = omega arith in
-    ap (λ n. lines_of (take n ports) (take n ends)) next ∙ next-line ports ends i port end first second
+    ap (λ n. app_lines_of (take n ports) (take n ends)) next ∙ next-line ports ends i port end first second
 
 -- ---- counts
 
@@ -34,7 +34,7 @@ lines-more ports ends i port end first second =
 pub record AreCountsBelow (n : ℕ) (flows : List Flow) (ends : List AppEnd) (counts : List ℕ) : Type 0 where
   pub many : length counts ≡ n
   pub each : (number : ℕ) (flow : Flow) (end : AppEnd) → number < n → slice_get flows number ≡ Some flow → slice_get ends flow.app ≡ Some end
-      → slice_get counts number ≡ Some (bytes_in number end.flows)
+      → slice_get counts number ≡ Some (bytes_written_of number end.flows)
 
 app-of : (found : Option Flow) (app : ℕ) (flow : Flow) → option_map (λ (f : Flow). f.app) found ≡ Some app → found ≡ Some flow → flow.app ≡ app
 app-of None app flow is at = absurd (cc)
@@ -42,7 +42,7 @@ app-of (Some f) app flow is at = let same : f ≡ flow = one-value at in ap (λ 
 
 pub counts-more : (n : ℕ) (flows : List Flow) (ends : List AppEnd) (counts : List ℕ) (app count : ℕ) (own : AppEnd)
     → AreCountsBelow n flows ends counts → option_map (λ (f : Flow). f.app) (slice_get flows n) ≡ Some app
-    → slice_get ends app ≡ Some own → count ≡ bytes_in n own.flows → AreCountsBelow (n + 1) flows ends (counts ++ count ∷ [])
+    → slice_get ends app ≡ Some own → count ≡ bytes_written_of n own.flows → AreCountsBelow (n + 1) flows ends (counts ++ count ∷ [])
 counts-more n flows ends counts app count own so_far app_is own_at is = record {
   many = length-append counts (count ∷ []) ∙ omega (arith, so_far.many);
   each = λ number flow end below at e_at. ⊎_elim
@@ -52,7 +52,7 @@ counts-more n flows ends counts app count own so_far app_is own_at is = record {
       let goes : flow.app ≡ app = app-of (slice_get flows n) app flow app_is (ap (slice_get flows) (sym now) ∙ at) in
       let same : own ≡ end = one-value (sym own_at ∙ ap (slice_get ends) (sym goes) ∙ e_at) in
       get-last counts count number (omega (arith, now, so_far.many))
-      ∙ ap Some (is ∙ ap (λ k. bytes_in k own.flows) (sym now) ∙ ap (λ (e : AppEnd). bytes_in number e.flows) same))
+      ∙ ap Some (is ∙ ap (λ k. bytes_written_of k own.flows) (sym now) ∙ ap (λ (e : AppEnd). bytes_written_of number e.flows) same))
       (cases_lt number n);
 }
 

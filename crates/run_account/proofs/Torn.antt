@@ -8,7 +8,8 @@ use Rattle.board_face.specs.declared.views.app.{TakenNote.{TakenNote}, AppView.{
 use Rattle.flow_queues.specs.{declared.queues.FlowQueue.{FlowQueue}, Ends.{IsTorn}}
 use Rattle.flow_queues.specs.{Shelves.{kept_loans, IsShelved, AreOfOneLoan, ReadsFront, IsFrontShelved, AreFronts, FlowEnds}, Totals.{loan_entries}}
 use Rattle.flow_queues.{specs.Streams.{IsFront, HasFronts}, proofs.{InParts.{AreSame}, WholeFrames.{StandWhole, whole-own, placed-same}, ReadLemmas.{are-many}}}
-use Rattle.app_worker.specs.{Marks.{Mark, FramesStandTogether, numbered, placed_marks, marks_of}, Core.{Each, many, own_notes, BeginAt, placed_of}, Kept.{flow_bytes}}
+use Rattle.app_worker.specs.{Marks.{Mark, FramesStandTogether, numbered_notes, placed_marks, marks_of}, Core.{Each, many, own_notes, BeginAt, placed_of}}
+use Rattle.app_worker.specs.Kept.{flow_bytes}
 use Rattle.run_account.proofs.Counted.{IsThere, find, both, gained-both, shelved-long}
 
 -- ---- marks
@@ -23,7 +24,7 @@ few-values at (suc k) p = ⊎_elim
 -- the pieces of each frame stand together in a flow, where they do among all notes
 whole-of : (flow : ℕ) (taken : List TakenNote) → FramesStandTogether taken → StandWhole (own_notes flow taken)
 whole-of flow [] whole = tt
-whole-of flow (t ∷ taken) whole = whole-own flow (record { number = 0; note = t.note }) (numbered 1 taken) whole.0 whole.1
+whole-of flow (t ∷ taken) whole = whole-own flow (record { number = 0; note = t.note }) (numbered_notes 1 taken) whole.0 whole.1
 
 part : {A : Type 0} (xs ys zs : List A) (from to : ℕ) → length xs ≡ from → length xs + length ys ≡ to
     → drop from (take to ((xs ++ ys) ++ zs)) ≡ ys

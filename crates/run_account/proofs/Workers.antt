@@ -5,7 +5,7 @@ use Rattle.zr_kinds.specs.declared.behaviour.Stopped.TheVariants as stop
 use Rattle.zr_kinds.specs.declared.fault.Fault.TheVariants as fault
 use Rattle.zr_io.specs.Moved.{Rose, ShelfCounts}
 use Rattle.board_face.specs.declared.views.app.AppView.{AppView}
-use Rattle.app_worker.specs.{Marks.{FramesStandTogether}, State.{State}, Moves.{CountsOn}, Turns.{Answers, Turns}, declared.turn.Turn.{Turn, TheVariants.{Failed, Finished}}}
+use Rattle.app_worker.specs.{Marks.{FramesStandTogether}, State.{State}, Moves.{CountsOn}, Turns.{AnswersTurn, Turns}, declared.turn.Turn.{Turn, TheVariants.{Failed, Finished}}}
 use Rattle.flow_queues.specs.{Shelves.{AreShelved, AreFronts}, Streams.{HasFronts, HasAll}}
 use Rattle.run_account.specs.{Running.{WorkerRuns}, declared.run.Worker.{Worker}}
 
@@ -57,7 +57,7 @@ module _ (first kept kept_now : ℕ → Option (List ℕ)) (losses losses_old lo
 
   -- the turn didn't stop it by its shelf, where that hadn't failed
   no-failure : now.state.stopped ≢ stop.Write → result ≢ Failed fault.Write
-  no-failure not is = not (subst (λ turn. Answers was.state now.state old new losses_old.faults losses_now.faults turn) is turns.answer).1
+  no-failure not is = not (subst (λ turn. AnswersTurn was.state now.state old new losses_old.faults losses_now.faults turn) is turns.answer).1
 
   fronts : FramesStandTogether new.taken → HasFronts first kept_now new
   fronts are = elim (is-write now.state.stopped) [

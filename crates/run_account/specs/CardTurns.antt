@@ -3,7 +3,8 @@ use Rattle.std.specs.Prelude.{◌≡◌, ◌⊎◌, ℕ, ◌≤◌, List, []}
 use Rattle.board_face.specs.{NicCalls.{NicOnlySaw}, NicEvents.{saw_leave}, Opened.{new_nic_view}}
 use Rattle.board_face.specs.declared.views.{parts.Setting.{Setting}, nic.{NicLook.TheVariants.{NotLeft}, NicView.{NicView}}}
 use Rattle.page_pool.specs.Searching.{LooksAhead}
-use Rattle.card_feed.specs.{Feed.{FeedState, WantsRecord, new_feed}, Turns.{FeedPlays, FeedSteps, MayArrive, OnlyReads, ReadsOne}, declared.arrived.Arrived.{Arrived}}
+use Rattle.card_feed.specs.{Feed.{FeedState, WantsRecord, new_feed}, Turns.{FeedPlays, FeedSteps, MayArrive, OnlyReadsFrames, ReadsOne}}
+use Rattle.card_feed.specs.declared.arrived.Arrived.{Arrived}
 use Rattle.run_account.specs.Behind.{Behind}
 
 -- between two of its acts: the frames that it has read, what it keeps, and what it has seen
@@ -19,7 +20,7 @@ card_moment frames feed view = record { frames = frames; feed = feed; view = vie
 pub record ReadsAndPlays (ports : List ℕ) (was : CardMoment) (now : FeedState) (new : NicView) : Type 0 where
   pub read : FeedState
   pub more : List (List ℕ)
-  pub only : OnlyReads was.feed read
+  pub only : OnlyReadsFrames was.feed read
   pub reads : WantsRecord was.feed → ReadsOne ports read was.frames more
   pub waits : ¬ WantsRecord was.feed → (read ≡ was.feed) × (more ≡ was.frames)
   pub plays : FeedPlays read now was.view new

@@ -2,7 +2,7 @@
 use Rattle.std.specs.Prelude.{◌≡◌, List}
 use Rattle.board_face.specs.{Ended.{HaveEnded}, declared.views.{nic.NicSide.{NicSide}, app.AppSide.{AppSide}}}
 use Rattle.flow_queues.specs.Ends.{AppEnd}
-use Rattle.card_feed.specs.{Feed.{FeedState, end_of}, declared.{outcome.Outcome.{Outcome}, plan.Plan.{Plan}}}
+use Rattle.card_feed.specs.{Feed.{FeedState, fault_of_stage}, declared.{outcome.Outcome.{Outcome}, plan.Plan.{Plan}}}
 use Rattle.run_account.specs.{Ran.{Ran, TellsOfEnds, Told, told_of}, Running.{HasRun}, Views.{Ends, Streams}}
 
 -- The outcome that is told is that of the run.
@@ -19,4 +19,4 @@ RunsAreTold m =
     (was now : Ends m) (plan : Plan) (nic : NicSide) (apps : List AppSide) (feed : FeedState)
     (ends : List AppEnd)
     → HaveEnded nic apps → HasRun was now plan nic apps feed ends
-    → (told : Told) × (told.end ≡ end_of feed.stage) × Ran was now plan told nic apps
+    → (told : Told) × (told.end ≡ fault_of_stage feed.stage) × Ran was now plan told nic apps

@@ -9,8 +9,8 @@ use Rattle.zr_io.specs.Moved.{Gained, Rose, ShelfCounts, Took, raised_by}
 use Rattle.flow_table.specs.{Flows.{Flow, flows_of}, Stream.{stream_of}}
 use Rattle.frames_read.specs.{Ending.{steered_in}, Reading.{HasEnded}, Tally.{tally_of}}
 use Rattle.board_face.specs.{Ended.{HaveEnded}, Sides.{side_in}, declared.views.{nic.{NicSide.{NicSide}, NicView.{NicView}}, app.{AppSide.{AppSide}, AppView.{AppView}}}}
-use Rattle.flow_queues.specs.{Ends.{AppEnd, IsTorn, bytes_in}, Totals.{Quits}}
-use Rattle.card_feed.specs.{Account.{AccountsFor}, Feed.{FeedState, end_of}, Counts.{begins_fresh, found_in, long_in, searches_in, sweeping_in, sweeps_in}}
+use Rattle.flow_queues.specs.{Ends.{AppEnd, IsTorn, bytes_written_of}, Totals.{Quits}}
+use Rattle.card_feed.specs.{Account.{AccountsFor}, Feed.{FeedState, fault_of_stage}, Counts.{begins_fresh, found_in, long_in, searches_in, sweeping_in, sweeps_in}}
 use Rattle.card_feed.specs.{Offered.{AreRefused, WantsRoom, offers_of}, Outcomes.{IsOutcomeOf, flow_end}, declared.{outcome.Outcome.{Outcome}, plan.Plan.{Plan}}}
 use Rattle.card_feed.specs.{Need.{RefusesByNeed}, Plan.{how_of}}
 use Rattle.run_account.specs.{CardTurns.{CardTurns}, Running.{ends_of}, Views.{Ends, SourceSeen, Streams, counts_at, ends_at, failed_at, kept_at, left_at}, Ways.{HasCome}, declared.run.Run.{Run}}
@@ -69,8 +69,8 @@ abbrev pub all_loans : List AppLine → ℕ
 all_loans apps = sum_by (λ (app : AppLine). app.loans) apps
 
 -- the line of an application that has left with this
-abbrev pub line_of : ℕ → AppEnd → AppLine
-line_of port end = record {
+abbrev pub app_line_of : ℕ → AppEnd → AppLine
+app_line_of port end = record {
   port = port;
   written = end.written;
   loans = end.loans;
@@ -79,22 +79,22 @@ line_of port end = record {
 }
 
 -- the lines of the applications, in the order of the ports
-abbrev pub lines_of : List ℕ → List AppEnd → List AppLine
-lines_of [] ends = []
-lines_of (port ∷ ports) [] = []
-lines_of (port ∷ ports) (end ∷ ends) = line_of port end ∷ lines_of ports ends
+abbrev pub app_lines_of : List ℕ → List AppEnd → List AppLine
+app_lines_of [] ends = []
+app_lines_of (port ∷ ports) [] = []
+app_lines_of (port ∷ ports) (end ∷ ends) = app_line_of port end ∷ app_lines_of ports ends
 
 -- how many bytes of each flow its application wrote
 pub record AreCounts (flows : List Flow) (ends : List AppEnd) (counts : List ℕ) : Type 0 where
   pub many : length counts ≡ length flows
   pub each : (number : ℕ) (flow : Flow) (end : AppEnd) → slice_get flows number ≡ Some flow → slice_get ends flow.app ≡ Some end
-      → slice_get counts number ≡ Some (bytes_in number end.flows)
+      → slice_get counts number ≡ Some (bytes_written_of number end.flows)
 
 -- the outcome that is told of what the card keeps and the applications left with
 pub record TellsOfEnds (feed : FeedState) (ends : List AppEnd) (ports : List ℕ) (outcome : Outcome) : Type 0 where
   pub counts : List ℕ
   pub are : AreCounts feed.flows ends counts
-  pub is : IsOutcomeOf feed (lines_of ports ends) counts outcome
+  pub is : IsOutcomeOf feed (app_lines_of ports ends) counts outcome
 
 -- the outcome that is told of what the roles keep
 abbrev pub TellsOf : Run → List ℕ → Outcome → Type 0
@@ -128,7 +128,7 @@ pub record CardHasTurned (ports : List ℕ) (split : ℕ) (frames : List (List �
   pub tally : told.tally ≡ feed.tally
   pub refused : told.refused ≡ feed.refused
   pub pool : told.pool ≡ feed.pool.stats
-  pub end : told.end ≡ end_of feed.stage
+  pub end : told.end ≡ fault_of_stage feed.stage
 
 pub record Ran {S T : Type 0} {m : Streams S T} (was now : Ends m) (plan : Plan) (told : Told) (nic : NicSide) (apps : List AppSide)
     : Type 0 where
@@ -173,7 +173,7 @@ pub record Ran {S T : Type 0} {m : Streams S T} (was now : Ends m) (plan : Plan)
   -- The card came to what is told, and each application to its line, in the way that the plan says; and both to their views.
   pub turns : CardHasTurned plan.ports.items plan.options.split before told nic.view
   pub came : (number port : ℕ) (app : AppLine) → slice_get plan.ports.items number ≡ Some port → slice_get told.apps number ≡ Some app
-      → (end : AppEnd) × (app ≡ line_of port end)
+      → (end : AppEnd) × (app ≡ app_line_of port end)
       × HasCome plan (kept_at was number) (kept_at now number) (counts_at was number) (counts_at now number) (side_in apps number).view end
   -- All is over at the board, and it accounts for the run.
   pub over : HaveEnded nic apps
@@ -188,14 +188,14 @@ HaveWholeStreams was now ports quit frames told =
     (λ bytes. bytes ≡ stream_of (steered_in ports frames) told.refused number))
 
 -- Nothing was read, and no shelf touched.
-pub record IsUntouched {S T : Type 0} {m : Streams S T} (was now : Ends m) : Type 0 where
+pub record IsRunUntouched {S T : Type 0} {m : Streams S T} (was now : Ends m) : Type 0 where
   pub source_is : now.source ≡ was.source
   pub shelves_are : now.shelves ≡ was.shelves
 
 -- Want of memory came before the first turn; or behind the last one, and then the run is as any other.
-abbrev pub LacksMemory : {S T : Type 0} → {m : Streams S T} → Ends m → Ends m → Plan → Type 0
-LacksMemory was now plan =
-    IsUntouched was now ⊎ ((told : Told) × (nic : NicSide) × (apps : List AppSide) × Ran was now plan told nic apps)
+abbrev pub RunLacksMemory : {S T : Type 0} → {m : Streams S T} → Ends m → Ends m → Plan → Type 0
+RunLacksMemory was now plan =
+    IsRunUntouched was now ⊎ ((told : Told) × (nic : NicSide) × (apps : List AppSide) × Ran was now plan told nic apps)
 
 -- ---- a capture that is read beside the card
 
@@ -213,7 +213,7 @@ pub record RanBeside {S T : Type 0} {m : Streams S T} (was now : Ends m) (plan :
   pub ahead : HasReadOn m.source at now.source told.end
   pub ran : Ran was (ends_at m at now.shelves) plan told nic apps
 
--- `LacksMemory` of a run whose capture is read beside the card.
+-- `RunLacksMemory` of a run whose capture is read beside the card.
 abbrev pub LacksMemoryBeside : {S T : Type 0} → {m : Streams S T} → Ends m → Ends m → Plan → Type 0
 LacksMemoryBeside was now plan =
-    IsUntouched was now ⊎ ((told : Told) × (nic : NicSide) × (apps : List AppSide) × RanBeside was now plan told nic apps)
+    IsRunUntouched was now ⊎ ((told : Told) × (nic : NicSide) × (apps : List AppSide) × RanBeside was now plan told nic apps)

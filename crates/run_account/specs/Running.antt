@@ -6,8 +6,8 @@ use Rattle.zr_kinds.specs.declared.behaviour.Stopped.TheVariants as stop
 use Rattle.zr_io.specs.Moved.{Rose, ShelfCounts, raised_by}
 use Rattle.board_face.specs.{AppCalls.{IsHere}, Sides.{side_in}, declared.views.{nic.NicSide.{NicSide}, app.{AppSide.{AppSide}, AppView.{AppView}}}}
 use Rattle.flow_queues.specs.{Ends.{AppEnd, HasLeft}, Shelves.{AreShelved, AreFronts}, Returned.{HasReturned}, Streams.{HasFronts, HasAll}}
-use Rattle.app_worker.specs.{StateOf.{end_of}, Kept.{new_state, IsFresh}, Marks.{FramesStandTogether}, State.{AppStands}}
-use Rattle.card_feed.specs.{Feed.{FeedState, IsReady, FeedStands}, Plan.{IsPlan, TakesTurns, layout_of, how_of}, declared.plan.Plan.{Plan}}
+use Rattle.app_worker.specs.{StateOf.{end_of}, Kept.{new_state, IsFreshApp}, Marks.{FramesStandTogether}, State.{AppStands}}
+use Rattle.card_feed.specs.{Feed.{FeedState, IsFeedReady, FeedStands}, Plan.{IsPlan, TakesTurns, layout_of, how_of}, declared.plan.Plan.{Plan}}
 use Rattle.run_account.specs.{CardTurns.{CardTurns}, Views.{Ends, Streams, counts_at, kept_at}, Ways.{HasCome, TurnedSince}, declared.run.{Run.{Run}, Worker.{Worker}}}
 
 -- ---- what is kept fits the sides
@@ -20,21 +20,21 @@ pub record WorkerFits (v : AppView) (w : Worker) : Type 0 where
 
 -- The feed fits the card's side, and each state its application's.
 pub record RolesFit (nic : NicSide) (apps : List AppSide) (run : Run) : Type 0 where
-  pub ready : IsReady run.feed nic.view
+  pub ready : IsFeedReady run.feed nic.view
   pub worker : (a : ℕ) (w : Worker) → slice_get run.workers.items a ≡ Some w → WorkerFits (side_in apps a).view w
 
 -- ---- a run at which nobody has taken a turn
 
-pub record IsNew (plan : Plan) (a : ℕ) (w : Worker) : Type 0 where
+pub record IsNewWorker (plan : Plan) (a : ℕ) (w : Worker) : Type 0 where
   pub state_is : w.state ≡ new_state a plan.options.ring plan.options.how
   pub left_is : w.left ≡ false
-  pub stands : (v : AppView) → IsFresh a v → AppStands w.state v
+  pub stands : (v : AppView) → IsFreshApp a v → AppStands w.state v
   pub shelved : (kept : ℕ → Option (List ℕ)) (v : AppView) → AreShelved kept kept w.state.flows v
 
 -- one application for each port
 pub record AreNew (plan : Plan) (workers : List Worker) : Type 0 where
   pub many : length workers ≡ length plan.ports.items
-  pub each : (a : ℕ) (w : Worker) → slice_get workers a ≡ Some w → IsNew plan a w
+  pub each : (a : ℕ) (w : Worker) → slice_get workers a ≡ Some w → IsNewWorker plan a w
 
 -- ---- what was read, sent and written since the first turn
 
@@ -81,7 +81,7 @@ abbrev pub ends_of : List Worker → List AppEnd
 ends_of workers = map (λ (w : Worker). end_of w.state) workers
 
 -- The card was closed and every application has left.
-pub record AreOver (run : Run) : Type 0 where
+pub record IsRunOver (run : Run) : Type 0 where
   pub card : run.feed.closed ≡ true
   pub apps : All (λ (w : Worker). w.left ≡ true) run.workers.items
 
@@ -93,7 +93,7 @@ pub record HasRun {S T : Type 0} {m : Streams S T} (was now : Ends m) (plan : Pl
   pub frames : List (List ℕ)
   pub stands : FeedStands m.source.left m.source.failed was.source now.source plan.ports.items plan.options.split frames feed nic.view
   pub turns : CardTurns plan.ports.items plan.options.split frames feed nic.view
-  pub ready : IsReady feed nic.view
+  pub ready : IsFeedReady feed nic.view
   pub closed : feed.closed ≡ true
   pub setting : nic.view.setting ≡ record { layout = layout_of plan; places = plan.options.ring }
   pub many : length ends ≡ length plan.ports.items

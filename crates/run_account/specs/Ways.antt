@@ -5,7 +5,7 @@ use Rattle.zr_io.specs.Moved.{ShelfCounts}
 use Rattle.board_face.specs.{Opened.{new_app_view}, declared.views.{parts.Setting.{Setting}, app.AppView.{AppView}}}
 use Rattle.flow_queues.specs.Ends.{AppEnd}
 use Rattle.app_worker.specs.{Kept.{new_state}, State.{State}, StateOf.{end_of}, Turns.{Turns}, declared.turn.{Turn.{Turn, TheVariants.{Idle as idle}}}}
-use Rattle.zc_poll.specs.{Fresh.{new_desk}, PourTurns.{PourStage, TurnDoes as poll_does, pour_end, pour_stage}}
+use Rattle.zc_poll.specs.{Fresh.{new_stream_desk}, PourTurns.{PourStage, PourTurnDoes as poll_does, pour_end, pour_stage}}
 use Rattle.zc_poll.specs.declared.{step.Waits.TheVariants.{Enough}, to_shelf.{Poured.{Poured}, Rests.TheVariants.{Stream}}}
 use Rattle.zc_poll.specs.declared.to_shelf.PollTurn.{PollTurn, TheVariants.{Did, Ended, Idle as waiting}}
 use Rattle.zc_forward.specs.{Sending.{new_outbox}, Turns.{KeepsDelay, Stage, TurnDoes as forward_does, stage_of}}
@@ -66,10 +66,10 @@ TurnedSince plan first count now = TakesTurns plan × (setting : Setting) × (a 
 
 abbrev pub PolledSince : Plan → PollMoment → Type 0
 PolledSince plan now = (plan.options.polled ≡ true) × (setting : Setting) × (a : ℕ)
-    × Behind PollTurns (record { stage = pour_stage None (new_desk a) (new_app_view setting a); poured = None }) now
+    × Behind PollTurns (record { stage = pour_stage None (new_stream_desk a) (new_app_view setting a); poured = None }) now
 
 abbrev pub first_stage : Setting → ℕ → ℕ → ℕ → Stage
-first_stage setting a room delay = stage_of (new_outbox room) (new_desk a) [] (record { delay = delay; looks = 0 }) (new_app_view setting a)
+first_stage setting a room delay = stage_of (new_outbox room) (new_stream_desk a) [] (record { delay = delay; looks = 0 }) (new_app_view setting a)
 
 abbrev pub ForwardedSince : Plan → ForwardMoment → Type 0
 ForwardedSince plan now = (setting : Setting) × (a room delay : ℕ) × (plan.options.forward ≡ Some delay)

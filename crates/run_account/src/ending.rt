@@ -1,7 +1,7 @@
 //! What is told of a run that is over.
 
 ghost use Rattle.std.specs.Prelude.{◌≡◌, ◌≤◌, length, map, true, IfOk};
-ghost use Rattle.run_account.specs.Ran.{lines_of, AreCounts, TellsOfEnds};
+ghost use Rattle.run_account.specs.Ran.{app_lines_of, AreCounts, TellsOfEnds};
 
 use crate::Leaves;
 use card_feed::{Feed, Outcome};
@@ -15,7 +15,7 @@ fn app_lines<E: Leaves>(
     ends: &[E],
 ) -> Result<Vec<AppLine>, AllocError>
     requires { length ends.now ≡ length ports.now }
-    ensures { IfOk result (λ lines. lines.items ≡ lines_of ports.now (map E.end ends.now)) }
+    ensures { IfOk result (λ lines. lines.items ≡ app_lines_of ports.now (map E.end ends.now)) }
 {
     let mut lines = Vec::with_capacity(alloc, ends.len())?;
     for (app, port) in ports.iter().enumerate() {

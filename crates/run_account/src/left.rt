@@ -1,10 +1,10 @@
 //! What an application leaves, by whatever it took its turns.
 
 ghost use Rattle.std.specs.Prelude.{◌≡◌};
-ghost use Rattle.flow_queues.specs.Ends.{AppEnd, bytes_in};
+ghost use Rattle.flow_queues.specs.Ends.{AppEnd, bytes_written_of};
 ghost use Rattle.app_worker.specs.StateOf.{end_of};
 ghost use Rattle.zc_poll.specs.PourTurns.{pour_end};
-ghost use Rattle.run_account.specs.Ran.{line_of};
+ghost use Rattle.run_account.specs.Ran.{app_line_of};
 
 use crate::Worker;
 use zc_poll::Poured;
@@ -17,11 +17,11 @@ pub trait Leaves {
 
     /// The line of the application, which has this port.
     fn line(&self, port: u16) -> AppLine
-        ensures { result ≡ line_of port (end self.now) };
+        ensures { result ≡ app_line_of port (end self.now) };
 
     /// How many bytes of the flow with this number were written.
     fn flow_bytes(&self, flow: u32) -> u64
-        ensures { result ≡ bytes_in flow (end self.now).flows };
+        ensures { result ≡ bytes_written_of flow (end self.now).flows };
 }
 
 impl Leaves for Worker {

@@ -2,7 +2,7 @@
 
 ghost use Rattle.std.specs.Prelude.{◌<◌, length, IfOk};
 ghost use Rattle.card_feed.specs.Plan.{IsPlan};
-ghost use Rattle.run_account.specs.Running.{AreNew, IsNew};
+ghost use Rattle.run_account.specs.Running.{AreNew, IsNewWorker};
 
 use crate::Worker;
 use app_worker::AppState;
@@ -13,7 +13,7 @@ use std::alloc::{AllocError, Global};
 pub fn new_worker(alloc: Global, plan: &Plan, app: u32) -> Result<Worker, AllocError>
     requires plan { IsPlan plan.now }
     requires app { app < length plan.now.ports.items }
-    ensures { IfOk result (IsNew plan.now app) }
+    ensures { IfOk result (IsNewWorker plan.now app) }
 {
     let state = AppState::new(alloc, app, plan.options.ring, plan.options.how)?;
     Ok(Worker { state, left: false })

@@ -3,7 +3,7 @@ use Rattle.std.proofs.Common.{◌≡◌, ◌∙◌, ℕ, ◌+◌, ◌++◌, ◌�
 use Rattle.std.{proofs.Common.{Option, Some, None, refl, sym, ap, subst, arith, ⊎_elim}, specs.Prelude.{filter, ◌==◌, ◌%◌, option_map, option_and_then}}
 use Rattle.std.{specs.List.{list_any, list_all}, proofs.{lemmas.Bool.{cases_Bool, eqb-true}, Common.{length-append}}}
 use Rattle.run_records.specs.{declared.{event.Event.{Event}, holding.Holding.{Holding}}, Setting.{Setting}}
-use Rattle.run_records.specs.Holders.{Holdings, after, after_at, becomes, buffer_of, changed, has_counts, is_apart, is_in_range, is_same, is_pool_buffer, is_pool_count, is_reserve_of}
+use Rattle.run_records.specs.Holders.{Holdings, after, after_at, becomes, buffer_of_event, changed, has_counts, is_apart, is_in_range, is_same, is_pool_buffer, is_pool_count, is_reserve_of}
 use Rattle.run_records.{specs.Holders.{is_user, is_user_count, only_if, with_holders}, proofs.Weighing.{some_becomes, weight-length}}
 use Rattle.run_records.specs.declared.event.Event.TheVariants as event
 use Rattle.run_records.specs.declared.holding.Holding.TheVariants as holding
@@ -135,7 +135,7 @@ at-alike s one other e (Some b) same =
 pub after-alike : (s : Setting) (one other : Holdings) (e : Event) → SameHoldings one other → AllAlike (after s one e) (after s other e)
 unfolding after
 after-alike s one other e same = ⊎_elim
-    (λ (yes : is_in_range s e ≡ true). rw yes (at-alike s one other e (buffer_of e) same))
+    (λ (yes : is_in_range s e ≡ true). rw yes (at-alike s one other e (buffer_of_event e) same))
     (λ (no : is_in_range s e ≡ false). rw no tt)
     (cases_Bool (is_in_range s e))
 
@@ -240,6 +240,6 @@ pub after-few : (s : Setting) (holdings : Holdings) (e : Event) (later : Holding
     → (k : ℕ) → length (later k) ≤ length (holdings k) + 1
 unfolding after
 after-few s holdings e later is k = ⊎_elim
-    (λ (yes : is_in_range s e ≡ true). at-few s holdings e (buffer_of e) later (rw yes at is) k)
+    (λ (yes : is_in_range s e ≡ true). at-few s holdings e (buffer_of_event e) later (rw yes at is) k)
     (λ (no : is_in_range s e ≡ false). let none : None ≡ Some later = rw no at is in cc)
     (cases_Bool (is_in_range s e))

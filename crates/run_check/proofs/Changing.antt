@@ -7,8 +7,8 @@ use Rattle.run_records.specs.{declared.holding.Holding.{Holding}, Holders.{becom
 use Rattle.run_records.proofs.Weighing.{Moves, one_if, weight-append, weight-count, weight-length}
 use Rattle.run_records.specs.declared.holding.Holding.TheVariants as holding
 use Rattle.run_check.specs.declared.{buffer.{Buffer.TheInside.{Inside}, Keeper.{Keeper}}, places.{Hand.{Hand}, OwnedPlace.{OwnedPlace}}}
-use Rattle.run_check.specs.{Holding.{Changes, can_place, weight}, Places.{AreApart, IsNoLoan, all_placed, held_by}}
-use Rattle.run_check.specs.Buffer.{IsSoundBuffer, LeavesNoPlace, holders_in, kept_by, owed_from}
+use Rattle.run_check.specs.{Holding.{Changes, can_place, weight}, Places.{ArePlacesApart, IsNoLoan, all_placed, held_by}}
+use Rattle.run_check.specs.Buffer.{IsSoundBuffer, LeavesNoPlace, holders_in, kept_by_keeper, owed_from}
 use Rattle.run_check.proofs.Placing.{apart-put, apart-set, apart-take, found_some, free_there, rest_free, weight-put, weight-set, weight-take}
 use Rattle.run_check.proofs.Viewing.{alone_there, any-own, any-owed, any-place, any-spare, card_is, counted, owed_few, owed_fewer, owed_more, spare_is, there_found, users_fewer, users_more, view, weight-view}
 use Rattle.run_check.proofs.Weighing.{becomes_now, none_becomes, weight-absent, weight-one_if, weight-kept, weight-replicate, without}
@@ -34,7 +34,7 @@ some_length p (h ∷ held) some = omega arith
 
 -- one holder becomes others
 done : (b now : Inside) (held : List Holding) (old : Holding) (these : List Holding) → IsSoundBuffer b → holders_in b ≡ held
-    → AreApart 0 now.places.entries → LeavesNoPlace now.keeper now.places.entries → list_any (is_same old) (holders_in b) ≡ true
+    → ArePlacesApart 0 now.places.entries → LeavesNoPlace now.keeper now.places.entries → list_any (is_same old) (holders_in b) ≡ true
     → Moves (holders_in b) (old ∷ []) these (holders_in now) → now.count + 1 ≡ b.count + length these
     → ((app : ℕ) → app < 8 → get_or now.users app 0 + weight (one_if (is_user app)) (old ∷ []) ≡ get_or b.users app 0 + weight (one_if (is_user app)) these)
     → IsDone now (becomes old these held)
@@ -53,7 +53,7 @@ no_user (hand.Sent a) o l app lent = refl
 no_user (hand.App a) o l app lent = refl
 no_user (hand.Loan a) o l app lent = absurd lent
 
-kept_apart : (o l : ℕ) (k : Keeper) → list_all (is_apart o l) (kept_by k) ≡ true
+kept_apart : (o l : ℕ) (k : Keeper) → list_all (is_apart o l) (kept_by_keeper k) ≡ true
 kept_apart o l keeper.Nobody = refl
 kept_apart o l keeper.Card = refl
 kept_apart o l (keeper.App a) = refl
@@ -76,10 +76,10 @@ all-owed p from (n ∷ owed) passes =
     ∙ rw (all-replicate p n (holding.Owed from) (passes from), all-owed p (from + 1) owed passes) refl
 
 -- a test that all holders without a place pass says what it says of the places
-all-places : (p : Holding → Bool) (k : Keeper) (es : List (ℕ × OwnedPlace)) (owed : List ℕ) → ((k : Keeper) → list_all p (kept_by k) ≡ true)
+all-places : (p : Holding → Bool) (k : Keeper) (es : List (ℕ × OwnedPlace)) (owed : List ℕ) → ((k : Keeper) → list_all p (kept_by_keeper k) ≡ true)
     → ((app : ℕ) → p (holding.Owed app) ≡ true) → list_all p (view k es owed) ≡ list_all p (all_placed es)
 all-places p k es owed kept none =
-    all-append p (kept_by k) (all_placed es ++ owed_from 0 owed)
+    all-append p (kept_by_keeper k) (all_placed es ++ owed_from 0 owed)
     ∙ rw (kept k, all-append p (all_placed es) (owed_from 0 owed), all-owed p 0 owed none) (last (list_all p (all_placed es)))
   where
     last : (b : Bool) → (b && true) ≡ b
@@ -110,8 +110,8 @@ module _ (b : Inside) (held : List Holding) (sound : IsSoundBuffer b) (was : hol
     some : 0 < l
     some = found_some 0 o b.places.entries (record { len = l; hand = h }) sound.apart found
 
-    set_apart : AreApart 0 m.entries
-    set_apart = subst (AreApart 0) (sym put)
+    set_apart : ArePlacesApart 0 m.entries
+    set_apart = subst (ArePlacesApart 0) (sym put)
         (apart-set 0 o (record { len = l; hand = g }) (record { len = l; hand = h }) b.places.entries sound.apart found some (omega arith))
 
     set_alone : LeavesNoPlace b.keeper m.entries
@@ -141,7 +141,7 @@ module _ (b : Inside) (held : List Holding) (sound : IsSoundBuffer b) (was : hol
           weight-view (one_if (is_user a)) b.keeper b.places.entries b.owed,
           weight-take (λ h. 1) o (record { len = l; hand = hand.App a }) b.places.entries here,
           weight-take (one_if (is_user a)) o (record { len = l; hand = hand.App a }) b.places.entries here,
-          weight-one_if (is_user a) (kept_by b.keeper),
+          weight-one_if (is_user a) (kept_by_keeper b.keeper),
           weight-one_if (is_user a) (all_placed (remove_entry (is_at (nat_cmp o)) b.places.entries)),
           weight-one_if (is_user a) (owed_from 0 b.owed),
         )
@@ -161,8 +161,8 @@ module _ (b : Inside) (held : List Holding) (sound : IsSoundBuffer b) (was : hol
     take_moves f = subst (λ es. weight f (all_placed es) + f (held_by h o l) ≡ weight f (all_placed b.places.entries)) (sym taken)
         (weight-take f o (record { len = l; hand = h }) b.places.entries (there_found o l h b.places.entries sound.apart there))
 
-    take_apart : AreApart 0 m.entries
-    take_apart = subst (AreApart 0) (sym taken) (apart-take 0 (is_at (nat_cmp o)) b.places.entries sound.apart)
+    take_apart : ArePlacesApart 0 m.entries
+    take_apart = subst (ArePlacesApart 0) (sym taken) (apart-take 0 (is_at (nat_cmp o)) b.places.entries sound.apart)
 
     take_alone : LeavesNoPlace b.keeper m.entries
     take_alone = alone_there b.keeper b.places.entries m.entries (is_same (held_by h o l)) sound.alone there
@@ -218,8 +218,8 @@ module _ (b : Inside) (held : List Holding) (sound : IsSoundBuffer b) (was : hol
     first_moves f = subst (λ es. weight f (all_placed es) + f (holding.Held a o l) ≡ weight f (all_placed b.places.entries) + f (holding.Held a o at)) (sym put)
         (weight-set f 0 o (record { len = at; hand = hand.App a }) (record { len = l; hand = hand.App a }) b.places.entries sound.apart whole)
 
-    first_apart : AreApart 0 m.entries
-    first_apart = subst (AreApart 0) (sym put)
+    first_apart : ArePlacesApart 0 m.entries
+    first_apart = subst (ArePlacesApart 0) (sym put)
         (apart-set 0 o (record { len = at; hand = hand.App a }) (record { len = l; hand = hand.App a }) b.places.entries sound.apart whole some (omega arith))
 
     first_alone : (es : List (ℕ × OwnedPlace)) → LeavesNoPlace b.keeper es
@@ -241,8 +241,8 @@ module _ (b : Inside) (held : List Holding) (sound : IsSoundBuffer b) (was : hol
           (weight-put f (o + at) (record { len = l - at; hand = hand.App a }) m.entries
           (free_there (o + at) (l - at) m.entries 0 first_apart (omega arith) behind_free))
 
-      second_apart : AreApart 0 n.entries
-      second_apart = subst (AreApart 0) (sym then_put)
+      second_apart : ArePlacesApart 0 n.entries
+      second_apart = subst (ArePlacesApart 0) (sym then_put)
           (apart-put 0 (o + at) (record { len = l - at; hand = hand.App a }) m.entries first_apart (omega arith) (omega arith) behind_free)
 
       pub were_cut : IsDone (record b { places = n; count = b.count + 1 })
@@ -255,10 +255,10 @@ module _ (b : Inside) (held : List Holding) (sound : IsSoundBuffer b) (was : hol
 
   -- ---- the buffer as a whole
 
-  pub own_there : list_any (is_same holding.Own) held ≡ list_any (is_same holding.Own) (kept_by b.keeper)
+  pub own_there : list_any (is_same holding.Own) held ≡ list_any (is_same holding.Own) (kept_by_keeper b.keeper)
   own_there = ap (list_any (is_same holding.Own)) (sym was) ∙ any-own b.keeper b.places.entries b.owed
 
-  pub spare_there : (a : ℕ) → list_any (is_same (holding.Spare a)) held ≡ list_any (is_same (holding.Spare a)) (kept_by b.keeper)
+  pub spare_there : (a : ℕ) → list_any (is_same (holding.Spare a)) held ≡ list_any (is_same (holding.Spare a)) (kept_by_keeper b.keeper)
   spare_there a = ap (list_any (is_same (holding.Spare a))) (sym was) ∙ any-spare a b.keeper b.places.entries b.owed
 
   pub owed_there : (a : ℕ) → a < length b.owed → list_any (is_same (holding.Owed a)) held ≡ ltb 0 (get_or b.owed a 0)
@@ -268,14 +268,14 @@ module _ (b : Inside) (held : List Holding) (sound : IsSoundBuffer b) (was : hol
   pub free_here : (o l : ℕ) → list_all (is_apart o l) held ≡ list_all (is_apart o l) (all_placed b.places.entries)
   free_here o l = ap (list_all (is_apart o l)) (sym was) ∙ all-places (is_apart o l) b.keeper b.places.entries b.owed (λ k. kept_apart o l k) (λ app. refl)
 
-  pub shut_now : list_any (is_same holding.Own) (kept_by b.keeper) ≡ true
+  pub shut_now : list_any (is_same holding.Own) (kept_by_keeper b.keeper) ≡ true
       → Changes (becomes holding.Own [] held) (all_placed b.places.entries ++ owed_from 0 b.owed) true
   shut_now there =
       let keeps : b.keeper ≡ keeper.Card = card_is b.keeper there in
       subst (λ l. Changes (becomes holding.Own [] l) (all_placed b.places.entries ++ owed_from 0 b.owed) true) was
       (becomes_now holding.Own [] (holders_in b) (all_placed b.places.entries ++ owed_from 0 b.owed) (any-own b.keeper b.places.entries b.owed ∙ there)
-      (λ f. let kept : weight f (kept_by b.keeper) ≡ f holding.Own + 0 = ap (λ k. weight f (kept_by k)) keeps in
-      omega (arith, kept, weight-append f (kept_by b.keeper) (all_placed b.places.entries ++ owed_from 0 b.owed))))
+      (λ f. let kept : weight f (kept_by_keeper b.keeper) ≡ f holding.Own + 0 = ap (λ k. weight f (kept_by_keeper k)) keeps in
+      omega (arith, kept, weight-append f (kept_by_keeper b.keeper) (all_placed b.places.entries ++ owed_from 0 b.owed))))
 
   module _ (o l : ℕ) (m : BTreeMap ℕ OwnedPlace) (may : can_place held o l ≡ true)
       (put : m.entries ≡ insert_entry nat_cmp b.places.entries o (record { len = l; hand = hand.Card })) where
@@ -304,7 +304,7 @@ module _ (b : Inside) (held : List Holding) (sound : IsSoundBuffer b) (was : hol
     pub put_sound : IsSoundBuffer (record b { places = m; count = b.count + 1 })
     unfolding now
     put_sound = record {
-      apart = subst (AreApart 0) (sym put)
+      apart = subst (ArePlacesApart 0) (sym put)
           (apart-put 0 o (record { len = l; hand = hand.Card }) b.places.entries sound.apart (omega arith) may_parts.1 may_parts.2);
       alone = put_alone;
       counted = counted b.count (b.count + 1) b.users b.users (holders_in b) (holders_in now) [] (holding.Piece o l ∷ []) sound.counted
@@ -320,13 +320,13 @@ module _ (b : Inside) (held : List Holding) (sound : IsSoundBuffer b) (was : hol
           omega (arith, added f, same, weight-append f held (holding.Piece o l ∷ [])),
     )
 
-  pub may_place : (o l : ℕ) → list_any (is_same holding.Own) (kept_by b.keeper) ≡ true → 0 < l → o % 64 ≡ 0
+  pub may_place : (o l : ℕ) → list_any (is_same holding.Own) (kept_by_keeper b.keeper) ≡ true → 0 < l → o % 64 ≡ 0
       → can_place held o l ≡ list_all (is_apart o l) (all_placed b.places.entries)
   may_place o l card some unit = rw (own_there, free_here o l, card, lt-ltb 0 l some, eq-eqb (o % 64) 0 unit) refl
 
   -- ---- a spare buffer that is lent
 
-  module _ (a l : ℕ) (small : a < length b.users) (m : BTreeMap ℕ OwnedPlace) (some : 0 < l) (there : list_any (is_same (holding.Spare a)) (kept_by b.keeper) ≡ true)
+  module _ (a l : ℕ) (small : a < length b.users) (m : BTreeMap ℕ OwnedPlace) (some : 0 < l) (there : list_any (is_same (holding.Spare a)) (kept_by_keeper b.keeper) ≡ true)
       (put : m.entries ≡ insert_entry nat_cmp b.places.entries 0 (record { len = l; hand = hand.Loan a })) where
     keeps : b.keeper ≡ keeper.App a
     keeps = spare_is a b.keeper there
@@ -341,10 +341,10 @@ module _ (b : Inside) (held : List Holding) (sound : IsSoundBuffer b) (was : hol
         (becomes (holding.Spare a) (holding.Loan a 0 l ∷ []) held)
     own_lent =
         done b (record b { keeper = keeper.Nobody; places = m; users = set b.users a (get_or b.users a 0 + 1) }) held (holding.Spare a)
-        (holding.Loan a 0 l ∷ []) sound was (subst (AreApart 0) (sym one_place) (omega arith, some, tt)) tt
+        (holding.Loan a 0 l ∷ []) sound was (subst (ArePlacesApart 0) (sym one_place) (omega arith, some, tt)) tt
         (any-spare a b.keeper b.places.entries b.owed ∙ there)
         (λ f.
-        let kept : weight f (kept_by b.keeper) ≡ f (holding.Spare a) + 0 = ap (λ k. weight f (kept_by k)) keeps in
+        let kept : weight f (kept_by_keeper b.keeper) ≡ f (holding.Spare a) + 0 = ap (λ k. weight f (kept_by_keeper k)) keeps in
         let none : weight f (all_placed b.places.entries) ≡ 0 = ap (λ es. weight f (all_placed es)) empty in
         let one : weight f (all_placed m.entries) ≡ f (holding.Loan a 0 l) + 0 = ap (λ es. weight f (all_placed es)) one_place in
         omega (arith, kept, none, one, weight-view f b.keeper b.places.entries b.owed, weight-view f keeper.Nobody m.entries b.owed))
@@ -454,7 +454,7 @@ module _ (b : Inside) (held : List Holding) (sound : IsSoundBuffer b) (was : hol
   nothing_there none =
       let pool : b.count ≡ length (holders_in b) = sound.counted.pool in
       nil_from_length (all_placed b.places.entries ++ owed_from 0 b.owed)
-      (omega (arith, pool, none, length-append (kept_by b.keeper) (all_placed b.places.entries ++ owed_from 0 b.owed)))
+      (omega (arith, pool, none, length-append (kept_by_keeper b.keeper) (all_placed b.places.entries ++ owed_from 0 b.owed)))
 
   pub begun : (may : Bool) (one : Holding) → b.count ≡ 0 → may ≡ true
       → Changes (only_if (may && (length held == 0)) (Some (one ∷ []))) (one ∷ (all_placed b.places.entries ++ owed_from 0 b.owed)) true

@@ -1,11 +1,11 @@
 -- What is read of a line, byte by byte.
 use Rattle.std.proofs.Common.{◌≡◌, ℕ, ◌<◌, ◌∙◌, List, [], ◌∷◌, ◌++◌, length, get_or, Option, Some, None, IfSome, sym, ap, append-nil, length-append, arith, ⊎_elim}
 use Rattle.std.{proofs.{lemmas.{Bool.{cases_lt}, List.{get_or_append_left}}, Math.Seq.{get_or-append_seam}}, specs.Io.KnownBytes.{Consumes, IsAtEnd}}
-use Rattle.run_records.specs.RunText.{Text}
+use Rattle.run_records.specs.RunText.{RecordText}
 use Rattle.run_check.specs.Coming.{IsOneLine, HasNoLine}
 
 -- so many bytes of a line were read, of what was ahead at first
-pub record HasReadPart (start now : Option (List ℕ)) (line : Text) (count : ℕ) : Type 0 where
+pub record HasReadPart (start now : Option (List ℕ)) (line : RecordText) (count : ℕ) : Type 0 where
   pub took : Consumes start now line
   pub one : IsOneLine line
   pub counted : length line ≡ count
@@ -17,7 +17,7 @@ feed_within part rest line behind same one lt =
     (sym (get_or_append_left part rest 0 (length line) lt) ∙ ap (λ l. get_or l (length line) 0) same ∙ get_or-append_seam line 10 behind 0)
 
 -- the bytes ended within a line
-pub ended_within : (start now : Option (List ℕ)) (part : Text) (count : ℕ) → HasReadPart start now part count → IsAtEnd now → IfSome start HasNoLine
+pub ended_within : (start now : Option (List ℕ)) (part : RecordText) (count : ℕ) → HasReadPart start now part count → IsAtEnd now → IfSome start HasNoLine
 ended_within None now part count read end = tt
 ended_within (Some xs) None part count read end = absurd read.took
 ended_within (Some xs) (Some ys) part count read end = λ line behind same one.
@@ -26,7 +26,7 @@ ended_within (Some xs) (Some ys) part count read end = λ line behind same one.
     absurd (feed_within part [] line behind (sym whole ∙ same) read.one (omega (arith, sizes, length-append line (10 ∷ behind))))
 
 -- more bytes than a line may have
-pub too_long : (start now : Option (List ℕ)) (part : Text) → HasReadPart start now part 129 → IfSome start HasNoLine
+pub too_long : (start now : Option (List ℕ)) (part : RecordText) → HasReadPart start now part 129 → IfSome start HasNoLine
 too_long None now part read = tt
 too_long (Some xs) None part read = absurd read.took
 too_long (Some xs) (Some ys) part read = λ line behind same one.

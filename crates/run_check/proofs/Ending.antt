@@ -1,8 +1,8 @@
 -- How the reading of a record's lines goes on and ends.
 use Rattle.std.proofs.Common.{◌≡◌, ◌∙◌, ℕ, ◌+◌, ◌++◌, ◌≤◌, List, [], ◌∷◌, length, map, All, Bool, true, false, refl, sym, ap, subst, arith, ◌⊎◌, ⊎_elim}
 use Rattle.std.proofs.Common.{Some, None, IsTrue, append_assoc, append-nil, length-append, zero, suc}
-use Rattle.run_records.specs.{declared.event.Event.{Event}, Setting.{most_events, IsArea, IsSetting, Setting}, Holders.{Holdings, after, all_after, no_holdings}}
-use Rattle.run_records.{specs.{LegalRun.{IsLegalRun}, RunText.{Text, last_line, line_of, run_line, text_of_lines}}, proofs.Following.{all_after-more, small-more}}
+use Rattle.run_records.specs.{declared.event.Event.{Event}, Setting.{most_events, IsRunArea, IsSetting, Setting}, Holders.{Holdings, after, all_after, no_holdings}}
+use Rattle.run_records.{specs.{LegalRun.{IsLegalRun}, RunText.{RecordText, last_line, line_of, run_line, text_of_lines}}, proofs.Following.{all_after-more, small-more}}
 use Rattle.run_check.specs.{declared.checking.Checked.TheVariants.{Yes, No}, Coming.{HasNoLine, IsOneLine}, Judged.{BeginARun, IsWhy, Judges}, Reading.{event_of}, Unfit.{IsUnfit}}
 use Rattle.run_check.specs.declared.unfit.Unfit.{Unfit}
 use Rattle.run_check.specs.declared.unfit.Unfit.TheVariants as unfit
@@ -19,7 +19,7 @@ pub record HasCome (s : Setting) (start rest : List ℕ) (h : Holdings) (count :
 abbrev pub behind_first : Setting → List ℕ → List ℕ
 behind_first s start = text_of_lines (run_line s ∷ []) ++ start
 
-first_then : (s : Setting) (lines : List Text) (rest start : List ℕ) → start ≡ text_of_lines lines ++ rest
+first_then : (s : Setting) (lines : List RecordText) (rest start : List ℕ) → start ≡ text_of_lines lines ++ rest
     → behind_first s start ≡ text_of_lines (run_line s ∷ lines) ++ rest
 first_then s lines rest start text =
     ap (λ t. t ++ start) (append-nil (run_line s ++ 10 ∷ [])) ∙ ap (λ t. (run_line s ++ 10 ∷ []) ++ t) text
@@ -43,7 +43,7 @@ text_more (f ∷ events) e rest =
     ∙ ap (λ t. (line_of f ++ 10 ∷ []) ++ t) (text_more events e rest)
     ∙ sym (append_assoc (line_of f ++ 10 ∷ []) (text_of_lines (map line_of (events ++ e ∷ []))) rest)
 
-pub come_more : (s : Setting) (start rest later : List ℕ) (h now : Holdings) (count : ℕ) (line : Text) (e : Event) → HasCome s start rest h count
+pub come_more : (s : Setting) (start rest later : List ℕ) (h now : Holdings) (count : ℕ) (line : RecordText) (e : Event) → HasCome s start rest h count
     → count + 1 ≤ most_events → rest ≡ (line ++ 10 ∷ []) ++ later → event_of line ≡ Some e → after s h e ≡ Some now → HasCome s start later now (count + 1)
 come_more s start rest later h now count line e come room took read follows =
     let own = line_of-event_of line e read in
@@ -75,7 +75,7 @@ no_line s start rest h count come none =
     unfit.NoLine none)
 
 -- what is unfit may not follow
-unfit_follows : (s : Setting) (events : List Event) (h : Holdings) (line : Text) (why : Unfit) → IsUnfit s (length events) h line why
+unfit_follows : (s : Setting) (events : List Event) (h : Holdings) (line : RecordText) (why : Unfit) → IsUnfit s (length events) h line why
     → IsLegalSoFar s events h → MayFollow s events h line → ⊥
 unfit_follows s events h line unfit.NoLine is far may = is
 unfit_follows s events h line unfit.NoSetting is far may = is
@@ -100,7 +100,7 @@ unfit_follows s events h line (unfit.Event e l) (told, small, lack) far may =
     let fit : after s h next.e ≡ Some next.then = next.follows in cc)
     (λ end. not_last e end.whole small (sym told ∙ end.told)) may
 
-why_unfit : (before : List Text) (rest : List ℕ) (s : Setting) (events : List Event) (h : Holdings) (line : Text) (behind : List ℕ) (why : Unfit)
+why_unfit : (before : List RecordText) (rest : List ℕ) (s : Setting) (events : List Event) (h : Holdings) (line : RecordText) (behind : List ℕ) (why : Unfit)
     → before ≡ run_line s ∷ map line_of events → all_after s no_holdings events ≡ Some h → rest ≡ line ++ 10 ∷ behind → IsOneLine line
     → IsUnfit s (length events) h line why → IsWhy before rest why
 why_unfit before rest s events h line behind unfit.NoLine told reached next one is = absurd is
@@ -116,7 +116,7 @@ why_unfit before rest s events h line behind (unfit.Event e l) told reached next
     record { setting = s; events = events; holdings = h; told = told; reached = reached; line = line; behind = behind; next = next; one = one; is_unfit = is }
 
 -- the line that comes is unfit
-pub unfit_line : (s : Setting) (start rest later : List ℕ) (h : Holdings) (count : ℕ) (line : Text) (why : Unfit) → HasCome s start rest h count
+pub unfit_line : (s : Setting) (start rest later : List ℕ) (h : Holdings) (count : ℕ) (line : RecordText) (why : Unfit) → HasCome s start rest h count
     → rest ≡ (line ++ 10 ∷ []) ++ later → IsOneLine line → IsUnfit s count h line why → Judges (behind_first s start) (No (count + 2) why)
 unfit_line s start rest later h count line why come took one is =
     let here : IsUnfit s (length come.events) h line why = subst (λ n. IsUnfit s n h line why) (sym come.number) is in
@@ -154,7 +154,7 @@ told_more s start rest later h count whole come none took some =
 abbrev smallest : Setting
 smallest = record { areas = (1, 1024) ∷ []; apps = 1 }
 
-one_area : All IsArea smallest.areas
+one_area : All IsRunArea smallest.areas
 one_area zero d lt = record { buffers = (omega arith, omega arith); size = record { power = (10, refl); least = omega arith; most = omega arith } }
 one_area (suc k) d lt = absurd (omega arith)
 
@@ -177,10 +177,10 @@ first_run = (
 )
 
 -- the first line isn't one that a run may have
-pub bad_first : (bytes : List ℕ) → ((line : Text) (behind : List ℕ) → bytes ≡ line ++ 10 ∷ behind → IsOneLine line
+pub bad_first : (bytes : List ℕ) → ((line : RecordText) (behind : List ℕ) → bytes ≡ line ++ 10 ∷ behind → IsOneLine line
     → (s : Setting) → IsSetting s → line ≡ run_line s → ⊥) → (why : Unfit) → IsWhy [] bytes why → Judges bytes (No 1 why)
 bad_first bytes bad why is_why =
-    let ends : (line : Text) (behind : List ℕ) → bytes ≡ line ++ 10 ∷ behind → IsOneLine line → BeginARun ([] ++ line ∷ []) → ⊥ =
+    let ends : (line : RecordText) (behind : List ℕ) → bytes ≡ line ++ 10 ∷ behind → IsOneLine line → BeginARun ([] ++ line ∷ []) → ⊥ =
     λ line behind same one begun. let run = begun.1 in
     let told : line ∷ begun.0 ≡ run_line run.setting ∷ (map line_of run.events ++ last_line run.whole ∷ []) = run.told in
     let first : line ≡ run_line run.setting = cc in

@@ -3,7 +3,7 @@ use Rattle.std.proofs.Common.{◌≡◌, ◌∙◌, ℕ, zero, suc, ◌+◌, ◌
 use Rattle.std.proofs.{Common.{Some, None, refl, sym, ap, arith, IsTrue, ⊎_elim}, lemmas.List.{get_or_default, get_or-set_same, get_or-set_other, nil_from_length}}
 use Rattle.std.{specs.{Bool.{MatchBool}, List.{AllWithin, HoldsAt}}, proofs.lemmas.Bool.{cases_eq, eq-eqb, ne_eqb, Decides.{nat_tests}}}
 use Rattle.run_records.specs.{declared.{holding.Holding.{Holding}, event.Event.{Event}}, Setting.{IsSetting, Setting, total_buffers}}
-use Rattle.run_records.specs.{Holders.{Holdings, after, buffer_of, changed, has_counts, is_in_range, only_if, with_holders}, EventFields.{bytes_of}}
+use Rattle.run_records.specs.{Holders.{Holdings, after, buffer_of_event, changed, has_counts, is_in_range, only_if, with_holders}, EventFields.{bytes_of_event}}
 use Rattle.run_records.specs.declared.event.Event.TheVariants as event
 use Rattle.run_check.{specs.Holding.{HasSmallApp, SameHolders, SameHoldings, holdings_of, weight}, proofs.Areas.{size_most}}
 
@@ -46,16 +46,16 @@ pub after_out : (s : Setting) (h : Holdings) (e : Event) → is_in_range s e ≡
 unfolding after
 after_out s h e out = rw out refl
 
-pub after_nowhere : (s : Setting) (h : Holdings) (e : Event) → is_in_range s e ≡ true → None ≡ buffer_of e → after s h e ≡ Some h
+pub after_nowhere : (s : Setting) (h : Holdings) (e : Event) → is_in_range s e ≡ true → None ≡ buffer_of_event e → after s h e ≡ Some h
 unfolding after
 after_nowhere s h e ranged nowhere = rw (ranged, ← nowhere) refl
 
-pub after_unfit : (s : Setting) (h : Holdings) (e : Event) (b : ℕ) → is_in_range s e ≡ true → Some b ≡ buffer_of e
+pub after_unfit : (s : Setting) (h : Holdings) (e : Event) (b : ℕ) → is_in_range s e ≡ true → Some b ≡ buffer_of_event e
     → changed s (h b) e ≡ None → after s h e ≡ None
 unfolding after
 after_unfit s h e b ranged at unfit = rw (ranged, ← at, unfit) refl
 
-pub after_fit : (s : Setting) (h : Holdings) (e : Event) (b : ℕ) (now : List Holding) (counts : Bool) → is_in_range s e ≡ true → Some b ≡ buffer_of e
+pub after_fit : (s : Setting) (h : Holdings) (e : Event) (b : ℕ) (now : List Holding) (counts : Bool) → is_in_range s e ≡ true → Some b ≡ buffer_of_event e
     → changed s (h b) e ≡ Some now → has_counts now e ≡ counts → after s h e ≡ only_if counts (Some (with_holders h b now))
 unfolding after
 after_fit s h e b now true ranged at fit counted = rw (ranged, ← at, fit, counted) refl
@@ -66,7 +66,7 @@ after_fit s h e b now false ranged at fit counted = rw (ranged, ← at, fit, cou
 same_some : (a b : ℕ) → Some a ≡ Some b → a ≡ b
 same_some a b is = cc
 
-pub buffer_below : (s : Setting) (e : Event) (at : ℕ) → is_in_range s e ≡ true → Some at ≡ buffer_of e → at < total_buffers s
+pub buffer_below : (s : Setting) (e : Event) (at : ℕ) → is_in_range s e ≡ true → Some at ≡ buffer_of_event e → at < total_buffers s
 buffer_below s (event.Take b p) at ranged is = let same : at ≡ b = same_some at b is in grind (arith, nat_tests, same, ranged)
 buffer_below s (event.Place b o l p) at ranged is = let same : at ≡ b = same_some at b is in grind (arith, nat_tests, same, ranged)
 buffer_below s (event.Sent a b o l) at ranged is = let same : at ≡ b = same_some at b is in grind (arith, nat_tests, same, ranged)
@@ -89,7 +89,7 @@ held_here buffers b held is lt = get_or_default buffers b [] held lt ∙ sym is
 -- ---- the event's numbers
 
 -- its bytes end where the largest buffer ends, or before
-pub bytes_near : (s : Setting) (e : Event) → IsSetting s → IsTrue (is_in_range s e) → (bytes_of e).0 + (bytes_of e).1 ≤ 65536
+pub bytes_near : (s : Setting) (e : Event) → IsSetting s → IsTrue (is_in_range s e) → (bytes_of_event e).0 + (bytes_of_event e).1 ≤ 65536
 bytes_near s (event.Take b p) sound ranged = omega arith
 bytes_near s (event.Place b o l p) sound ranged = let most = size_most s.areas b sound.areas.each in grind (arith, nat_tests, most, ranged)
 bytes_near s (event.Sent a b o l) sound ranged = let most = size_most s.areas b sound.areas.each in grind (arith, nat_tests, most, ranged)

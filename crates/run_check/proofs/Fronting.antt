@@ -3,7 +3,7 @@ use Rattle.std.proofs.Common.{◌≡◌, ◌∙◌, ℕ, ◌+◌, ◌-◌, ◌++
 use Rattle.std.proofs.{Common.{subst}, lemmas.{Bool.{and_parts, cases_Bool, eq-eqb, eqb-true}, List.{nil_from_length}}}
 use Rattle.std.specs.Prelude.{count_by, filter, if◌then◌else◌, option_map, option_and_then}
 use Rattle.run_records.specs.{declared.{event.Event.{Event}, holding.Holding.{Holding}}, Setting.{Setting}}
-use Rattle.run_records.specs.Holders.{Holdings, after, after_at, all_after, becomes, buffer_of, changed, has_counts, held_after, is_in_range, is_same, is_user}
+use Rattle.run_records.specs.Holders.{Holdings, after, after_at, all_after, becomes, buffer_of_event, changed, has_counts, held_after, is_in_range, is_same, is_user}
 use Rattle.run_records.specs.Holders.{no_holdings, only_if, weight, with_holders}
 use Rattle.run_records.proofs.{Following.{some_from}, Weighing.{Moves, one_if, same-equal, weight-append, weight-count, weight-filter, weight-length}}
 use Rattle.run_records.specs.declared.event.Event.TheVariants as event
@@ -183,10 +183,10 @@ counts-at s was now e (Some b) is c =
     subst (λ (h : Holdings). Counts e c (was c) (h c) (eqb b c)) given.2
     (at-all (Counts e) was b given.0 (subst (λ held. Counts e b (was b) held true) same here) (λ other. record { pool = refl; user = λ app. refl }) c)
 
-counts-after : (s : Setting) (was now : Holdings) (e : Event) → after s was e ≡ Some now → (c : ℕ) → Counts e c (was c) (now c) (is_of c (buffer_of e))
+counts-after : (s : Setting) (was now : Holdings) (e : Event) → after s was e ≡ Some now → (c : ℕ) → Counts e c (was c) (now c) (is_of c (buffer_of_event e))
 unfolding after
 counts-after s was now e follows =
-    counts-at s was now e (buffer_of e) (asked (is_in_range s e) (after_at s was e (buffer_of e)) now follows).1
+    counts-at s was now e (buffer_of_event e) (asked (is_in_range s e) (after_at s was e (buffer_of_event e)) now follows).1
 
 -- ---- the front
 

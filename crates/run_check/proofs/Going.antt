@@ -2,7 +2,7 @@
 use Rattle.std.proofs.Common.{◌≡◌, ◌∙◌, ◌+◌, ◌++◌, ◌≤◌, List, [], ◌∷◌, length, map, Bool, false, refl, sym, ap, subst, arith, ◌⊎◌, inl, inr, ⊎_elim}
 use Rattle.std.{proofs.Common.{Some, None, append_assoc, length-append}, specs.List.{AllByRecursion}}
 use Rattle.run_records.specs.{declared.event.Event.{Event}, Setting.{most_events, IsSetting, Setting}, Holders.{Holdings, after, all_after, no_holdings}}
-use Rattle.run_records.{specs.{LegalRun.{HasSmallNumbers, IsLegalRun}, RunText.{Text, last_line, line_of, lines_of, run_line}}, proofs.Following.{some_from}}
+use Rattle.run_records.{specs.{LegalRun.{HasSmallNumbers, IsLegalRun}, RunText.{RecordText, last_line, line_of, lines_of, run_line}}, proofs.Following.{some_from}}
 use Rattle.run_check.{specs.{Judged.{BeginARun}, Reading.{event_of, setting_of}}, proofs.LineText.{event_of-line_of, last_line-no_event}}
 use Rattle.run_check.proofs.SettingText.{setting_of-run_line}
 
@@ -14,7 +14,7 @@ pub record IsLegalSoFar (s : Setting) (events : List Event) (h : Holdings) : Typ
   pub reached : all_after s no_holdings events ≡ Some h
 
 -- an event that may come next
-pub record IsNextEvent (s : Setting) (events : List Event) (h : Holdings) (line : Text) : Type 0 where
+pub record IsNextEvent (s : Setting) (events : List Event) (h : Holdings) (line : RecordText) : Type 0 where
   pub e : Event
   pub small : HasSmallNumbers e
   pub told : line ≡ line_of e
@@ -23,12 +23,12 @@ pub record IsNextEvent (s : Setting) (events : List Event) (h : Holdings) (line 
   pub room : length events + 1 ≤ most_events
 
 -- a last line that may come next
-pub record IsNextEnd (s : Setting) (events : List Event) (line : Text) : Type 0 where
+pub record IsNextEnd (s : Setting) (events : List Event) (line : RecordText) : Type 0 where
   pub whole : Bool
   pub told : line ≡ last_line whole
   pub legal : IsLegalRun s events whole
 
-abbrev pub MayFollow : Setting → List Event → Holdings → Text → Type 0
+abbrev pub MayFollow : Setting → List Event → Holdings → RecordText → Type 0
 MayFollow s events h line = IsNextEvent s events h line ⊎ IsNextEnd s events line
 
 -- a beginning that is legal so far goes on to a legal run
@@ -57,13 +57,13 @@ same_event e f small_e small_f same =
     cc
 
 -- where one ends, or what is next in it
-abbrev EndsHere : List Event → List Event → Text → List Text → Bool → Type 0
+abbrev EndsHere : List Event → List Event → RecordText → List RecordText → Bool → Type 0
 EndsHere events others line behind whole = (others ≡ events) × (line ≡ last_line whole) × (behind ≡ [])
 
-abbrev GoesOn : List Event → List Event → Text → Type 0
+abbrev GoesOn : List Event → List Event → RecordText → Type 0
 GoesOn events others line = (e : Event) × (more : List Event) × (others ≡ events ++ e ∷ more) × (line ≡ line_of e)
 
-compared : (events others : List Event) (line : Text) (behind : List Text) (whole : Bool) → AllByRecursion HasSmallNumbers events
+compared : (events others : List Event) (line : RecordText) (behind : List RecordText) (whole : Bool) → AllByRecursion HasSmallNumbers events
     → AllByRecursion HasSmallNumbers others → map line_of events ++ line ∷ behind ≡ map line_of others ++ last_line whole ∷ []
     → EndsHere events others line behind whole ⊎ GoesOn events others line
 compared [] [] line behind whole small others_small same = inl (refl, cc, cc)
@@ -98,7 +98,7 @@ same_setting s t sound_s sound_t same =
     let read : Some s ≡ Some t = sym (setting_of-run_line s sound_s) ∙ ap setting_of same ∙ setting_of-run_line t sound_t in
     cc
 
-pub followed : (s : Setting) (events : List Event) (h : Holdings) (line : Text) → IsLegalSoFar s events h
+pub followed : (s : Setting) (events : List Event) (h : Holdings) (line : RecordText) → IsLegalSoFar s events h
     → BeginARun ((run_line s ∷ map line_of events) ++ line ∷ []) → MayFollow s events h line
 followed s events h line far (behind, run) =
     let told : run_line s ∷ ((map line_of events ++ line ∷ []) ++ behind) ≡ run_line run.setting ∷ (map line_of run.events ++ last_line run.whole ∷ []) = run.told in
@@ -126,7 +126,7 @@ followed s events h line far (behind, run) =
     small_at (f ∷ before) e more small = small_at before e more small.1
 
 -- nothing follows a last line
-pub nothing_follows : (s : Setting) (events : List Event) (h : Holdings) (whole : Bool) (line : Text) → IsLegalSoFar s events h
+pub nothing_follows : (s : Setting) (events : List Event) (h : Holdings) (whole : Bool) (line : RecordText) → IsLegalSoFar s events h
     → BeginARun (lines_of s events whole ++ line ∷ []) → ⊥
 nothing_follows s events h whole line far (behind, run) =
     let told : run_line s ∷ (((map line_of events ++ last_line whole ∷ []) ++ line ∷ []) ++ behind)

@@ -2,7 +2,7 @@
 use Rattle.std.proofs.Common.{◌≡◌, ◌∙◌, ℕ, ◌+◌, ◌++◌, List, [], ◌∷◌, length, map, get_or, Bool, refl, sym, ap, subst, arith}
 use Rattle.std.{proofs.{Common.{append_assoc, append-nil, length-append, suc}, lemmas.Bool.{eqb-false}}, specs.List.{AllByRecursion}}
 use Rattle.run_records.specs.{declared.event.Event.{Event}, Setting.{Setting}, Holders.{Holdings}, LegalRun.{HasSmallNumbers, IsLegalRun}}
-use Rattle.run_records.specs.RunText.{Text, last_line, line_of, lines_of, run_line, text_of_lines}
+use Rattle.run_records.specs.RunText.{RecordText, last_line, line_of, lines_of, run_line, text_of_lines}
 use Rattle.run_check.specs.{declared.checking.Checked.TheVariants.{Yes, No}, Judged.{AreOfRun, BeginARun, IsRunText, IsWhy, Judges}, Coming.{IsOneLine}}
 use Rattle.run_check.specs.declared.unfit.Unfit.{Unfit}
 use Rattle.run_check.specs.declared.unfit.Unfit.TheVariants as unfit
@@ -11,14 +11,14 @@ use Rattle.run_check.proofs.SettingText.{run_line-one}
 
 -- ---- one line after another
 
-one_line : (line : Text) → Lacks 10 line → IsOneLine line
+one_line : (line : RecordText) → Lacks 10 line → IsOneLine line
 one_line line lacks k d lt is = eqb-false (get_or line k d) 10 (lacks k d lt) is
 
-rest_one : (b : ℕ) (line : Text) → IsOneLine (b ∷ line) → IsOneLine line
+rest_one : (b : ℕ) (line : RecordText) → IsOneLine (b ∷ line) → IsOneLine line
 rest_one b line one k d lt = one (suc k) d (omega arith)
 
 -- two texts whose first lines end at the first line feed
-pub same_line : (one other : Text) (behind others : List ℕ) → IsOneLine one → IsOneLine other → one ++ 10 ∷ behind ≡ other ++ 10 ∷ others
+pub same_line : (one other : RecordText) (behind others : List ℕ) → IsOneLine one → IsOneLine other → one ++ 10 ∷ behind ≡ other ++ 10 ∷ others
     → (one ≡ other) × (behind ≡ others)
 same_line [] [] behind others one_one one_other same = (refl, cc)
 same_line [] (b ∷ other) behind others one_one one_other same =
@@ -33,8 +33,8 @@ same_line (a ∷ one) (b ∷ other) behind others one_one one_other same =
     (cc, found.1)
 
 -- a text that begins with lines has these lines first
-lines_first : (before lines : List Text) (rest : List ℕ) → AllByRecursion IsOneLine before → AllByRecursion IsOneLine lines
-    → text_of_lines before ++ rest ≡ text_of_lines lines → (behind : List Text) × (lines ≡ before ++ behind) × (rest ≡ text_of_lines behind)
+lines_first : (before lines : List RecordText) (rest : List ℕ) → AllByRecursion IsOneLine before → AllByRecursion IsOneLine lines
+    → text_of_lines before ++ rest ≡ text_of_lines lines → (behind : List RecordText) × (lines ≡ before ++ behind) × (rest ≡ text_of_lines behind)
 lines_first [] lines rest one one_lines same = (lines, refl, same)
 lines_first (line ∷ before) [] rest one one_lines same =
     let sizes = ap length same in
@@ -55,19 +55,19 @@ lines_first (line ∷ before) (other ∷ lines) rest one one_lines same =
     let later : lines ≡ before ++ found.0 = found.1 in
     (found.0, cc, found.2)
 
-text_of_lines-append : (before behind : List Text) → text_of_lines (before ++ behind) ≡ text_of_lines before ++ text_of_lines behind
+text_of_lines-append : (before behind : List RecordText) → text_of_lines (before ++ behind) ≡ text_of_lines before ++ text_of_lines behind
 text_of_lines-append [] behind = refl
 text_of_lines-append (line ∷ before) behind =
     ap (λ t. (line ++ 10 ∷ []) ++ t) (text_of_lines-append before behind) ∙ sym (append_assoc (line ++ 10 ∷ []) (text_of_lines before) (text_of_lines behind))
 
 -- ---- the lines of a run
 
-events_one : (events : List Event) (last : List Text) → AllByRecursion HasSmallNumbers events → AllByRecursion IsOneLine last
+events_one : (events : List Event) (last : List RecordText) → AllByRecursion HasSmallNumbers events → AllByRecursion IsOneLine last
     → AllByRecursion IsOneLine (map line_of events ++ last)
 events_one [] last small one = one
 events_one (e ∷ events) last small one = (one_line (line_of e) (line_of-one e small.0), events_one events last small.1 one)
 
-run_one : (lines : List Text) → AreOfRun lines → AllByRecursion IsOneLine lines
+run_one : (lines : List RecordText) → AreOfRun lines → AllByRecursion IsOneLine lines
 run_one lines run =
     subst (AllByRecursion IsOneLine) (sym run.told) (
       one_line (run_line run.setting) (run_line-one run.setting run.legal.sound),
@@ -88,22 +88,22 @@ not_yet (e ∷ events) (f ∷ others) whole small same =
     let rest : map line_of events ≡ map line_of others ++ last_line whole ∷ [] = cc in not_yet events others whole small.1 rest
 
 -- where no legal run has these lines and the next, and they are none, the bytes are no run's text
-pub no_run : (before : List Text) (rest : List ℕ) (bytes : List ℕ) → AllByRecursion IsOneLine before → bytes ≡ text_of_lines before ++ rest
-    → ((line : Text) (behind : List ℕ) → rest ≡ line ++ 10 ∷ behind → IsOneLine line → BeginARun (before ++ line ∷ []) → ⊥)
+pub no_run : (before : List RecordText) (rest : List ℕ) (bytes : List ℕ) → AllByRecursion IsOneLine before → bytes ≡ text_of_lines before ++ rest
+    → ((line : RecordText) (behind : List ℕ) → rest ≡ line ++ 10 ∷ behind → IsOneLine line → BeginARun (before ++ line ∷ []) → ⊥)
     → (rest ≡ [] → AreOfRun before → ⊥) → (count : ℕ) → IsRunText bytes count → ⊥
 no_run before rest bytes one parted ends none count run =
     let lines_one = run_one run.lines run.run in
     let found = lines_first before run.lines rest one lines_one (sym parted ∙ run.text) in
     judged found.0 found.1 found.2 lines_one
   where
-    judged : (behind : List Text) → run.lines ≡ before ++ behind → rest ≡ text_of_lines behind → AllByRecursion IsOneLine run.lines → ⊥
+    judged : (behind : List RecordText) → run.lines ≡ before ++ behind → rest ≡ text_of_lines behind → AllByRecursion IsOneLine run.lines → ⊥
     judged [] same left lines_one = none left (subst AreOfRun (same ∙ append-nil before) run.run)
     judged (line ∷ behind) same left lines_one =
         ends line (text_of_lines behind) (left ∙ append_assoc line (10 ∷ []) (text_of_lines behind))
         (line_one before (subst (AllByRecursion IsOneLine) same lines_one))
         (behind, subst AreOfRun (same ∙ sym (append_assoc before (line ∷ []) behind)) run.run)
       where
-        line_one : (others : List Text) → AllByRecursion IsOneLine (others ++ line ∷ behind) → IsOneLine line
+        line_one : (others : List RecordText) → AllByRecursion IsOneLine (others ++ line ∷ behind) → IsOneLine line
         line_one [] lines = lines.0
         line_one (other ∷ others) lines = line_one others lines.1
 
@@ -116,10 +116,10 @@ lines_length (e ∷ events) = ap suc (lines_length events)
 -- the next line isn't one that may follow
 pub bad_line : (s : Setting) (events : List Event) (h : Holdings) (bytes rest : List ℕ) → IsLegalSoFar s events h
     → bytes ≡ text_of_lines (run_line s ∷ map line_of events) ++ rest
-    → ((line : Text) (behind : List ℕ) → rest ≡ line ++ 10 ∷ behind → IsOneLine line → MayFollow s events h line → ⊥)
+    → ((line : RecordText) (behind : List ℕ) → rest ≡ line ++ 10 ∷ behind → IsOneLine line → MayFollow s events h line → ⊥)
     → (why : Unfit) → IsWhy (run_line s ∷ map line_of events) rest why → Judges bytes (No (length events + 2) why)
 bad_line s events h bytes rest far parted bad why is_why =
-    let ends : (line : Text) (behind : List ℕ) → rest ≡ line ++ 10 ∷ behind → IsOneLine line
+    let ends : (line : RecordText) (behind : List ℕ) → rest ≡ line ++ 10 ∷ behind → IsOneLine line
     → BeginARun ((run_line s ∷ map line_of events) ++ line ∷ []) → ⊥ =
     λ line behind same one begun. bad line behind same one (followed s events h line far begun) in (
       record {
@@ -168,7 +168,7 @@ pub more_behind : (s : Setting) (events : List Event) (h : Holdings) (whole : Bo
     → Judges bytes (No (length events + 3) unfit.Behind)
 more_behind s events h whole bytes rest far legal parted some =
     let run : AreOfRun (lines_of s events whole) = record { setting = s; events = events; whole = whole; legal = legal; told = refl } in
-    let ends : (line : Text) (behind : List ℕ) → rest ≡ line ++ 10 ∷ behind → IsOneLine line → BeginARun (lines_of s events whole ++ line ∷ []) → ⊥ =
+    let ends : (line : RecordText) (behind : List ℕ) → rest ≡ line ++ 10 ∷ behind → IsOneLine line → BeginARun (lines_of s events whole ++ line ∷ []) → ⊥ =
     λ line behind same one begun. nothing_follows s events h whole line far begun in (
       record {
         before = lines_of s events whole;

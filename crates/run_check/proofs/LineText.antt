@@ -2,7 +2,7 @@
 use Rattle.std.proofs.Common.{◌≡◌, ◌∙◌, ℕ, ◌<◌, ◌^◌, List, [], ◌∷◌, map, Bool, true, false, refl, sym, ap, subst, rules, inl, Option, Some, None, lit<}
 use Rattle.std.specs.{Prelude.{if◌then◌else◌, option_and_then, codes}, Fmt.{decimal}, List.{AllByRecursion, join_with_byte}, Str.{bytes_eq}}
 use Rattle.std.proofs.lemmas.{Slice.Eq.{bytes_eq-Decides}, List.Splits.{join_with_byte-slice_split}}
-use Rattle.run_records.specs.{declared.event.Event.{Event}, LegalRun.{HasSmallNumbers}, RunText.{Text, last_line, line_of, name_of, numbers_of}}
+use Rattle.run_records.specs.{declared.event.Event.{Event}, LegalRun.{HasSmallNumbers}, RunText.{RecordText, last_line, line_of, name_of, numbers_of}}
 use Rattle.run_records.specs.declared.event.Event.TheVariants as event
 use Rattle.run_check.{specs.Reading.{all_numbers, event_by, event_from, event_of, parts_of}, proofs.Numerals.{all_numbers-decimal, decimal-all_numbers}}
 use Rattle.run_check.proofs.Parting.{Lacks, lack_decimals, lacks_from_test, lacks_joined, parts_of-joined}
@@ -71,7 +71,7 @@ line_of-one e small =
 
 -- ---- a line that is read as an event is that event's
 
-abbrev Named : Text → List ℕ → Event → Type 0
+abbrev Named : RecordText → List ℕ → Event → Type 0
 Named name numbers e = (name ≡ name_of e) × (numbers ≡ numbers_of e)
 
 if_is : (t : Bool) (x : Event) (others : Option Event) (e : Event) (P : Event → Type 0) → (if t then Some x else others) ≡ Some e → (t ≡ true → P x)
@@ -79,10 +79,10 @@ if_is : (t : Bool) (x : Event) (others : Option Event) (e : Event) (P : Event �
 if_is true x others e P is first later = let same : x ≡ e = cc in subst P same (first refl)
 if_is false x others e P is first later = later is
 
-same_text : (name : Text) (other : Text) → bytes_eq name other ≡ true → name ≡ other
+same_text : (name : RecordText) (other : RecordText) → bytes_eq name other ≡ true → name ≡ other
 same_text name other t = search (rules, bytes_eq-Decides)
 
-event_from-named : (name : Text) (numbers : List ℕ) (e : Event) → event_from name numbers ≡ Some e → Named name numbers e
+event_from-named : (name : RecordText) (numbers : List ℕ) (e : Event) → event_from name numbers ≡ Some e → Named name numbers e
 event_from-named name (a ∷ []) e is =
     if_is _ _ _ e (Named name (a ∷ [])) is (λ t. (same_text name (codes "stray") t, refl)) (λ is0. cc)
 event_from-named name (a ∷ b ∷ []) e is =
@@ -97,7 +97,7 @@ event_from-named name (a ∷ b ∷ c ∷ d ∷ x ∷ f ∷ []) e is =
     if_is _ _ _ e (Named name (a ∷ b ∷ c ∷ d ∷ x ∷ f ∷ [])) is (λ t. (same_text name (codes "cut") t, refl)) (λ is0. if_is _ _ _ e (Named name (a ∷ b ∷ c ∷ d ∷ x ∷ f ∷ [])) is0 (λ t. (same_text name (codes "lend") t, refl)) (λ is1. cc))
 event_from-named name numbers e is = cc
 
-from_numbers : (name : Text) (words : List Text) (numbers : Option (List ℕ)) (e : Event) → all_numbers words ≡ numbers
+from_numbers : (name : RecordText) (words : List RecordText) (numbers : Option (List ℕ)) (e : Event) → all_numbers words ≡ numbers
     → option_and_then (event_from name) numbers ≡ Some e → (name ∷ words ≡ name_of e ∷ map decimal (numbers_of e)) × HasSmallNumbers e
 from_numbers name words None e read is = cc
 from_numbers name words (Some numbers) e read is =
@@ -108,11 +108,11 @@ from_numbers name words (Some numbers) e read is =
     let words_are : words ≡ map decimal (numbers_of e) = written.0 ∙ ap (map decimal) same in
     (cc, subst (λ ns. AllByRecursion (λ n. n < 2 ^ 32) ns) same written.1)
 
-from_words : (words : List Text) (e : Event) → event_by words ≡ Some e → (words ≡ name_of e ∷ map decimal (numbers_of e)) × HasSmallNumbers e
+from_words : (words : List RecordText) (e : Event) → event_by words ≡ Some e → (words ≡ name_of e ∷ map decimal (numbers_of e)) × HasSmallNumbers e
 from_words [] e is = cc
 from_words (name ∷ words) e is = from_numbers name words (all_numbers words) e refl is
 
-pub line_of-event_of : (line : Text) (e : Event) → event_of line ≡ Some e → (line ≡ line_of e) × HasSmallNumbers e
+pub line_of-event_of : (line : RecordText) (e : Event) → event_of line ≡ Some e → (line ≡ line_of e) × HasSmallNumbers e
 unfolding line_of
 line_of-event_of line e is =
     let words = from_words (parts_of 32 line) e is in

@@ -5,7 +5,7 @@ use Rattle.std.{specs.{Char.{is_ascii_digit, digit_value}, Fmt.{decimal}, List.{
 use Rattle.std.proofs.lemmas.{Bool.Decides.{nat_tests}, Int.Digits.{digits_value_more}}
 use Rattle.std.proofs.lemmas.Fmt.{decimal-digits_value, digits_decimal, digits_value-decimal, decimal_nonempty, first_decimal, length-decimal-le, decimal_digit}
 use Rattle.std.proofs.lemmas.Str.Parse.{IsNumeralModel, numerals_by_value, digits_value_short, digits_value-take-le, digit_at}
-use Rattle.run_check.{specs.Reading.{is_numeral, number_of, all_numbers}, proofs.AllOf.{first_and_rest}}
+use Rattle.run_check.{specs.Reading.{is_numeral, number_in_word, all_numbers}, proofs.AllOf.{first_and_rest}}
 
 pub own : IsNumeralModel (λ word. list_all is_ascii_digit word ≡ true) (digits_value 10)
 own = numerals_by_value _ (search rules)
@@ -82,14 +82,14 @@ written n small =
       first = first_of_zero n wide;
     }
 
-pub number_of-decimal : (n : ℕ) → n < 2 ^ 32 → number_of (decimal n) ≡ Some n
+pub number_of-decimal : (n : ℕ) → n < 2 ^ 32 → number_in_word (decimal n) ≡ Some n
 number_of-decimal n small =
     let value : digits_value 10 (decimal n) ≡ n = digits_value-decimal own n (omega arith) in
     let formed : is_numeral (decimal n) ≡ true = formed (decimal n) (written n small) in
     let fits : nat_lt n (2 ^ 32) ≡ true = grind (arith, nat_tests) in
     rw (formed, value, fits) refl
 
-pub decimal-number_of : (word : List ℕ) (n : ℕ) → number_of word ≡ Some n → (word ≡ decimal n) × (n < 2 ^ 32)
+pub decimal-number_of : (word : List ℕ) (n : ℕ) → number_in_word word ≡ Some n → (word ≡ decimal n) × (n < 2 ^ 32)
 decimal-number_of word n is = go (is_numeral word) refl
   where
     go : (b : Bool) → is_numeral word ≡ b → (word ≡ decimal n) × (n < 2 ^ 32)
@@ -119,7 +119,7 @@ pub decimal-all_numbers : (words : List (List ℕ)) (numbers : List ℕ) → all
 decimal-all_numbers [] [] is = (refl, tt)
 decimal-all_numbers [] (n ∷ numbers) is = cc
 decimal-all_numbers (word ∷ words) numbers is =
-    let parts = first_and_rest (number_of word) (all_numbers words) numbers is in
+    let parts = first_and_rest (number_in_word word) (all_numbers words) numbers is in
     let first = decimal-number_of word parts.0 parts.2 in
     let below = decimal-all_numbers words parts.1 parts.3 in
     rw parts.4 (ap2 first.0 below.0, (first.1, below.1))

@@ -5,7 +5,8 @@ use Rattle.std.specs.{Map.{lookup, remove_entry}, BTreeMap.{insert_entry, is_at,
 use Rattle.std.{specs.List.{list_any, list_all}, proofs.lemmas.Bool.Decides.{nat_tests}}
 use Rattle.std.proofs.lemmas.Bool.{cases_Bool, cases_lt, cases_eq, eq-eqb, ne_eqb, le-leb, lt-leb, leb-true, lt-ltb, le-ltb, and_parts}
 use Rattle.run_records.specs.{declared.holding.Holding.{Holding}, Holders.{is_apart, is_same}}
-use Rattle.run_check.specs.{declared.places.{Hand.{Hand}, OwnedPlace.{OwnedPlace}}, Holding.{weight}, Places.{AreApart, all_placed, held_by, is_same_hand, placed}}
+use Rattle.run_check.specs.{declared.places.{Hand.{Hand}, OwnedPlace.{OwnedPlace}}, Holding.{weight}, Places.{ArePlacesApart, all_placed, held_by, is_same_hand}}
+use Rattle.run_check.specs.Places.{placed_holding}
 use Rattle.run_check.specs.declared.places.Hand.TheVariants as hand
 
 -- ---- two places
@@ -67,7 +68,7 @@ same_at (hand.Loan a) (hand.Sent b) o l m = none (eqb m l)
 same_at (hand.Loan a) (hand.App b) o l m = none (eqb m l)
 same_at (hand.Loan a) (hand.Loan b) o l m = rw (eq-eqb o o refl, flip m l, flip b a) (both (eqb l m) (eqb a b))
 
-pub place_is : (o : ℕ) (found place : OwnedPlace) → (eqb found.len place.len && is_same_hand found.hand place.hand) ≡ is_same (placed (o, place)) (placed (o, found))
+pub place_is : (o : ℕ) (found place : OwnedPlace) → (eqb found.len place.len && is_same_hand found.hand place.hand) ≡ is_same (placed_holding (o, place)) (placed_holding (o, found))
 place_is o found place = same_at place.hand found.hand o place.len found.len
 
 pub apart_is : (h : Hand) (o l p m : ℕ) → is_apart o l (held_by h p m) ≡ (leb (o + l) p || leb (p + m) o)
@@ -110,21 +111,22 @@ found_cases k e es q found = ⊎_elim
     (λ (other : k ≡ e.0 → ⊥). inr (other, rw (at_other k e.0 other) at found))
     (cases_eq k e.0)
 
-found_from : (from k : ℕ) (es : List (ℕ × OwnedPlace)) (q : OwnedPlace) → AreApart from es → lookup (is_at (nat_cmp k)) es ≡ Some q → from ≤ k
+found_from : (from k : ℕ) (es : List (ℕ × OwnedPlace)) (q : OwnedPlace) → ArePlacesApart from es → lookup (is_at (nat_cmp k)) es ≡ Some q → from ≤ k
 found_from from k [] q apart found = cc
 found_from from k (e ∷ es) q apart found = ⊎_elim
     (λ (same, is). omega (arith, apart.0, same))
     (λ (other, later). omega (arith, apart.0, found_from (e.0 + e.1.len) k es q apart.2 later))
     (found_cases k e es q found)
 
-pub found_some : (from k : ℕ) (es : List (ℕ × OwnedPlace)) (q : OwnedPlace) → AreApart from es → lookup (is_at (nat_cmp k)) es ≡ Some q → 0 < q.len
+pub found_some : (from k : ℕ) (es : List (ℕ × OwnedPlace)) (q : OwnedPlace) → ArePlacesApart from es → lookup (is_at (nat_cmp k)) es ≡ Some q → 0 < q.len
 found_some from k [] q apart found = cc
 found_some from k (e ∷ es) q apart found = ⊎_elim
     (λ (same, is). subst (λ (x : OwnedPlace). 0 < x.len) is apart.1)
     (λ (other, later). found_some (e.0 + e.1.len) k es q apart.2 later)
     (found_cases k e es q found)
 
-none_below : (from k l : ℕ) (h : Hand) (es : List (ℕ × OwnedPlace)) → AreApart from es → k < from → list_any (is_same (held_by h k l)) (all_placed es) ≡ false
+none_below : (from k l : ℕ) (h : Hand) (es : List (ℕ × OwnedPlace)) → ArePlacesApart from es → k < from
+    → list_any (is_same (held_by h k l)) (all_placed es) ≡ false
 none_below from k l h [] apart below = refl
 none_below from k l h (e ∷ es) apart below =
     let begins : from ≤ e.0 = apart.0 in
@@ -137,16 +139,16 @@ none_there k l h (e ∷ es) none = ⊎_elim
     (λ (other : k ≡ e.0 → ⊥). rw (same_offset h e.1.hand k l e.0 e.1.len other) (none_there k l h es (rw (at_other k e.0 other) at none)))
     (cases_eq k e.0)
 
-pub one_there : (from k l : ℕ) (h : Hand) (es : List (ℕ × OwnedPlace)) (q : OwnedPlace) → AreApart from es → lookup (is_at (nat_cmp k)) es ≡ Some q
-    → list_any (is_same (held_by h k l)) (all_placed es) ≡ is_same (held_by h k l) (placed (k, q))
+pub one_there : (from k l : ℕ) (h : Hand) (es : List (ℕ × OwnedPlace)) (q : OwnedPlace) → ArePlacesApart from es → lookup (is_at (nat_cmp k)) es ≡ Some q
+    → list_any (is_same (held_by h k l)) (all_placed es) ≡ is_same (held_by h k l) (placed_holding (k, q))
 one_there from k l h [] q apart found = cc
 one_there from k l h (e ∷ es) q apart found = ⊎_elim
     (λ (same, is).
     let some : 0 < e.1.len = apart.1 in
     let rest : list_any (is_same (held_by h k l)) (all_placed es) ≡ false =
     none_below (e.0 + e.1.len) k l h es apart.2 (omega (arith, some, same)) in
-    let place : placed e ≡ placed (k, q) = ap (λ n. placed (n, e.1)) (sym same) ∙ ap (λ p. placed (k, p)) is in
-    rw (rest, place) (alone (is_same (held_by h k l) (placed (k, q)))))
+    let place : placed_holding e ≡ placed_holding (k, q) = ap (λ n. placed_holding (n, e.1)) (sym same) ∙ ap (λ p. placed_holding (k, p)) is in
+    rw (rest, place) (alone (is_same (held_by h k l) (placed_holding (k, q)))))
     (λ (other, later). rw (same_offset h e.1.hand k l e.0 e.1.len other) (one_there (e.0 + e.1.len) k l h es q apart.2 later))
     (found_cases k e es q found)
   where
@@ -156,7 +158,7 @@ one_there from k l h (e ∷ es) q apart found = ⊎_elim
 
 -- ---- what overlaps
 
-pub all_behind : (from o l : ℕ) (es : List (ℕ × OwnedPlace)) → AreApart from es → o + l ≤ from → list_all (is_apart o l) (all_placed es) ≡ true
+pub all_behind : (from o l : ℕ) (es : List (ℕ × OwnedPlace)) → ArePlacesApart from es → o + l ≤ from → list_all (is_apart o l) (all_placed es) ≡ true
 all_behind from o l [] apart ends = refl
 all_behind from o l (e ∷ es) apart ends =
     let begins : from ≤ e.0 = apart.0 in
@@ -190,7 +192,8 @@ none_begun o l (e ∷ es) none = ⊎_elim
     rw (apart_before e.1.hand o l e.0 e.1.len behind) (none_begun o l es (rw test at none)))
     (cases_lt e.0 (o + l))
 
-last_from : (from end : ℕ) (es before : List (ℕ × OwnedPlace)) (last : ℕ × OwnedPlace) → AreApart from es → begun end es ≡ before ++ last ∷ [] → from ≤ last.0
+last_from : (from end : ℕ) (es before : List (ℕ × OwnedPlace)) (last : ℕ × OwnedPlace) → ArePlacesApart from es → begun end es ≡ before ++ last ∷ []
+    → from ≤ last.0
 last_from from end [] before last apart found = absurd (not_nil before last found)
 last_from from end (e ∷ es) before last apart found = ⊎_elim
     (λ (test : range_contains nat_cmp Unbounded (Excluded end) e.0 ≡ true). ⊎_elim
@@ -202,7 +205,7 @@ last_from from end (e ∷ es) before last apart found = ⊎_elim
     (cases_Bool (range_contains nat_cmp Unbounded (Excluded end) e.0))
 
 -- the last of these alone decides
-pub last_begun : (from o l : ℕ) (es before : List (ℕ × OwnedPlace)) (last : ℕ × OwnedPlace) → AreApart from es → begun (o + l) es ≡ before ++ last ∷ []
+pub last_begun : (from o l : ℕ) (es before : List (ℕ × OwnedPlace)) (last : ℕ × OwnedPlace) → ArePlacesApart from es → begun (o + l) es ≡ before ++ last ∷ []
     → list_all (is_apart o l) (all_placed es) ≡ leb (last.0 + last.1.len) o
 last_begun from o l [] before last apart found = absurd (not_nil before last found)
 last_begun from o l (e ∷ es) before last apart found = ⊎_elim
@@ -222,7 +225,7 @@ last_begun from o l (e ∷ es) before last apart found = ⊎_elim
     rw (rest, apart_behind e.1.hand o l e.0 e.1.len (omega arith)) refl)
     (λ (overlaps : o < last.0 + last.1.len).
     let no : leb (last.0 + last.1.len) o ≡ false = lt-leb (last.0 + last.1.len) o overlaps in
-    rw (rest, no) (neither (is_apart o l (placed e))))
+    rw (rest, no) (neither (is_apart o l (placed_holding e))))
     (cases_le (last.0 + last.1.len) o))
     (cases_front e (begun (o + l) es) before last (rw test at found)))
     (λ (behind : o + l ≤ e.0).
@@ -243,7 +246,7 @@ last_begun from o l (e ∷ es) before last apart found = ⊎_elim
 
 -- ---- one more, another and one less
 
-lower : (low from : ℕ) (es : List (ℕ × OwnedPlace)) → low ≤ from → AreApart from es → AreApart low es
+lower : (low from : ℕ) (es : List (ℕ × OwnedPlace)) → low ≤ from → ArePlacesApart from es → ArePlacesApart low es
 lower low from [] le apart = tt
 lower low from (e ∷ es) le apart = (omega (arith, apart.0), apart.1, apart.2)
 
@@ -260,18 +263,18 @@ cmp_greater k n greater = grind (arith, nat_tests)
 cases_order : (k n : ℕ) → (k < n) ⊎ ((k ≡ n) ⊎ (n < k))
 cases_order k n = ⊎_elim (λ less. inl less) (λ least. ⊎_elim (λ same. inr (inl same)) (λ other. inr (inr (omega arith))) (cases_eq k n)) (cases_lt k n)
 
-pub free_there : (o l : ℕ) (es : List (ℕ × OwnedPlace)) (from : ℕ) → AreApart from es → 0 < l → list_all (is_apart o l) (all_placed es) ≡ true
+pub free_there : (o l : ℕ) (es : List (ℕ × OwnedPlace)) (from : ℕ) → ArePlacesApart from es → 0 < l → list_all (is_apart o l) (all_placed es) ≡ true
     → lookup (is_at (nat_cmp o)) es ≡ None
 free_there o l [] from apart some free = refl
 free_there o l (e ∷ es) from apart some free =
-    let parts = and_parts (is_apart o l (placed e)) (list_all (is_apart o l) (all_placed es)) free in
+    let parts = and_parts (is_apart o l (placed_holding e)) (list_all (is_apart o l) (all_placed es)) free in
     let len : 0 < e.1.len = apart.1 in
     let other : o ≡ e.0 → ⊥ = λ same. ⊎_elim (λ before. omega (arith, some, same, before)) (λ behind. omega (arith, len, same, behind))
     (apart_cases e.1.hand o l e.0 e.1.len parts.0) in
     rw (at_other o e.0 other) (free_there o l es (e.0 + e.1.len) apart.2 some parts.1)
 
 pub weight-put : (f : Holding → ℕ) (k : ℕ) (p : OwnedPlace) (es : List (ℕ × OwnedPlace)) → lookup (is_at (nat_cmp k)) es ≡ None
-    → weight f (all_placed (insert_entry nat_cmp es k p)) ≡ weight f (all_placed es) + f (placed (k, p))
+    → weight f (all_placed (insert_entry nat_cmp es k p)) ≡ weight f (all_placed es) + f (placed_holding (k, p))
 weight-put f k p [] none = omega arith
 weight-put f k p (e ∷ es) none = ⊎_elim
     (λ (less : k < e.0). rw (cmp_less k e.0 less) (omega arith))
@@ -282,13 +285,14 @@ weight-put f k p (e ∷ es) none = ⊎_elim
     others)
     (cases_order k e.0)
 
-pub weight-set : (f : Holding → ℕ) (from k : ℕ) (p q : OwnedPlace) (es : List (ℕ × OwnedPlace)) → AreApart from es → lookup (is_at (nat_cmp k)) es ≡ Some q
-    → weight f (all_placed (insert_entry nat_cmp es k p)) + f (placed (k, q)) ≡ weight f (all_placed es) + f (placed (k, p))
+pub weight-set : (f : Holding → ℕ) (from k : ℕ) (p q : OwnedPlace) (es : List (ℕ × OwnedPlace)) → ArePlacesApart from es
+    → lookup (is_at (nat_cmp k)) es ≡ Some q
+    → weight f (all_placed (insert_entry nat_cmp es k p)) + f (placed_holding (k, q)) ≡ weight f (all_placed es) + f (placed_holding (k, p))
 weight-set f from k p q [] apart found = cc
 weight-set f from k p q (e ∷ es) apart found = ⊎_elim
     (λ (same, is).
-    let old : f (placed e) ≡ f (placed (k, q)) = ap (λ n. f (placed (n, e.1))) (sym same) ∙ ap (λ x. f (placed (k, x))) is in
-    let new : f (placed (e.0, p)) ≡ f (placed (k, p)) = ap (λ n. f (placed (n, p))) (sym same) in
+    let old : f (placed_holding e) ≡ f (placed_holding (k, q)) = ap (λ n. f (placed_holding (n, e.1))) (sym same) ∙ ap (λ x. f (placed_holding (k, x))) is in
+    let new : f (placed_holding (e.0, p)) ≡ f (placed_holding (k, p)) = ap (λ n. f (placed_holding (n, p))) (sym same) in
     rw (cmp_equal k e.0 same) (omega (arith, old, new)))
     (λ (other, later).
     let above : e.0 + e.1.len ≤ k = found_from (e.0 + e.1.len) k es q apart.2 later in
@@ -297,20 +301,20 @@ weight-set f from k p q (e ∷ es) apart found = ⊎_elim
     (found_cases k e es q found)
 
 pub weight-take : (f : Holding → ℕ) (k : ℕ) (q : OwnedPlace) (es : List (ℕ × OwnedPlace)) → lookup (is_at (nat_cmp k)) es ≡ Some q
-    → weight f (all_placed (remove_entry (is_at (nat_cmp k)) es)) + f (placed (k, q)) ≡ weight f (all_placed es)
+    → weight f (all_placed (remove_entry (is_at (nat_cmp k)) es)) + f (placed_holding (k, q)) ≡ weight f (all_placed es)
 weight-take f k q [] found = cc
 weight-take f k q (e ∷ es) found = ⊎_elim
     (λ (same, is).
-    let old : f (placed e) ≡ f (placed (k, q)) = ap (λ n. f (placed (n, e.1))) (sym same) ∙ ap (λ x. f (placed (k, x))) is in
+    let old : f (placed_holding e) ≡ f (placed_holding (k, q)) = ap (λ n. f (placed_holding (n, e.1))) (sym same) ∙ ap (λ x. f (placed_holding (k, x))) is in
     rw (at_same k e.0 same) (omega (arith, old)))
     (λ (other, later). rw (at_other k e.0 other) (omega (arith, weight-take f k q es later)))
     (found_cases k e es q found)
 
-pub apart-put : (from k : ℕ) (p : OwnedPlace) (es : List (ℕ × OwnedPlace)) → AreApart from es → from ≤ k → 0 < p.len
-    → list_all (is_apart k p.len) (all_placed es) ≡ true → AreApart from (insert_entry nat_cmp es k p)
+pub apart-put : (from k : ℕ) (p : OwnedPlace) (es : List (ℕ × OwnedPlace)) → ArePlacesApart from es → from ≤ k → 0 < p.len
+    → list_all (is_apart k p.len) (all_placed es) ≡ true → ArePlacesApart from (insert_entry nat_cmp es k p)
 apart-put from k p [] apart begins some free = (begins, some, tt)
 apart-put from k p (e ∷ es) apart begins some free =
-    let parts = and_parts (is_apart k p.len (placed e)) (list_all (is_apart k p.len) (all_placed es)) free in
+    let parts = and_parts (is_apart k p.len (placed_holding e)) (list_all (is_apart k p.len) (all_placed es)) free in
     let len : 0 < e.1.len = apart.1 in
     ⊎_elim
     (λ (before : k + p.len ≤ e.0).
@@ -320,8 +324,8 @@ apart-put from k p (e ∷ es) apart begins some free =
     (apart.0, apart.1, apart-put (e.0 + e.1.len) k p es apart.2 behind some parts.1))
     (apart_cases e.1.hand k p.len e.0 e.1.len parts.0)
 
-pub apart-set : (from k : ℕ) (p q : OwnedPlace) (es : List (ℕ × OwnedPlace)) → AreApart from es → lookup (is_at (nat_cmp k)) es ≡ Some q → 0 < p.len
-    → p.len ≤ q.len → AreApart from (insert_entry nat_cmp es k p)
+pub apart-set : (from k : ℕ) (p q : OwnedPlace) (es : List (ℕ × OwnedPlace)) → ArePlacesApart from es → lookup (is_at (nat_cmp k)) es ≡ Some q → 0 < p.len
+    → p.len ≤ q.len → ArePlacesApart from (insert_entry nat_cmp es k p)
 apart-set from k p q [] apart found some shorter = cc
 apart-set from k p q (e ∷ es) apart found some shorter = ⊎_elim
     (λ (same, is).
@@ -334,7 +338,7 @@ apart-set from k p q (e ∷ es) apart found some shorter = ⊎_elim
     rw (cmp_greater k e.0 greater) (apart.0, apart.1, apart-set (e.0 + e.1.len) k p q es apart.2 later some shorter))
     (found_cases k e es q found)
 
-pub apart-take : (from : ℕ) (test : ℕ → Bool) (es : List (ℕ × OwnedPlace)) → AreApart from es → AreApart from (remove_entry test es)
+pub apart-take : (from : ℕ) (test : ℕ → Bool) (es : List (ℕ × OwnedPlace)) → ArePlacesApart from es → ArePlacesApart from (remove_entry test es)
 apart-take from test [] apart = tt
 apart-take from test (e ∷ es) apart = ⊎_elim
     (λ (yes : test e.0 ≡ true). rw yes (lower from (e.0 + e.1.len) es (omega (arith, apart.0)) apart.2))
@@ -342,7 +346,7 @@ apart-take from test (e ∷ es) apart = ⊎_elim
     (cases_Bool (test e.0))
 
 -- behind a place that was made shorter its other bytes are free
-pub rest_free : (from k m : ℕ) (p q : OwnedPlace) (es : List (ℕ × OwnedPlace)) → AreApart from es → lookup (is_at (nat_cmp k)) es ≡ Some q
+pub rest_free : (from k m : ℕ) (p q : OwnedPlace) (es : List (ℕ × OwnedPlace)) → ArePlacesApart from es → lookup (is_at (nat_cmp k)) es ≡ Some q
     → p.len + m ≡ q.len → list_all (is_apart (k + p.len) m) (all_placed (insert_entry nat_cmp es k p)) ≡ true
 rest_free from k m p q [] apart found lens = cc
 rest_free from k m p q (e ∷ es) apart found lens = ⊎_elim

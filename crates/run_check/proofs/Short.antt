@@ -1,12 +1,12 @@
 -- The lines of a run are short.
 use Rattle.std.proofs.Common.{◌≡◌, ℕ, ◌+◌, ◌*◌, ◌++◌, ◌<◌, ◌≤◌, ◌^◌, List, [], ◌∷◌, length, map, All, Bool, true, false, refl, ap, arith, lit<, length-append, suc}
 use Rattle.std.{specs.{Prelude.{codes}, Fmt.{decimal}, List.{AllByRecursion, join_with_byte}}, proofs.lemmas.Fmt.{length-decimal-le}}
-use Rattle.run_records.specs.{declared.event.Event.{Event}, Setting.{IsArea, IsSetting, Setting}, LegalRun.{HasSmallNumbers}}
-use Rattle.run_records.specs.RunText.{Text, area_text, last_line, line_of, name_of, numbers_of, run_line}
+use Rattle.run_records.specs.{declared.event.Event.{Event}, Setting.{IsRunArea, IsSetting, Setting}, LegalRun.{HasSmallNumbers}}
+use Rattle.run_records.specs.RunText.{RecordText, area_text, last_line, line_of, name_of, numbers_of, run_line}
 use Rattle.run_records.specs.declared.event.Event.TheVariants as event
 use Rattle.run_check.proofs.Numerals.{AreSmall}
 
-joined_short : (byte most : ℕ) (word : Text) (words : List Text) → AllByRecursion (λ w. length w ≤ most) words
+joined_short : (byte most : ℕ) (word : RecordText) (words : List RecordText) → AllByRecursion (λ w. length w ≤ most) words
     → length (join_with_byte byte (word ∷ words)) ≤ length word + (most + 1) * length words
 joined_short byte most word [] short = omega arith
 joined_short byte most word (next ∷ words) short =
@@ -75,7 +75,7 @@ pub last_line-short : (whole : Bool) → length (last_line whole) ≤ 128
 last_line-short true = omega arith
 last_line-short false = omega arith
 
-area_short : (area : ℕ × ℕ) → IsArea area → length (area_text area) ≤ 21
+area_short : (area : ℕ × ℕ) → IsRunArea area → length (area_text area) ≤ 21
 area_short area is =
     omega (
       arith,
@@ -84,7 +84,7 @@ area_short area is =
       decimal_short area.1 (omega (arith, is.size.most)),
     )
 
-areas_short : (areas : List (ℕ × ℕ)) → All IsArea areas → AllByRecursion (λ w. length w ≤ 21) (map area_text areas)
+areas_short : (areas : List (ℕ × ℕ)) → All IsRunArea areas → AllByRecursion (λ w. length w ≤ 21) (map area_text areas)
 areas_short [] each = tt
 areas_short (area ∷ areas) each = (area_short area (each 0 area (omega arith)), areas_short areas (λ k d lt. each (suc k) d (omega arith)))
 
@@ -92,7 +92,7 @@ areas_length : (areas : List (ℕ × ℕ)) → length (map area_text areas) ≡ 
 areas_length [] = refl
 areas_length (area ∷ areas) = ap suc (areas_length areas)
 
-all_short : (areas : List (ℕ × ℕ)) → length areas ≤ 4 → All IsArea areas → length (join_with_byte 44 (map area_text areas)) ≤ 87
+all_short : (areas : List (ℕ × ℕ)) → length areas ≤ 4 → All IsRunArea areas → length (join_with_byte 44 (map area_text areas)) ≤ 87
 all_short [] most each = omega arith
 all_short (area ∷ areas) most each =
     let short = areas_short (area ∷ areas) each in

@@ -3,12 +3,12 @@ use Rattle.std.proofs.Common.{◌≡◌, ◌∙◌, ℕ, ◌+◌, ◌++◌, ◌�
 use Rattle.std.{specs.{Str.{bytes_eq}, Prelude.{codes}, Io.KnownBytes.{Consumes}}, proofs.{lemmas.Slice.Eq.{bytes_eq-Decides}, Common.{append_assoc, append-nil}}}
 use Rattle.std.proofs.lemmas.List.{nil_from_length}
 use Rattle.run_records.specs.{declared.event.Event.{Event}, Setting.{most_events, IsSetting, Setting}, Holders.{Holdings, after, no_holdings}}
-use Rattle.run_records.specs.RunText.{Text, last_line, run_line}
+use Rattle.run_records.specs.RunText.{RecordText, last_line, run_line}
 use Rattle.run_check.specs.{declared.checking.Checked.{Checked, TheVariants.{Yes, No}}, Coming.{HasNoLine, IsOneLine, ahead}}
 use Rattle.run_check.{specs.{Holding.{EndsRecord, LineChanges, SameHoldings, weight}, Unfit.{IsUnfit}, declared.unfit.Unfit.{Unfit}}, proofs.Alike.{after_some}}
 use Rattle.run_check.specs.declared.unfit.Unfit.TheVariants as unfit
-use Rattle.run_check.{proofs.{Weighing.{length-same, same-sym, same-trans}, Judging.{same_line}}, specs.{Judged.{Judges}, Reading.{IsSettingOf, event_of, setting_of}}}
-use Rattle.run_check.proofs.{SettingText.{run_line-setting_of, setting_of-run_line}, Short.{run_line-short}}
+use Rattle.run_check.{proofs.{Weighing.{length-same, same-sym, same-trans}, Judging.{same_line}}, specs.{Judged.{Judges}, Reading.{IsSettingOfLine, event_of}}}
+use Rattle.run_check.{specs.Reading.{setting_of}, proofs.{SettingText.{run_line-setting_of, setting_of-run_line}, Short.{run_line-short}}}
 use Rattle.run_check.proofs.{Ending.{HasCome, behind_first, bad_first, come_first, come_more, no_line, told_more, told_whole, unfit_line}, Lacking.{none_alike, unfit_alike}}
 
 -- so many events were read of what came behind the first line
@@ -34,7 +34,7 @@ answers_no_line_at s None now h count come none = tt
 answers_no_line_at s (Some start) None h count come none = absurd come
 answers_no_line_at s (Some start) (Some rest) h count come none = no_line s start rest h count come none
 
-answers_unfit_at : (s : Setting) (start now later : Option (List ℕ)) (h : Holdings) (count : ℕ) (line : Text) (why : Unfit)
+answers_unfit_at : (s : Setting) (start now later : Option (List ℕ)) (h : Holdings) (count : ℕ) (line : RecordText) (why : Unfit)
     → ComesTo s start now h count → Consumes now later (line ++ 10 ∷ []) → IsOneLine line → IsUnfit s count h line why
     → AnswersFor s start (No (count + 2) why)
 answers_unfit_at s None now later h count line why come took one is = tt
@@ -42,7 +42,7 @@ answers_unfit_at s (Some start) None later h count line why come took one is = a
 answers_unfit_at s (Some start) (Some rest) None h count line why come took one is = absurd took
 answers_unfit_at s (Some start) (Some rest) (Some later) h count line why come took one is = unfit_line s start rest later h count line why come took one is
 
-answers_last : (s : Setting) (start now later : Option (List ℕ)) (h : Holdings) (count : ℕ) (line : Text) (whole : Bool) (answer : Checked)
+answers_last : (s : Setting) (start now later : Option (List ℕ)) (h : Holdings) (count : ℕ) (line : RecordText) (whole : Bool) (answer : Checked)
     → ComesTo s start now h count → Consumes now later (line ++ 10 ∷ []) → line ≡ last_line whole → (IsTrue whole → (b : ℕ) → h b ≡ [])
     → EndsRecord later (count + 2) answer → AnswersFor s start answer
 answers_last s None now later h count line whole answer come took last none ends = tt
@@ -63,13 +63,13 @@ pub answers_no_line : (s : Setting) (start now : Option (List ℕ)) (kept : Hold
     → AnswersFor s start (No (count + 2) unfit.NoLine)
 answers_no_line s start now kept count (h, come, same) none = answers_no_line_at s start now h count come none
 
-pub answers_unfit : (s : Setting) (start now later : Option (List ℕ)) (kept : Holdings) (count : ℕ) (line : Text) (why : Unfit)
+pub answers_unfit : (s : Setting) (start now later : Option (List ℕ)) (kept : Holdings) (count : ℕ) (line : RecordText) (why : Unfit)
     → ComesWith s start now kept count → Consumes now later (line ++ 10 ∷ []) → IsOneLine line → IsUnfit s count kept line why
     → AnswersFor s start (No (count + 2) why)
 answers_unfit s start now later kept count line why (h, come, same) took one is =
     answers_unfit_at s start now later h count line why come took one (unfit_alike s count h kept line why same is)
 
-pub comes_more : (s : Setting) (start now later : Option (List ℕ)) (kept new : Holdings) (count : ℕ) (line : Text) → ComesWith s start now kept count
+pub comes_more : (s : Setting) (start now later : Option (List ℕ)) (kept new : Holdings) (count : ℕ) (line : RecordText) → ComesWith s start now kept count
     → Consumes now later (line ++ 10 ∷ []) → count + 1 ≤ most_events → LineChanges s kept line new None → ComesWith s start later new (count + 1)
 comes_more s start now later kept new count line (h, come, same) took room (e, read, (held, follows, alike)) =
     let found = after_some s h kept held e same follows in (
@@ -97,7 +97,7 @@ answer_ok : (E : Type 0) (s : Setting) (start : Option (List ℕ)) (answer : Che
 answer_ok E s None answer h = tt
 answer_ok E s (Some start) answer h = h
 
-pub answers_ends : (E : Type 0) (s : Setting) (start now later : Option (List ℕ)) (kept : Holdings) (count : ℕ) (line : Text) (whole : Bool)
+pub answers_ends : (E : Type 0) (s : Setting) (start now later : Option (List ℕ)) (kept : Holdings) (count : ℕ) (line : RecordText) (whole : Bool)
     (result : Result Checked E) → ComesWith s start now kept count → Consumes now later (line ++ 10 ∷ []) → line ≡ last_line whole
     → (IsTrue whole → (b : ℕ) → kept b ≡ []) → IfOk result (EndsRecord later (count + 2)) → AnswersIfOk s start result
 answers_ends E s start now later kept count line whole (Err e) come took last none ends = no_answer E s start e
@@ -105,7 +105,7 @@ answers_ends E s start now later kept count line whole (Ok answer) (h, come, sam
     answer_ok E s start answer (answers_last s start now later h count line whole answer come took last
     (λ t. none_alike kept h (λ b. same-sym (h b) (kept b) (same b)) (none t)) ends)
 
-pub not_text : (name other : Text) → bytes_eq name other ≡ false → name ≡ other → ⊥
+pub not_text : (name other : RecordText) → bytes_eq name other ≡ false → name ≡ other → ⊥
 not_text name other differ same = search (rules, bytes_eq-Decides)
 
 -- ---- the first line
@@ -119,8 +119,8 @@ no_first_line waiting (Some bytes) fresh none =
     let long = here line behind same one in absurd (omega (arith, long, run_line-short s sound, ap length first)))
     unfit.NoLine here
 
-pub no_first_setting : (waiting : List ℕ) (left later : Option (List ℕ)) (line : Text) → waiting ≡ []
-    → Consumes (ahead waiting left) later (line ++ 10 ∷ []) → IsOneLine line → IsSettingOf line None
+pub no_first_setting : (waiting : List ℕ) (left later : Option (List ℕ)) (line : RecordText) → waiting ≡ []
+    → Consumes (ahead waiting left) later (line ++ 10 ∷ []) → IsOneLine line → IsSettingOfLine line None
     → IfSome left (λ bytes. Judges bytes (No 1 unfit.NoSetting))
 no_first_setting waiting None later line fresh took one none = tt
 no_first_setting waiting (Some bytes) None line fresh took one none = absurd took
@@ -133,7 +133,7 @@ no_first_setting waiting (Some bytes) (Some rest) line fresh took one none =
     unsaid s sound (sym lines.0 ∙ first))
     unfit.NoSetting (refl, record { line = line; behind = rest; next = next; one = one; none = unsaid })
 
-pub first_behind : (E : Type 0) (waiting : List ℕ) (left later : Option (List ℕ)) (line : Text) (s : Setting) (result : Result Checked E) → waiting ≡ []
+pub first_behind : (E : Type 0) (waiting : List ℕ) (left later : Option (List ℕ)) (line : RecordText) (s : Setting) (result : Result Checked E) → waiting ≡ []
     → Consumes (ahead waiting left) later (line ++ 10 ∷ []) → setting_of line ≡ Some s → AnswersIfOk s later result
     → IfSome left (λ bytes. IfOk result (Judges bytes))
 first_behind E waiting None later line s result fresh took read answers = tt

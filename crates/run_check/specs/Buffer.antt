@@ -2,13 +2,13 @@
 use Rattle.std.specs.Prelude.{◌≡◌, ℕ, ◌+◌, ◌<◌, List, [], ◌∷◌, ◌++◌, length, count_by, slice_index, replicate}
 use Rattle.run_records.specs.{declared.holding.Holding.{Holding}, Holders.{is_user}}
 use Rattle.run_records.specs.declared.holding.Holding.TheVariants as holding
-use Rattle.run_check.specs.{declared.{buffer.{Keeper.{Keeper}, Buffer.TheInside.{Inside}}, places.OwnedPlace.{OwnedPlace}}, Places.{AreApart, all_placed}}
+use Rattle.run_check.specs.{declared.{buffer.{Keeper.{Keeper}, Buffer.TheInside.{Inside}}, places.OwnedPlace.{OwnedPlace}}, Places.{ArePlacesApart, all_placed}}
 use Rattle.run_check.specs.declared.buffer.Keeper.TheVariants as keeper
 
-abbrev pub kept_by : Keeper → List Holding
-kept_by keeper.Nobody = []
-kept_by keeper.Card = holding.Own ∷ []
-kept_by (keeper.App app) = holding.Spare app ∷ []
+abbrev pub kept_by_keeper : Keeper → List Holding
+kept_by_keeper keeper.Nobody = []
+kept_by_keeper keeper.Card = holding.Own ∷ []
+kept_by_keeper (keeper.App app) = holding.Spare app ∷ []
 
 -- the owed loans of each application from this number on
 abbrev pub owed_from : ℕ → List ℕ → List Holding
@@ -16,7 +16,7 @@ owed_from app [] = []
 owed_from app (count ∷ counts) = replicate count (holding.Owed app) ++ owed_from (app + 1) counts
 
 abbrev pub holders_in : Inside → List Holding
-holders_in buffer = kept_by buffer.keeper ++ (all_placed buffer.places.entries ++ owed_from 0 buffer.owed)
+holders_in buffer = kept_by_keeper buffer.keeper ++ (all_placed buffer.places.entries ++ owed_from 0 buffer.owed)
 
 -- who has a spare buffer has it alone
 abbrev pub LeavesNoPlace : Keeper → List (ℕ × OwnedPlace) → Type 0
@@ -25,11 +25,11 @@ LeavesNoPlace keeper.Card entries = Unit {0}
 LeavesNoPlace (keeper.App app) entries = entries ≡ []
 
 -- the counts are those of the holders
-pub record AreCounted (count : ℕ) (users : List ℕ) (held : List Holding) : Type 0 where
+pub record AreHoldersCounted (count : ℕ) (users : List ℕ) (held : List Holding) : Type 0 where
   pub pool : count ≡ length held
   pub user : (app : ℕ) → app < 8 → slice_index users app ≡ count_by (is_user app) held
 
 pub record IsSoundBuffer (buffer : Inside) : Type 0 where
-  pub apart : AreApart 0 buffer.places.entries
+  pub apart : ArePlacesApart 0 buffer.places.entries
   pub alone : LeavesNoPlace buffer.keeper buffer.places.entries
-  pub counted : AreCounted buffer.count buffer.users (holders_in buffer)
+  pub counted : AreHoldersCounted buffer.count buffer.users (holders_in buffer)

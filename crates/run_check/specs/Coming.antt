@@ -1,7 +1,7 @@
 -- What is still to come of a source's bytes, byte by byte and line by line.
 use Rattle.std.specs.Prelude.{◌≡◌, ◌≢◌, ℕ, ◌<◌, Bool, true, false, List, [], ◌∷◌, ◌++◌, length, All, Option, Some, None, option_map, IfSome}
 use Rattle.std.specs.Io.KnownBytes.{Consumes, IsAtEnd}
-use Rattle.run_records.specs.RunText.{Text}
+use Rattle.run_records.specs.RunText.{RecordText}
 
 -- the bytes that were read and wait, and then those that the source has left, where it tells them
 abbrev pub ahead : List ℕ → Option (List ℕ) → Option (List ℕ)
@@ -17,15 +17,15 @@ IsLeftEmpty left (Some byte) = Unit {0}
 IsLeftEmpty left None = IsAtEnd left
 
 -- no byte is a line feed
-abbrev pub IsOneLine : Text → Type 0
+abbrev pub IsOneLine : RecordText → Type 0
 IsOneLine line = All (λ byte. byte ≢ 10) line
 
 -- no line of at most 128 bytes comes first
 abbrev pub HasNoLine : List ℕ → Type 0
-HasNoLine bytes = (line : Text) (behind : List ℕ) → bytes ≡ line ++ 10 ∷ behind → IsOneLine line → 128 < length line
+HasNoLine bytes = (line : RecordText) (behind : List ℕ) → bytes ≡ line ++ 10 ∷ behind → IsOneLine line → 128 < length line
 
 -- whether the next line was read
-abbrev pub ReadsLine : Option (List ℕ) → Option (List ℕ) → Text → Bool → Type 0
+abbrev pub ReadsLine : Option (List ℕ) → Option (List ℕ) → RecordText → Bool → Type 0
 ReadsLine old new line true = Consumes old new (line ++ 10 ∷ []) × IsOneLine line
 ReadsLine old new line false = IfSome old HasNoLine
 

@@ -1,6 +1,7 @@
 -- What each front of a legal record says of the holders.
 use Rattle.std.specs.Prelude.{◌≡◌, ℕ, ◌==◌, if◌then◌else◌, Bool, false, List, [], ◌∷◌, ◌++◌, length, count_by, Option, Some, None}
-use Rattle.run_records.specs.{declared.event.Event.{Event}, Setting.{Setting}, LegalRun.{IsLegalRun}, Holders.{Holdings, all_after, buffer_of, is_user, no_holdings}}
+use Rattle.run_records.specs.{declared.event.Event.{Event}, Setting.{Setting}, LegalRun.{IsLegalRun}, Holders.{Holdings, all_after, buffer_of_event, is_user}}
+use Rattle.run_records.specs.Holders.{no_holdings}
 use Rattle.run_records.specs.declared.event.Event.TheVariants as event
 
 -- the pool count that an event says
@@ -44,12 +45,12 @@ user_said_or a before (Some said) = if said.0 == a then said.1 else before
 -- the pool count of a buffer that events said last, or else the one before them
 abbrev pub pool_last : ℕ → ℕ → List Event → ℕ
 pool_last b before [] = before
-pool_last b before (e ∷ events) = pool_last b (if is_of b (buffer_of e) then said_or before (pool_said e) else before) events
+pool_last b before (e ∷ events) = pool_last b (if is_of b (buffer_of_event e) then said_or before (pool_said e) else before) events
 
 -- and the user count of an application and a buffer
 abbrev pub user_last : ℕ → ℕ → ℕ → List Event → ℕ
 user_last a b before [] = before
-user_last a b before (e ∷ events) = user_last a b (if is_of b (buffer_of e) then user_said_or a before (user_said e) else before) events
+user_last a b before (e ∷ events) = user_last a b (if is_of b (buffer_of_event e) then user_said_or a before (user_said e) else before) events
 
 -- The events of a front lead from no holders to some. A buffer has as many as the pool count of it that was said last, or none, and an
 -- application as many loans there, out or owed, as the user count of both that was said last, or none.

@@ -1,7 +1,7 @@
 -- What the code keeps of the holders, and how it changes them.
 use Rattle.std.specs.{Prelude.{◌≡◌, ℕ, Bool, true, false, List, [], Option, Some, None, slice_index_or, nat_lt, ◌&&◌, ◌==◌, ◌%◌}, List.{list_any, list_all}}
 use Rattle.std.specs.{Io.KnownBytes.{IsAtEnd}, Prelude.{◌+◌, ◌<◌, IfSome}}
-use Rattle.run_records.specs.{declared.{event.Event.{Event}, holding.Holding.{Holding}}, RunText.{Text}, Setting.{Setting}}
+use Rattle.run_records.specs.{declared.{event.Event.{Event}, holding.Holding.{Holding}}, RunText.{RecordText}, Setting.{Setting}}
 use Rattle.run_records.specs.Holders.{Holdings, after, is_apart, is_same}
 use Rattle.run_records.specs.declared.event.Event.TheVariants as event
 use Rattle.run_records.specs.declared.holding.Holding.TheVariants as holding
@@ -42,7 +42,7 @@ HasSmallApp (event.Scrub a b p u) = a < 8
 HasSmallApp other = Unit {0}
 
 -- `None`: the line says an event that changes the holders; `Some`: why it says none that may come
-abbrev pub LineChanges : Setting → Holdings → Text → Holdings → Option Unfit → Type 0
+abbrev pub LineChanges : Setting → Holdings → RecordText → Holdings → Option Unfit → Type 0
 LineChanges setting old line new None = (e : Event) × (event_of line ≡ Some e) × HasChanged setting old e new None
 LineChanges setting old line new (Some why) = IsUnfitEvent setting old line why
 

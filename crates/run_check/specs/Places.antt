@@ -19,16 +19,16 @@ is_same_hand (hand.Loan a) (hand.Loan b) = a == b
 is_same_hand one other = false
 
 -- a place with its offset
-abbrev pub placed : ℕ × OwnedPlace → Holding
-placed e = held_by e.1.hand e.0 e.1.len
+abbrev pub placed_holding : ℕ × OwnedPlace → Holding
+placed_holding e = held_by e.1.hand e.0 e.1.len
 
 abbrev pub all_placed : List (ℕ × OwnedPlace) → List Holding
-all_placed entries = map placed entries
+all_placed entries = map placed_holding entries
 
 -- from this byte on: each has bytes, and begins where the one before it ends or behind that
-abbrev pub AreApart : ℕ → List (ℕ × OwnedPlace) → Type 0
-AreApart from [] = Unit {0}
-AreApart from (e ∷ entries) = (from ≤ e.0) × (0 < e.1.len) × AreApart (e.0 + e.1.len) entries
+abbrev pub ArePlacesApart : ℕ → List (ℕ × OwnedPlace) → Type 0
+ArePlacesApart from [] = Unit {0}
+ArePlacesApart from (e ∷ entries) = (from ≤ e.0) × (0 < e.1.len) × ArePlacesApart (e.0 + e.1.len) entries
 
 abbrev pub IsNoLoan : Hand → Type 0
 IsNoLoan hand.Card = Unit {0}

@@ -1,7 +1,7 @@
 //! The holders of a run's buffers.
 ghost use Rattle.std.specs.Prelude.{◌≡◌, ◌<◌, ◌+◌, ◌^◌, ℕ, [], IfOk, length, IsTrue, ◌↔◌};
-ghost use Rattle.run_records.specs.{Setting.{IsSetting, total_buffers}, Holders.{buffer_of, changed, has_counts, is_in_range}};
-ghost use Rattle.run_check.specs.{Holding.{Changes, HasChanged, HasSmallApp, holdings_of}, Unfit.{user_count}};
+ghost use Rattle.run_records.specs.{Setting.{IsSetting, total_buffers}, Holders.{buffer_of_event, changed, has_counts, is_in_range}};
+ghost use Rattle.run_check.specs.{Holding.{Changes, HasChanged, HasSmallApp, holdings_of}, Unfit.{user_count_told}};
 ghost use Rattle.run_check.specs.declared.unfit.Lack.TheVariants as lack;
 
 use crate::buffer::Buffer;
@@ -72,7 +72,7 @@ impl Holders {
 
 /// The buffer whose holders the event changes.
 fn buffer_of(event: Event) -> Option<u32>
-    ensures { result ≡ buffer_of event }
+    ensures { result ≡ buffer_of_event event }
 {
     match event {
         Event::Take { buffer, .. }
@@ -189,7 +189,7 @@ fn has_counts(held: &Buffer, event: Event) -> bool
 /// The user count of the event's application, where the event says one.
 fn user_count(held: &Buffer, event: Event) -> u32
     requires { HasSmallApp event }
-    ensures { result ≡ user_count held.now event }
+    ensures { result ≡ user_count_told held.now event }
 {
     match event {
         Event::Lend { app, .. }
@@ -212,7 +212,7 @@ fn user_count(held: &Buffer, event: Event) -> u32
 /// The counts that the event should have said.
 fn counts_of(held: &Buffer, event: Event) -> Lack
     requires { HasSmallApp event }
-    ensures { result ≡ lack.Counts (length held.now) (user_count held.now event) }
+    ensures { result ≡ lack.Counts (length held.now) (user_count_told held.now event) }
 {
     Lack::Counts {
         pool: held.pool_count(),

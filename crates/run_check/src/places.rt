@@ -1,7 +1,7 @@
 //! The places of a buffer that somebody has, by their offsets. They have bytes and no byte in common.
 ghost use Rattle.std.specs.{Prelude.{◌≡◌, ◌==◌, ◌&&◌, ◌<◌, ◌+◌, ◌^◌}, List.{list_any, list_all}};
 ghost use Rattle.run_records.specs.Holders.{is_apart, is_same};
-ghost use Rattle.run_check.specs.Places.{AreApart, all_placed, is_same_hand, placed};
+ghost use Rattle.run_check.specs.Places.{ArePlacesApart, all_placed, is_same_hand, placed_holding};
 
 use std::collections::BTreeMap;
 
@@ -33,8 +33,9 @@ fn is_same_place(one: OwnedPlace, other: OwnedPlace) -> bool
 
 /// Whether the place is there.
 pub(crate) fn is_there(places: &BTreeMap<u32, OwnedPlace>, offset: u32, place: OwnedPlace) -> bool
-    requires { AreApart 0 places.now.entries }
-    ensures { result ≡ list_any (is_same (placed (offset, place))) (all_placed places.now.entries) }
+    requires { ArePlacesApart 0 places.now.entries }
+    ensures { result ≡ list_any (is_same (placed_holding (offset, place)))
+        (all_placed places.now.entries) }
 {
     match places.get(&offset) {
         Some(found) => is_same_place(*found, place),
@@ -44,7 +45,7 @@ pub(crate) fn is_there(places: &BTreeMap<u32, OwnedPlace>, offset: u32, place: O
 
 /// Whether no place has one of these bytes.
 pub(crate) fn are_apart(places: &BTreeMap<u32, OwnedPlace>, offset: u32, len: u32) -> bool
-    requires apart { AreApart 0 places.now.entries }
+    requires apart { ArePlacesApart 0 places.now.entries }
     requires fits { offset + len < 2 ^ 32 }
     ensures { result ≡ list_all (is_apart offset len) (all_placed places.now.entries) }
 {

@@ -1,7 +1,7 @@
 //! The setting that the first line of a record says.
 ghost use Rattle.std.specs.Prelude.{◌≡◌, ◌≤◌, ◌↔◌, IfOk, IsTrue, All, length, map, option_map, ◌==◌, ◌+◌};
-ghost use Rattle.run_records.specs.{Setting.{AreAreas, IsArea, IsSetting, IsSize, pool_buffers, pool_bytes, size_of_buffer, total_buffers}, Holders.{is_app, is_buffer, is_pool_buffer, is_reserve_of, is_within}};
-ghost use Rattle.run_check.specs.Reading.{IsSettingOf, all_areas, area_by, area_of, setting_by, setting_from};
+ghost use Rattle.run_records.specs.{Setting.{AreAreas, IsRunArea, IsSetting, IsSize, buffers_of_areas, pool_bytes, size_of_buffer, total_buffers}, Holders.{is_app, is_buffer, is_pool_buffer, is_reserve_of, is_within}};
+ghost use Rattle.run_check.specs.Reading.{IsSettingOfLine, all_run_areas, area_by, area_in_line, setting_by, setting_from};
 
 use crate::words::{is_word, number_of, parts_of};
 use std::alloc::{AllocError, Global};
@@ -41,7 +41,7 @@ impl Model for RunSetting {
 impl RunSetting {
     /// The setting of a line, if it says one.
     pub(crate) fn of(alloc: Global, line: &[u8]) -> Result<Option<RunSetting>, AllocError>
-        ensures { IfOk result (IsSettingOf line.now) }
+        ensures { IfOk result (IsSettingOfLine line.now) }
     {
         let words = parts_of(alloc, b' ', line)?;
         let Some((areas, apps)) = numbers_of(alloc, &words)? else {
@@ -55,7 +55,7 @@ impl RunSetting {
     }
 
     fn pool_buffers(&self) -> u32
-        ensures value { result ≡ pool_buffers self.now.areas }
+        ensures value { result ≡ buffers_of_areas self.now.areas }
         ensures sound { IsSetting self.now }
     {
         pool_buffers(&self.areas)
@@ -145,7 +145,7 @@ fn area_by(numbers: &[&[u8]]) -> Option<(u32, u32)>
 }
 
 fn area_of(alloc: Global, part: &[u8]) -> Result<Option<(u32, u32)>, AllocError>
-    ensures { IfOk result (λ a. a ≡ area_of part.now) }
+    ensures { IfOk result (λ a. a ≡ area_in_line part.now) }
 {
     let numbers = parts_of(alloc, b':', part)?;
     Ok(area_by(&numbers))
@@ -154,7 +154,7 @@ fn area_of(alloc: Global, part: &[u8]) -> Result<Option<(u32, u32)>, AllocError>
 /// The numbers of all parts, where each is an area.
 fn all_areas(alloc: Global, parts: &[&[u8]]) -> Result<Option<Vec<(u32, u32)>>, AllocError>
     ensures { IfOk result (λ r. option_map (λ areas. areas.items) r
-        ≡ all_areas (map (λ w. w.now) parts.now)) }
+        ≡ all_run_areas (map (λ w. w.now) parts.now)) }
 {
     let mut areas = Vec::new(alloc);
     for part in parts {
@@ -179,14 +179,14 @@ fn is_size(size: u32) -> bool
 }
 
 fn is_area(area: (u32, u32)) -> bool
-    ensures { IsTrue result ↔ IsArea area }
+    ensures { IsTrue result ↔ IsRunArea area }
 {
     let (buffers, size) = area;
     1 <= buffers && buffers <= MOST_BUFFERS && is_size(size)
 }
 
 fn are_each(areas: &[(u32, u32)]) -> bool
-    ensures { IsTrue result ↔ All IsArea areas.now }
+    ensures { IsTrue result ↔ All IsRunArea areas.now }
 {
     areas.iter().all(|area| is_area(*area))
 }
@@ -202,8 +202,8 @@ fn are_areas(areas: &[(u32, u32)]) -> bool
 
 fn pool_buffers(areas: &[(u32, u32)]) -> u32
     requires few { length areas.now ≤ 4 }
-    requires each { All IsArea areas.now }
-    ensures { result ≡ pool_buffers areas.now }
+    requires each { All IsRunArea areas.now }
+    ensures { result ≡ buffers_of_areas areas.now }
 {
     let mut total = 0;
     for area in areas {
@@ -214,7 +214,7 @@ fn pool_buffers(areas: &[(u32, u32)]) -> u32
 
 fn pool_bytes(areas: &[(u32, u32)]) -> u64
     requires few { length areas.now ≤ 4 }
-    requires each { All IsArea areas.now }
+    requires each { All IsRunArea areas.now }
     ensures { result ≡ pool_bytes areas.now }
 {
     let mut total = 0;

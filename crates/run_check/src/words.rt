@@ -1,6 +1,6 @@
 //! The words of a line, and the events that they say.
 ghost use Rattle.std.specs.{Prelude.{◌≡◌, [], ◌∷◌, IfOk, map, option_map}, Char.{is_ascii_digit}, List.{list_all}, Str.{bytes_eq}};
-ghost use Rattle.run_check.specs.Reading.{all_numbers, event_by, event_from, event_of, is_numeral, number_of, parts_of};
+ghost use Rattle.run_check.specs.Reading.{all_numbers, event_by, event_from, event_of, is_numeral, number_in_word, parts_of};
 
 use run_records::Event;
 use std::alloc::{AllocError, Global};
@@ -25,7 +25,7 @@ fn is_numeral(word: &[u8]) -> bool
 
 /// The number of a word: below 2^32, of digits, without leading zeros.
 pub(crate) fn number_of(word: &[u8]) -> Option<u32>
-    ensures { result ≡ number_of word.now }
+    ensures { result ≡ number_in_word word.now }
 {
     if !is_numeral(word) {
         return None;

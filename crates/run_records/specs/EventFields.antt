@@ -4,16 +4,16 @@ use Rattle.run_records.specs.declared.event.Event.{Event}
 use Rattle.run_records.specs.declared.event.Event.TheVariants as event
 
 -- the offset and the length of the bytes that an event names
-abbrev pub bytes_of : Event → ℕ × ℕ
-bytes_of (event.Place b o l p) = (o, l)
-bytes_of (event.Sent a b o l) = (o, l)
-bytes_of (event.Held a b o l) = (o, l)
-bytes_of (event.Cut a b o l m p) = (o, l)
-bytes_of (event.Lend a b o l p u) = (o, l)
-bytes_of (event.Back a b o l u) = (o, l)
-bytes_of (event.Free a b o l p) = (o, l)
-bytes_of (event.Own a b l p u) = (0, l)
-bytes_of other = (0, 0)
+abbrev pub bytes_of_event : Event → ℕ × ℕ
+bytes_of_event (event.Place b o l p) = (o, l)
+bytes_of_event (event.Sent a b o l) = (o, l)
+bytes_of_event (event.Held a b o l) = (o, l)
+bytes_of_event (event.Cut a b o l m p) = (o, l)
+bytes_of_event (event.Lend a b o l p u) = (o, l)
+bytes_of_event (event.Back a b o l u) = (o, l)
+bytes_of_event (event.Free a b o l p) = (o, l)
+bytes_of_event (event.Own a b l p u) = (0, l)
+bytes_of_event other = (0, 0)
 
 -- the pool count and the user count that an event says, of which one that it doesn't say is 0
 abbrev pub counts_of : Event → ℕ × ℕ

@@ -2,7 +2,7 @@
 -- list's order says nothing.
 use Rattle.std.specs.Prelude.{ℕ, ◌+◌, ◌-◌, ◌%◌, ◌==◌, ◌&&◌, ◌||◌, nat_lt, nat_le, not, if◌then◌else◌, Bool, true, false, List, [], ◌∷◌, ◌++◌}
 use Rattle.std.specs.{Prelude.{length, filter, count_by, Option, Some, None, option_map, option_and_then}, List.{list_any, list_all}}
-use Rattle.run_records.specs.{declared.{event.Event.{Event}, holding.Holding.{Holding}}, Setting.{Setting, pool_buffers, total_buffers, size_of_buffer}}
+use Rattle.run_records.specs.{declared.{event.Event.{Event}, holding.Holding.{Holding}}, Setting.{Setting, buffers_of_areas, total_buffers, size_of_buffer}}
 use Rattle.run_records.specs.declared.event.Event.TheVariants as event
 use Rattle.run_records.specs.declared.holding.Holding.TheVariants as holding
 
@@ -42,21 +42,21 @@ weight weigh (first ∷ held) = weigh first + weight weigh held
 
 -- ---- what an event names
 
-abbrev pub buffer_of : Event → Option ℕ
-buffer_of (event.Take b p) = Some b
-buffer_of (event.Place b o l p) = Some b
-buffer_of (event.Sent a b o l) = Some b
-buffer_of (event.Held a b o l) = Some b
-buffer_of (event.Cut a b o l m p) = Some b
-buffer_of (event.Lend a b o l p u) = Some b
-buffer_of (event.Back a b o l u) = Some b
-buffer_of (event.Honour a b p u) = Some b
-buffer_of (event.Stray a) = None
-buffer_of (event.Free a b o l p) = Some b
-buffer_of (event.Spare a b p) = Some b
-buffer_of (event.Own a b l p u) = Some b
-buffer_of (event.Shut b p) = Some b
-buffer_of (event.Scrub a b p u) = Some b
+abbrev pub buffer_of_event : Event → Option ℕ
+buffer_of_event (event.Take b p) = Some b
+buffer_of_event (event.Place b o l p) = Some b
+buffer_of_event (event.Sent a b o l) = Some b
+buffer_of_event (event.Held a b o l) = Some b
+buffer_of_event (event.Cut a b o l m p) = Some b
+buffer_of_event (event.Lend a b o l p u) = Some b
+buffer_of_event (event.Back a b o l u) = Some b
+buffer_of_event (event.Honour a b p u) = Some b
+buffer_of_event (event.Stray a) = None
+buffer_of_event (event.Free a b o l p) = Some b
+buffer_of_event (event.Spare a b p) = Some b
+buffer_of_event (event.Own a b l p u) = Some b
+buffer_of_event (event.Shut b p) = Some b
+buffer_of_event (event.Scrub a b p u) = Some b
 
 -- an application and a buffer that there are, and bytes that the buffer has
 abbrev pub is_app : Setting → ℕ → Bool
@@ -69,10 +69,10 @@ abbrev pub is_within : Setting → ℕ → ℕ → ℕ → Bool
 is_within setting buffer offset len = is_buffer setting buffer && nat_le (offset + len) (size_of_buffer setting.areas buffer)
 
 abbrev pub is_pool_buffer : Setting → ℕ → Bool
-is_pool_buffer setting buffer = nat_lt buffer (pool_buffers setting.areas)
+is_pool_buffer setting buffer = nat_lt buffer (buffers_of_areas setting.areas)
 
 abbrev pub is_reserve_of : Setting → ℕ → ℕ → Bool
-is_reserve_of setting app buffer = buffer == pool_buffers setting.areas + app
+is_reserve_of setting app buffer = buffer == buffers_of_areas setting.areas + app
 
 -- the numbers of an event are in the setting's ranges
 abbrev pub is_in_range : Setting → Event → Bool
@@ -168,7 +168,7 @@ after_at s holdings e (Some b) = option_map (with_holders holdings b) (held_afte
 -- the holders after an event; none where the event's numbers are out of range or say other counts, or where the holders
 -- before it aren't what it needs
 unfoldable pub after : Setting → Holdings → Event → Option Holdings
-after s holdings e = only_if (is_in_range s e) (after_at s holdings e (buffer_of e))
+after s holdings e = only_if (is_in_range s e) (after_at s holdings e (buffer_of_event e))
 
 -- the holders after all events, one after another
 abbrev pub all_after : Setting → Holdings → List Event → Option Holdings

@@ -4,22 +4,22 @@ use Rattle.run_records.specs.{declared.event.Event.{Event}, Setting.{Setting}}
 use Rattle.run_records.specs.declared.event.Event.TheVariants as event
 
 -- a line without its line feed, or a word
-abbrev pub Text : Type 0
-Text = List ℕ
+abbrev pub RecordText : Type 0
+RecordText = List ℕ
 
-abbrev pub spaced : List Text → Text
+abbrev pub spaced : List RecordText → RecordText
 spaced words = join_with_byte 32 words
 
 -- as `16:1024`
-abbrev pub area_text : ℕ × ℕ → Text
+abbrev pub area_text : ℕ × ℕ → RecordText
 area_text area = decimal area.0 ++ 58 ∷ decimal area.1
 
 -- as `run 16:1024,4:4096 2`
-unfoldable pub run_line : Setting → Text
+unfoldable pub run_line : Setting → RecordText
 run_line setting =
     spaced (codes "run" ∷ join_with_byte 44 (map area_text setting.areas) ∷ decimal setting.apps ∷ [])
 
-abbrev pub name_of : Event → Text
+abbrev pub name_of : Event → RecordText
 name_of (event.Take b p) = codes "take"
 name_of (event.Place b o l p) = codes "place"
 name_of (event.Sent a b o l) = codes "sent"
@@ -52,19 +52,19 @@ numbers_of (event.Shut b p) = b ∷ p ∷ []
 numbers_of (event.Scrub a b p u) = a ∷ b ∷ p ∷ u ∷ []
 
 -- as `place 0 64 100 2`
-unfoldable pub line_of : Event → Text
+unfoldable pub line_of : Event → RecordText
 line_of e = spaced (name_of e ∷ map decimal (numbers_of e))
 
 -- `end` behind all events, `more` where there were others
-abbrev pub last_line : Bool → Text
+abbrev pub last_line : Bool → RecordText
 last_line true = codes "end"
 last_line false = codes "more"
 
-abbrev pub lines_of : Setting → List Event → Bool → List Text
+abbrev pub lines_of : Setting → List Event → Bool → List RecordText
 lines_of setting events whole = run_line setting ∷ (map line_of events ++ last_line whole ∷ [])
 
-abbrev pub text_of_lines : List Text → List ℕ
+abbrev pub text_of_lines : List RecordText → List ℕ
 text_of_lines lines = flat_map (λ line. line ++ 10 ∷ []) lines
 
-abbrev pub text_of : Setting → List Event → Bool → List ℕ
-text_of setting events whole = text_of_lines (lines_of setting events whole)
+abbrev pub run_text_of : Setting → List Event → Bool → List ℕ
+run_text_of setting events whole = text_of_lines (lines_of setting events whole)

@@ -8,8 +8,8 @@ pub record Setting : Type 0 where
   pub areas : List (ℕ × ℕ)
   pub apps : ℕ
 
-abbrev pub pool_buffers : List (ℕ × ℕ) → ℕ
-pool_buffers areas = sum (map (λ area. area.0) areas)
+abbrev pub buffers_of_areas : List (ℕ × ℕ) → ℕ
+buffers_of_areas areas = sum (map (λ area. area.0) areas)
 
 -- how many bytes the pool buffers have together
 abbrev pub pool_bytes : List (ℕ × ℕ) → ℕ
@@ -17,7 +17,7 @@ pool_bytes areas = sum (map (λ area. area.0 * area.1) areas)
 
 -- how many buffers there are, reserves included
 abbrev pub total_buffers : Setting → ℕ
-total_buffers setting = pool_buffers setting.areas + setting.apps
+total_buffers setting = buffers_of_areas setting.areas + setting.apps
 
 -- the size of the reserves
 abbrev pub first_size : List (ℕ × ℕ) → ℕ
@@ -38,15 +38,15 @@ pub record IsSize (size : ℕ) : Type 0 where
   pub least : 1024 ≤ size
   pub most : size ≤ 65536
 
-pub record IsArea (area : ℕ × ℕ) : Type 0 where
+pub record IsRunArea (area : ℕ × ℕ) : Type 0 where
   pub buffers : (1 ≤ area.0) × (area.0 ≤ 4096)
   pub size : IsSize area.1
 
 pub record AreAreas (areas : List (ℕ × ℕ)) : Type 0 where
   pub some : 1 ≤ length areas
   pub most : length areas ≤ 4
-  pub each : All IsArea areas
-  pub buffers : pool_buffers areas ≤ 4096
+  pub each : All IsRunArea areas
+  pub buffers : buffers_of_areas areas ≤ 4096
   pub bytes : pool_bytes areas ≤ 67108864
 
 pub record IsSetting (setting : Setting) : Type 0 where

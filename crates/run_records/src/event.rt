@@ -1,5 +1,5 @@
 ghost use Rattle.std.specs.Prelude.{◌≡◌};
-ghost use Rattle.run_records.specs.EventFields.{bytes_of, counts_of};
+ghost use Rattle.run_records.specs.EventFields.{bytes_of_event, counts_of};
 
 /// How many events a record of a run has at most.
 pub const MOST_EVENTS: u32 = 1_000_000;
@@ -110,7 +110,7 @@ pub enum Event {
 impl Event {
     /// The offset and the length of the bytes that the event names, or 0.
     pub fn bytes(self) -> (u32, u32)
-        ensures { result ≡ bytes_of self }
+        ensures { result ≡ bytes_of_event self }
     {
         match self {
             Event::Place { offset, len, .. }

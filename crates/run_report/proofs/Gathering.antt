@@ -3,7 +3,7 @@ use Rattle.std.proofs.Common.{◌≡◌, ℕ, zero, suc, ◌+◌, ◌<◌, List,
 use Rattle.std.proofs.{Common.{refl, sym, ap, subst, ◌∙◌, append_assoc, append-nil, take-append-drop, add-one, arith}, Math.Seq.{take-append_seam}}
 use Rattle.std.{proofs.KnownBytes.{Appends-nil, Appends-trans}, specs.{Io.KnownBytes.{Appends}, List.{flat_map, join_with_byte}}}
 use Rattle.zr_io.specs.Moved.{AddsPiece}
-use Rattle.run_records.specs.{declared.event.Event.{Event}, Setting.{Setting}, RunText.{last_line, line_of, run_line, text_of, text_of_lines}}
+use Rattle.run_records.specs.{declared.event.Event.{Event}, Setting.{Setting}, RunText.{last_line, line_of, run_line, run_text_of, text_of_lines}}
 use Rattle.run_report.specs.Gathered.{Waits}
 
 -- what waits, put on its way by a step more
@@ -83,7 +83,7 @@ lines-more events i d within = rw (add-one i) (go events i within)
 
 -- the whole record
 pub text-parts : (setting : Setting) (events : List Event) (whole : Bool)
-    → ((run_line setting ++ 10 ∷ []) ++ text_of_lines (map line_of events)) ++ (last_line whole ++ 10 ∷ []) ≡ text_of setting events whole
+    → ((run_line setting ++ 10 ∷ []) ++ text_of_lines (map line_of events)) ++ (last_line whole ++ 10 ∷ []) ≡ run_text_of setting events whole
 text-parts setting events whole =
     append_assoc (run_line setting ++ 10 ∷ []) _ _ ∙ ap (λ l. (run_line setting ++ 10 ∷ []) ++ l) (go events)
   where
@@ -126,12 +126,12 @@ module _ (sent between now : Option (List ℕ)) (block waiting : List ℕ) (even
 -- ---- the whole record
 
 module _ (setting : Setting) (events : List Event) (whole : Bool) (first : List ℕ) (is : first ≡ run_line setting ++ 10 ∷ []) where
-  parts : (first ++ text_of_lines (map line_of events)) ++ (last_line whole ++ 10 ∷ []) ≡ text_of setting events whole
+  parts : (first ++ text_of_lines (map line_of events)) ++ (last_line whole ++ 10 ∷ []) ≡ run_text_of setting events whole
   parts = ap (λ l. (l ++ text_of_lines (map line_of events)) ++ (last_line whole ++ 10 ∷ [])) is ∙ text-parts setting events whole
 
   -- where the sink failed at the events
   pub breaks-early : (sent now : Option (List ℕ)) (n : ℕ) → Appends sent now (take n (first ++ text_of_lines (map line_of events)))
-      → (m : ℕ) × Appends sent now (take m (text_of setting events whole))
+      → (m : ℕ) × Appends sent now (take m (run_text_of setting events whole))
   breaks-early sent now n out =
       let (m, front) = breaks sent sent now first first (text_of_lines (map line_of events)) (last_line whole ++ 10 ∷ []) n (waits-all sent first) out in
       (m, subst (λ l. Appends sent now (take m l)) (sym (append_assoc first _ _) ∙ parts) front)
@@ -139,7 +139,7 @@ module _ (setting : Setting) (events : List Event) (whole : Bool) (first : List 
   -- and where it failed behind them
   pub breaks-late : (sent between now : Option (List ℕ)) (waiting : List ℕ) (n : ℕ)
       → Waits sent between (first ++ text_of_lines (map line_of events)) waiting → Appends between now (take n (waiting ++ []))
-      → (m : ℕ) × Appends sent now (take m (text_of setting events whole))
+      → (m : ℕ) × Appends sent now (take m (run_text_of setting events whole))
   breaks-late sent between now waiting n waits out =
       let (m, front) = breaks sent between now _ waiting [] (last_line whole ++ 10 ∷ []) n waits out in
       (m, subst (λ l. Appends sent now (take m l)) parts front)
@@ -148,7 +148,7 @@ module _ (setting : Setting) (events : List Event) (whole : Bool) (first : List 
   pub record-out : {A E : Type 0} (sent between then now : Option (List ℕ)) (result : Result A E) (waiting waiting_then piece : List ℕ)
       → Waits sent between (first ++ text_of_lines (map line_of events)) waiting → Waits between then (waiting ++ []) waiting_then
       → piece ≡ waiting_then ++ (last_line whole ++ 10 ∷ []) → AddsPiece then now result piece
-      → AddsPiece sent now result (text_of setting events whole)
+      → AddsPiece sent now result (run_text_of setting events whole)
   record-out sent between then now result waiting waiting_then piece waits waits_then piece_is out =
       finishes sent then now result (first ++ text_of_lines (map line_of events)) waiting_then (last_line whole ++ 10 ∷ []) _
       (subst (λ l. Waits sent then l waiting_then) (append-nil _) (waits-then sent between then _ waiting [] waiting_then waits waits_then))

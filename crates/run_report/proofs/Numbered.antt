@@ -1,7 +1,7 @@
 -- One more numbered line.
 use Rattle.std.proofs.Common.{◌≡◌, ℕ, zero, suc, ◌+◌, ◌<◌, List, [], ◌∷◌, ◌++◌, length, get_or, take, sym, ap, ◌∙◌, append_assoc, append-nil, add-one, arith}
 use Rattle.std.specs.List.{flat_map, enumerate_from}
-use Rattle.run_report.specs.Report.{numbered}
+use Rattle.run_report.specs.Report.{numbered_lines}
 
 more_from : {T : Type 0} (line : ℕ → T → List ℕ) (first : ℕ) (items : List T) (i n : ℕ) (d : T) → n ≡ first + i → i < length items
     → flat_map (λ e. line e.0 e.1) (enumerate_from first (take i items)) ++ line n (get_or items i d)
@@ -14,7 +14,7 @@ more_from line first (x ∷ items) (suc i) n d is within =
 
 -- the lines of the first i items and the line of the next
 pub numbered_more : {T : Type 0} (line : ℕ → T → List ℕ) (items : List T) (i : ℕ) (d : T) → i < length items
-    → numbered line (take i items) ++ line i (get_or items i d) ≡ numbered line (take (i + 1) items)
+    → numbered_lines line (take i items) ++ line i (get_or items i d) ≡ numbered_lines line (take (i + 1) items)
 numbered_more line items i d within = rw (add-one i) (more_from line 0 items i i d (omega arith) within)
 
 more : {T : Type 0} (line : T → List ℕ) (items : List T) (i : ℕ) (d : T) → i < length items

@@ -59,13 +59,14 @@ abbrev pub status_line : ℕ → List ℕ
 status_line status = codes "status " ++ decimal status ++ 10 ∷ []
 
 -- a line for each item, numbered from 0
-abbrev pub numbered : {T : Type 0} → (ℕ → T → List ℕ) → List T → List ℕ
-numbered line items = flat_map (λ e. line e.0 e.1) (enumerate_from 0 items)
+abbrev pub numbered_lines : {T : Type 0} → (ℕ → T → List ℕ) → List T → List ℕ
+numbered_lines line items = flat_map (λ e. line e.0 e.1) (enumerate_from 0 items)
 
 -- the whole text
 abbrev pub report_of : Tally → List AppLine → List FlowLine → List ℕ → PoolStats → ℕ → List ℕ
 report_of tally apps flows refused pool status =
-    capture_line tally ++ numbered app_line apps ++ numbered flow_line flows ++ flat_map refused_line refused ++ pool_line pool ++ status_line status
+    capture_line tally ++ numbered_lines app_line apps ++ numbered_lines flow_line flows ++ flat_map refused_line refused ++ pool_line pool
+    ++ status_line status
 
 -- The whole text went out; or nothing, for want of memory; or a front of it, where the sink failed.
 abbrev pub Reports : Option (List ℕ) → Option (List ℕ) → ℕ → ℕ → List ℕ → Result (Unit {0}) Unreported → Type 0

@@ -1,6 +1,6 @@
 //! The lines of a report.
 ghost use Rattle.std.specs.{Prelude.{◌≡◌, Some}, List.{flat_map}};
-ghost use Rattle.run_report.specs.Report.{app_line, capture_line, end_word, flow_line, numbered, pool_line, refused_line, stopped_word};
+ghost use Rattle.run_report.specs.Report.{app_line, capture_line, end_word, flow_line, numbered_lines, pool_line, refused_line, stopped_word};
 
 use std::fmt;
 use zr_kinds::{AppLine, FlowEnd, FlowLine, PoolStats, Stopped, Tally};
@@ -83,7 +83,7 @@ impl fmt::Display for NumberedFlow<'_> {
 pub(crate) struct AppLines<'a>(pub(crate) &'a [AppLine]);
 
 impl fmt::Display for AppLines<'_> {
-    ghost output = { λ lines. Some (numbered app_line lines.0.now) };
+    ghost output = { λ lines. Some (numbered_lines app_line lines.0.now) };
 
     fn fmt<W: fmt::Write>(&self, f: &mut fmt::Formatter<W>) -> fmt::Result {
         for (number, app) in self.0.iter().enumerate() {
@@ -99,7 +99,7 @@ impl fmt::Display for AppLines<'_> {
 pub(crate) struct FlowLines<'a>(pub(crate) &'a [FlowLine]);
 
 impl fmt::Display for FlowLines<'_> {
-    ghost output = { λ lines. Some (numbered flow_line lines.0.now) };
+    ghost output = { λ lines. Some (numbered_lines flow_line lines.0.now) };
 
     fn fmt<W: fmt::Write>(&self, f: &mut fmt::Formatter<W>) -> fmt::Result {
         for (number, flow) in self.0.iter().enumerate() {

@@ -2,7 +2,7 @@
 ghost use Rattle.std.specs.{Prelude.{◌≡◌, ◌+◌, ◌*◌, ◌≤◌, [], ◌∷◌, ◌++◌, OnOk, length, map}, Fmt.{decimal}, List.{join_with_byte}};
 ghost use Rattle.arrayvec.specs.ArrayString.{array_string_len};
 ghost use Rattle.zr_io.specs.Moved.{AddsPiece, HasCause};
-ghost use Rattle.run_records.specs.RunText.{area_text, last_line, line_of, run_line, spaced, text_of, text_of_lines};
+ghost use Rattle.run_records.specs.RunText.{area_text, last_line, line_of, run_line, spaced, run_text_of, text_of_lines};
 ghost use Rattle.run_report.specs.Gathered.{Gathers};
 
 use arrayvec::ArrayString;
@@ -174,7 +174,8 @@ pub fn write_record<O: Sink>(
 ) -> Result<(), Failed>
     requires { length areas.now ≤ 4 }
     ensures bytes { AddsPiece (O.sent out.old) (O.sent out.new) result
-        (text_of (record { areas = areas.now; apps = apps }) log.now.events.items log.now.whole) }
+        (run_text_of (record { areas = areas.now; apps = apps }) log.now.events.items
+        log.now.whole) }
     ensures cause { HasCause (O.faults out.old) (O.faults out.new) result }
 {
     let mut block = Block::new();

@@ -1,7 +1,8 @@
 -- How the values of a part of a frame enter a queue, gap after gap.
 use Rattle.std.proofs.Common.{◌≡◌, ℕ, ◌+◌, ◌-◌, ◌%◌, ◌^◌, ◌<◌, ◌≤◌, List, length, take, drop, nat_le, not, true, false, ◌&&◌, refl, sym, ap, subst, ◌∙◌}
 use Rattle.std.proofs.{Common.{⊎_elim, inl, inr, length-take-le, add-zero, arith}, lemmas.{Bool.{cases_lt, le-leb, not-false}, List.{length-drop}}}
-use Rattle.zr_kinds.{specs.CopyingReceiver.{Placed, next_missing, lead, accepts, first_of, filled, received, received_part}, proofs.InOrder.{first_of-nothing}}
+use Rattle.zr_kinds.specs.CopyingReceiver.{Placed, next_missing, lead, accepts, first_of, filled_by_values, received, received_part}
+use Rattle.zr_kinds.proofs.InOrder.{first_of-nothing}
 use Rattle.tcp_reorder.specs.{declared.places.Gap.{Gap}, Queue.{Kept, Queue, has, next_of, with_kept, IsSound}, Gaps.{origin, wants, IsFirstGap, AreUnwanted}}
 use Rattle.tcp_reorder.specs.{Values.{Holds}, Entering.{HasEntered, HoldsWhatCame}}
 use Rattle.tcp_reorder.proofs.Holding.{brought-before, brought-past, Holds-nothing, Holds-same, Holds-with_kept, Holds-popped, is_some-held, next_missing-held}
@@ -20,12 +21,12 @@ module _ {A H : Type 0} (values : H → List A) where
   module _ (queue : Queue H) (placed : Placed A) (seq total at : ℕ) (part : List A) (holds : Holds values queue placed) where
     -- it is received where the queue accepts it
     pub received-accepted : accepts queue.base (next_of queue) seq total ≡ true
-        → received_part queue.base placed seq total at part ≡ filled placed (origin queue seq + at) part
+        → received_part queue.base placed seq total at part ≡ filled_by_values placed (origin queue seq + at) part
     unfolding received_part
     received-accepted agreed =
         let next : next_missing placed ≡ next_of queue = next_missing-held values queue placed holds in
         let test : accepts queue.base (next_missing placed) seq total ≡ true = ap (λ n. accepts queue.base n seq total) next ∙ agreed in
-        rw test (ap (λ n. filled placed (n + lead queue.base n seq + at) part) next)
+        rw test (ap (λ n. filled_by_values placed (n + lead queue.base n seq + at) part) next)
 
     pub received-refused : accepts queue.base (next_of queue) seq total ≡ false → received_part queue.base placed seq total at part ≡ placed
     unfolding received_part
@@ -50,9 +51,9 @@ module _ {A H : Type 0} (values : H → List A) where
   -- ---- nothing of the part is there yet
 
   pub holds-none : (queue : Queue H) (placed : Placed A) (part : List A) (from : ℕ) → Holds values queue placed
-      → Holds values queue (filled placed from (take 0 part))
+      → Holds values queue (filled_by_values placed from (take 0 part))
   holds-none queue placed part from holds =
-      Holds-same values queue placed (filled placed from (take 0 part)) holds
+      Holds-same values queue placed (filled_by_values placed from (take 0 part)) holds
       (λ p. ap (first_of (placed.at p))
       (⊎_elim (brought-before (take 0 part) from p) (λ (above : from ≤ p + 2 ^ 31). brought-past (take 0 part) from p (omega arith))
       (cases_lt (p + 2 ^ 31) from))
@@ -96,24 +97,25 @@ module _ {A H : Type 0} (values : H → List A) where
         }
 
     -- the receiver has so much of it
-    before-rest : (placed : Placed A) → Holds values was placed → Holds values now (filled placed (origin was seq + at) (take done part))
+    before-rest : (placed : Placed A) → Holds values was placed → Holds values now (filled_by_values placed (origin was seq + at) (take done part))
     before-rest placed holds =
         subst (Holds values now) (received-accepted was placed seq total at (take done part) holds entered.accepted) (entered.holds placed holds)
 
     -- what of the rest isn't wanted is past
     past-rest : (placed : Placed A) → Holds values was placed → (k : ℕ) → done ≤ k → wants now from (k - done) ≡ false
-        → IsPast (filled placed (origin was seq + at) (take done part)) (origin was seq + at + k)
+        → IsPast (filled_by_values placed (origin was seq + at) (take done part)) (origin was seq + at + k)
     past-rest placed holds k above unwanted =
         let place : origin now from + (k - done) ≡ origin was seq + at + k = (let is = is-rest.origin_is in omega (arith, is)) in
-        subst (IsPast (filled placed (origin was seq + at) (take done part))) place
-        (past-unwanted now (filled placed (origin was seq + at) (take done part)) from (k - done) (before-rest placed holds) unwanted)
+        subst (IsPast (filled_by_values placed (origin was seq + at) (take done part))) place
+        (past-unwanted now (filled_by_values placed (origin was seq + at) (take done part)) from (k - done) (before-rest placed holds) unwanted)
 
     entered-all : AreUnwanted now from (length part - done) → (placed : Placed A) → Holds values was placed
         → Holds values now (received_part was.base placed seq total at part)
     entered-all unwanted placed holds =
         let some : done ≤ length part = entered.some in
         subst (Holds values now) (sym (received-accepted was placed seq total at part holds entered.accepted))
-        (Holds-same values now (filled placed (origin was seq + at) (take done part)) (filled placed (origin was seq + at) part) (before-rest placed holds)
+        (Holds-same values now (filled_by_values placed (origin was seq + at) (take done part)) (filled_by_values placed (origin was seq + at) part)
+        (before-rest placed holds)
         (all-filled placed part (origin was seq + at) done some (λ k above until. past-rest placed holds k above (unwanted (k - done) (omega arith))))
         (filled-past placed (origin was seq + at) part holds.past))
 
@@ -146,10 +148,10 @@ module _ {A H : Type 0} (values : H → List A) where
           }
 
       holds-later : (placed : Placed A) → Holds values was placed
-          → Holds values later (filled placed (origin was seq + at) (take (done + gap.skip + gap.len) part))
+          → Holds values later (filled_by_values placed (origin was seq + at) (take (done + gap.skip + gap.len) part))
       holds-later placed holds =
           let F : ℕ = origin was seq + at in
-          let so_far : Placed A = filled placed F (take done part) in
+          let so_far : Placed A = filled_by_values placed F (take done part) in
           let b : ℕ = done + gap.skip + gap.len in
           let v : List A = take (b - (done + gap.skip)) (drop (done + gap.skip) part) in
           let within : gap.skip + gap.len ≤ length part - done = first.within in
@@ -157,14 +159,14 @@ module _ {A H : Type 0} (values : H → List A) where
           let long : gap.len ≤ length (drop (done + gap.skip) part) =
           (let left : length (drop (done + gap.skip) part) ≡ length part - (done + gap.skip) = length-drop (done + gap.skip) part in omega arith) in
           let size : length (values piece) ≡ gap.len = ap length values_are ∙ length-take-le gap.len (drop (done + gap.skip) part) long in
-          let taken : Holds values later (filled so_far (of_gap.position + 2 ^ 31) (values piece)) =
+          let taken : Holds values later (filled_by_values so_far (of_gap.position + 2 ^ 31) (values piece)) =
           Holds-with_kept values now so_far of_gap (before-rest placed holds) is-gap.may.free size is-gap.may.from in
           let len_is : gap.len ≡ b - (done + gap.skip) = omega arith in
-          let there : Holds values later (filled so_far (F + (done + gap.skip)) v) =
-          subst (λ n. Holds values later (filled so_far n v)) is-gap.place
-          (subst (λ vs. Holds values later (filled so_far (of_gap.position + 2 ^ 31) vs))
+          let there : Holds values later (filled_by_values so_far (F + (done + gap.skip)) v) =
+          subst (λ n. Holds values later (filled_by_values so_far n v)) is-gap.place
+          (subst (λ vs. Holds values later (filled_by_values so_far (of_gap.position + 2 ^ 31) vs))
           (values_are ∙ ap (λ n. take n (drop (done + gap.skip) part)) len_is) taken) in
-          Holds-same values later (filled so_far (F + (done + gap.skip)) v) (filled placed F (take b part)) there
+          Holds-same values later (filled_by_values so_far (F + (done + gap.skip)) v) (filled_by_values placed F (take b part)) there
           (gap-filled placed part F done (done + gap.skip) b (omega arith) (omega arith) (omega arith)
           (λ k above until. past-rest placed holds k above (first.before (k - done) (omega arith))))
           (filled-past placed F (take b part) holds.past)

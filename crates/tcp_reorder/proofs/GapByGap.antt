@@ -1,7 +1,7 @@
 -- What the copying receiver has once the first values of a list were received, and then those of a gap behind them.
 use Rattle.std.proofs.Common.{◌≡◌, ℕ, zero, suc, ◌+◌, ◌-◌, ◌^◌, ◌<◌, ◌≤◌, List, [], ◌∷◌, length, take, drop, None, IsSome, refl, sym, ap, subst, ◌∙◌}
 use Rattle.std.proofs.{Common.{◌⊎◌, ⊎_elim, length-take-le, arith}, lemmas.{Bool.{cases_lt}, List.{length-drop}}}
-use Rattle.zr_kinds.{specs.CopyingReceiver.{Placed, value_at, brought, first_of, filled}, proofs.{InOrder.{first_of-nothing}, ValuesFrom.{first_of-some}}}
+use Rattle.zr_kinds.{specs.CopyingReceiver.{Placed, value_at, brought, first_of, filled_by_values}, proofs.{InOrder.{first_of-nothing}, ValuesFrom.{first_of-some}}}
 use Rattle.tcp_reorder.proofs.Holding.{brought-at, brought-before, brought-past}
 
 module _ {A : Type 0} where
@@ -18,7 +18,7 @@ module _ {A : Type 0} where
 
   -- from its top on nothing is filled in
   pub filled-past : (placed : Placed A) (from : ℕ) (values : List A) → ((p : ℕ) → placed.top ≤ p → placed.at p ≡ None)
-      → (p : ℕ) → (filled placed from values).top ≤ p → (filled placed from values).at p ≡ None
+      → (p : ℕ) → (filled_by_values placed from values).top ≤ p → (filled_by_values placed from values).at p ≡ None
   filled-past placed from values past p behind =
       ap (λ value. first_of value (brought values from p)) (past p (omega arith)) ∙ brought-past values from p (omega arith)
 
@@ -44,7 +44,7 @@ module _ {A : Type 0} (part : List A) (from p : ℕ) where
 -- the first `done` values of a part were received, the first of them at the position `from` less 2^31
 module _ {A : Type 0} (placed : Placed A) (part : List A) (from done : ℕ) where
   abbrev pub so_far : Placed A
-  so_far = filled placed from (take done part)
+  so_far = filled_by_values placed from (take done part)
 
   -- behind them all is as before
   as-before : (p : ℕ) → done ≤ length part → from + done ≤ p + 2 ^ 31 → so_far.at p ≡ placed.at p
@@ -64,17 +64,17 @@ module _ {A : Type 0} (placed : Placed A) (part : List A) (from done : ℕ) wher
     of_gap = take (b - a) (drop a part)
 
     abbrev later : Placed A
-    later = filled so_far (from + a) of_gap
+    later = filled_by_values so_far (from + a) of_gap
 
     -- where the gap brings nothing
     no-gap : (p : ℕ) → brought of_gap (from + a) p ≡ None → later.at p ≡ so_far.at p
     no-gap p nothing = ap (first_of (so_far.at p)) nothing ∙ first_of-nothing (so_far.at p)
 
-    in-front : (p : ℕ) → p + 2 ^ 31 < from + done → (filled placed from (take b part)).at p ≡ later.at p
+    in-front : (p : ℕ) → p + 2 ^ 31 < from + done → (filled_by_values placed from (take b part)).at p ≡ later.at p
     in-front p before =
         ap (first_of (placed.at p)) (same-before part from p done b (omega arith) before) ∙ sym (no-gap p (brought-before of_gap (from + a) p (omega arith)))
 
-    between : (p : ℕ) → from + done ≤ p + 2 ^ 31 → p + 2 ^ 31 < from + a → (filled placed from (take b part)).at p ≡ later.at p
+    between : (p : ℕ) → from + done ≤ p + 2 ^ 31 → p + 2 ^ 31 < from + a → (filled_by_values placed from (take b part)).at p ≡ later.at p
     between p behind before =
         let place : from + (p + 2 ^ 31 - from) ≡ p + 2 ^ 31 = omega arith in
         let there : IsSome (placed.at p) =
@@ -84,7 +84,7 @@ module _ {A : Type 0} (placed : Placed A) (part : List A) (from done : ℕ) wher
 
     -- where both bring the same behind the first values
     alike : (p : ℕ) → from + done ≤ p + 2 ^ 31 → brought (take b part) from p ≡ brought of_gap (from + a) p
-        → (filled placed from (take b part)).at p ≡ later.at p
+        → (filled_by_values placed from (take b part)).at p ≡ later.at p
     alike p behind same =
         ap (first_of (placed.at p)) same ∙ ap (λ value. first_of value (brought of_gap (from + a) p)) (sym (as-before p (omega arith) behind))
 
@@ -98,7 +98,7 @@ module _ {A : Type 0} (placed : Placed A) (part : List A) (from done : ℕ) wher
         let long : b - a ≤ length (drop a part) = (let size : length (drop a part) ≡ length part - a = length-drop a part in omega arith) in
         brought-behind part from p b within behind ∙ sym (brought-behind (drop a part) (from + a) p (b - a) long (omega arith))
 
-    pub gap-filled : (p : ℕ) → (filled placed from (take b part)).at p ≡ later.at p
+    pub gap-filled : (p : ℕ) → (filled_by_values placed from (take b part)).at p ≡ later.at p
     gap-filled p = ⊎_elim
         (λ (before : p + 2 ^ 31 < from + done). in-front p before)
         (λ (behind : from + done ≤ p + 2 ^ 31). ⊎_elim
@@ -109,7 +109,7 @@ module _ {A : Type 0} (placed : Placed A) (part : List A) (from done : ℕ) wher
 
   -- nothing behind them is wanted
   pub all-filled : done ≤ length part → ((k : ℕ) → done ≤ k → k < length part → IsPast so_far (from + k)) → (p : ℕ)
-      → (filled placed from part).at p ≡ so_far.at p
+      → (filled_by_values placed from part).at p ≡ so_far.at p
   all-filled within past p = ⊎_elim
       (λ (before : p + 2 ^ 31 < from + done). ap (first_of (placed.at p)) (⊎_elim
       (λ (under : p + 2 ^ 31 < from). brought-before part from p under ∙ sym (brought-before (take done part) from p under))

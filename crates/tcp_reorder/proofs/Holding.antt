@@ -2,7 +2,7 @@
 use Rattle.std.proofs.Common.{◌≡◌, ℕ, zero, suc, ◌+◌, ◌-◌, ◌^◌, ◌<◌, ◌≤◌, List, [], ◌∷◌, length, nat_lt, true, false}
 use Rattle.std.proofs.Common.{◌||◌, if◌then◌else◌, Option, None, Some, IsSome, is_some, refl, sym, ap, ◌∙◌, subst, ⊎_elim, arith, add-zero}
 use Rattle.std.proofs.lemmas.Bool.{or_left, or_parts, lt-ltb, le-ltb, cases_lt, cases_Bool, cond_both, both_ways}
-use Rattle.zr_kinds.specs.CopyingReceiver.{Placed, nothing_placed, next_missing, value_at, brought, first_of, filled, values_from}
+use Rattle.zr_kinds.specs.CopyingReceiver.{Placed, nothing_placed, next_missing, value_at, brought, first_of, filled_by_values, values_from}
 use Rattle.zr_kinds.proofs.{LeastMissing.{value_at-past, next_missing-least, same_least}, InOrder.{first_of-nothing}}
 use Rattle.tcp_reorder.specs.{declared.places.Span.{Span}, Queue.{Kept, Queue, end_of, covers, is_kept, has, positions_of, next_of, with_kept}}
 use Rattle.tcp_reorder.specs.{Gaps.{kept_at, LosesFirst}, Values.{kept_value, AreSized, Holds}}
@@ -123,7 +123,7 @@ module _ {A H : Type 0} (values : H → List A) where
   -- one piece more, at free positions: its values are put there
   pub Holds-with_kept : (queue : Queue H) (placed : Placed A) (one : Kept H) → Holds values queue placed → IsFree queue.kept one
       → length (values one.piece) ≡ one.len → queue.popped ≤ one.position
-      → Holds values (record queue { kept = with_kept queue.kept one }) (filled placed (one.position + 2 ^ 31) (values one.piece))
+      → Holds values (record queue { kept = with_kept queue.kept one }) (filled_by_values placed (one.position + 2 ^ 31) (values one.piece))
   Holds-with_kept queue placed one holds free size from = record {
     popped = λ p below. first_of-there (placed.at p) (brought (values one.piece) (one.position + 2 ^ 31) p) (holds.popped p below);
     kept = λ p above. ⊎_elim

@@ -1,8 +1,8 @@
 -- A frame that is received part after part, each judged anew, is received as a whole.
 use Rattle.std.proofs.Common.{◌≡◌, ℕ, zero, suc, ◌+◌, ◌-◌, ◌^◌, ◌<◌, ◌≤◌, List, [], ◌∷◌, ◌++◌, length, length-append, Bool, true, false, if◌then◌else◌}
 use Rattle.std.proofs.{Common.{Option, Some, None, IsSome, is_some, refl, sym, ap, subst, ◌∙◌, ⊎_elim, arith}, lemmas.Bool.{cases_Bool, cases_lt, both_ways}}
-use Rattle.zr_kinds.{specs.CopyingReceiver.{Placed, next_missing, lead, accepts, value_at, brought, first_of, filled, received_part}, proofs.InOrder.{first_of-nothing}}
-use Rattle.zr_kinds.proofs.{LeastMissing.{value_at-past, next_missing-least, same_least}, ValuesFrom.{first_of-some}}
+use Rattle.zr_kinds.specs.CopyingReceiver.{Placed, next_missing, lead, accepts, value_at, brought, first_of, filled_by_values, received_part}
+use Rattle.zr_kinds.proofs.{InOrder.{first_of-nothing}, LeastMissing.{value_at-past, next_missing-least, same_least}, ValuesFrom.{first_of-some}}
 use Rattle.tcp_reorder.{specs.Parts.{IsReceived, AreSame, PartsMakeTheFrame}, proofs.Holding.{brought-at, brought-before, brought-past, first_of-there}}
 use Rattle.tcp_reorder.proofs.{GapByGap.{filled-past}, Judging.{judged_alike, accepted}}
 
@@ -42,7 +42,7 @@ module _ {A : Type 0} where
   first_of-three (Some a) b c = refl
 
   filled-append : (placed : Placed A) (from : ℕ) (xs ys : List A)
-      → AreSame (filled placed from (xs ++ ys)) (filled (filled placed from xs) (from + length xs) ys)
+      → AreSame (filled_by_values placed from (xs ++ ys)) (filled_by_values (filled_by_values placed from xs) (from + length xs) ys)
   filled-append placed from xs ys p =
       ap (first_of (placed.at p)) (brought-append xs ys from p) ∙ first_of-three (placed.at p) (brought xs from p) (brought ys (from + length xs) p)
 
@@ -58,9 +58,9 @@ module _ {A : Type 0} where
       (λ p. ap is_some (same p))
 
   -- it doesn't fall
-  filled-rises : (placed : Placed A) (from : ℕ) (values : List A) → IsReceived placed → next_missing placed ≤ next_missing (filled placed from values)
+  filled-rises : (placed : Placed A) (from : ℕ) (values : List A) → IsReceived placed → next_missing placed ≤ next_missing (filled_by_values placed from values)
   filled-rises placed from values is =
-      let later : Placed A = filled placed from values in
+      let later : Placed A = filled_by_values placed from values in
       let n_later : ℕ = next_missing later in
       let least = next_missing-least placed (record { past = is.past }) in
       let least_later = next_missing-least later (record { past = filled-past placed from values is.past }) in
@@ -73,7 +73,7 @@ module _ {A : Type 0} where
   module _ (placed : Placed A) (from : ℕ) (values : List A) (is : IsReceived placed)
       (within : from + length values ≤ next_missing placed + 2 ^ 30 + 2 ^ 31) where
     -- what is filled in within the window is received so again
-    filled-received : IsReceived (filled placed from values)
+    filled-received : IsReceived (filled_by_values placed from values)
     filled-received = record {
       past = filled-past placed from values is.past;
       window = λ p ahead.
@@ -83,9 +83,9 @@ module _ {A : Type 0} where
     }
 
     -- and it grows by 2^30 at most
-    filled-grows : next_missing (filled placed from values) ≤ next_missing placed + 2 ^ 30
+    filled-grows : next_missing (filled_by_values placed from values) ≤ next_missing placed + 2 ^ 30
     filled-grows =
-        let later : Placed A = filled placed from values in
+        let later : Placed A = filled_by_values placed from values in
         let far : ℕ = next_missing placed + 2 ^ 30 in
         let least_later = next_missing-least later (record { past = filled-past placed from values is.past }) in
         ⊎_elim
@@ -98,7 +98,7 @@ module _ {A : Type 0} where
 
   -- nothing enters where all lies before it
   behind : (placed : Placed A) (from : ℕ) (values : List A) → IsReceived placed → from + length values ≤ next_missing placed + 2 ^ 31
-      → AreSame (filled placed from values) placed
+      → AreSame (filled_by_values placed from values) placed
   behind placed from values is before p = ⊎_elim
       (λ (there : p < next_missing placed). first_of-some (placed.at p) (brought values from p)
       ((next_missing-least placed (record { past = is.past })).before p there))
@@ -110,14 +110,14 @@ module _ {A : Type 0} where
 
   part_if : (base : ℕ) (placed : Placed A) (seq total at : ℕ) (part : List A) (b : Bool) → accepts base (next_missing placed) seq total ≡ b
       → received_part base placed seq total at
-      part ≡ (if b then filled placed (next_missing placed + lead base (next_missing placed) seq + at) part else placed)
+      part ≡ (if b then filled_by_values placed (next_missing placed + lead base (next_missing placed) seq + at) part else placed)
   unfolding received_part
   part_if base placed seq total at part b is = rw is refl
 
   -- at each position
   part_at : (base : ℕ) (placed : Placed A) (seq total at : ℕ) (part : List A) (b : Bool) → accepts base (next_missing placed) seq total ≡ b
       → AreSame (received_part base placed seq total at part)
-      (if b then filled placed (next_missing placed + lead base (next_missing placed) seq + at) part else placed)
+      (if b then filled_by_values placed (next_missing placed + lead base (next_missing placed) seq + at) part else placed)
   part_at base placed seq total at part b is p = ap (λ (r : Placed A). r.at p) (part_if base placed seq total at part b is)
 
   received-again : (base : ℕ) (placed : Placed A) (seq total at : ℕ) (part : List A) → IsReceived placed → at + length part ≤ total
@@ -163,7 +163,7 @@ module _ {A : Type 0} where
       from = next_missing placed + lead base (next_missing placed) seq + at
 
       abbrev later : Placed A
-      later = filled placed from first
+      later = filled_by_values placed from first
 
       near : lead base (next_missing placed) seq + total ≤ 2 ^ 30 + 2 ^ 31
       near = (accepted base (next_missing placed) seq total agreed).0
@@ -183,7 +183,7 @@ module _ {A : Type 0} where
           let grows : next ≤ next_missing placed + 2 ^ 30 = filled-grows placed from first is (omega (arith, near, within)) in
           let alike = judged_alike base (next_missing placed) next seq total small agreed ahead (filled-rises placed from first is) grows in
           let begins : next + lead base next seq + (at + length first) ≡ from + length first = omega (arith, alike.1) in
-          second-of-later p ∙ part_at base later seq total (at + length first) second true alike.0 p ∙ ap (λ k. (filled later k second).at p) begins
+          second-of-later p ∙ part_at base later seq total (at + length first) second true alike.0 p ∙ ap (λ k. (filled_by_values later k second).at p) begins
           ∙ sym (filled-append placed from first second p) ∙ sym (part_at base placed seq total at (first ++ second) true agreed p)
 
       -- none is

@@ -1,7 +1,7 @@
 -- What the map keeps behind the first piece.
 use Rattle.std.proofs.{Common.{◌≡◌, ℕ, ◌+◌, ◌≤◌, List, ◌∷◌, Option, None, Some, refl, ap, arith}, lemmas.Bool.{le-ltb}}
 use Rattle.tcp_reorder.specs.{declared.piece.KeptPiece.{KeptPiece}, Queue.{Kept, is_kept, next_of, with_kept, AreApart, EndWithin, IsSound}}
-use Rattle.tcp_reorder.{specs.Pieces.{kept_of, all_kept, with_first, queue_of}, proofs.{Positions.{covers-behind, AreApart-lower}, Least.{next_of-popped}}}
+use Rattle.tcp_reorder.{specs.Pieces.{kept_piece_of, all_kept, with_first, queue_of}, proofs.{Positions.{covers-behind, AreApart-lower}, Least.{next_of-popped}}}
 use Rattle.tcp_reorder.proofs.Sound.{first_ends}
 
 module _ {H : Type 0} where
@@ -14,13 +14,13 @@ module _ {H : Type 0} where
       → first_end popped first ≤ next_of (queue_of base popped first entries)
   first_end-low base popped None entries sound = next_of-popped (queue_of base popped None entries)
   first_end-low base popped (Some piece) entries sound =
-      first_ends (queue_of base popped (Some piece) entries) (kept_of (popped, piece)) (all_kept entries) sound refl refl
+      first_ends (queue_of base popped (Some piece) entries) (kept_piece_of (popped, piece)) (all_kept entries) sound refl refl
 
   -- behind the first piece the others keep what all keep
   pub rest_kept : (popped : ℕ) (first : Option (KeptPiece H)) (entries : List (ℕ × KeptPiece H)) (p : ℕ) → first_end popped first ≤ p
       → is_kept (all_kept (with_first popped first entries)) p ≡ is_kept (all_kept entries) p
   rest_kept popped None entries p behind = refl
-  rest_kept popped (Some piece) entries p behind = rw (covers-behind (kept_of (popped, piece)) p behind) refl
+  rest_kept popped (Some piece) entries p behind = rw (covers-behind (kept_piece_of (popped, piece)) p behind) refl
 
   pub rest_apart : (from popped : ℕ) (first : Option (KeptPiece H)) (entries : List (ℕ × KeptPiece H))
       → AreApart from (all_kept (with_first popped first entries)) → AreApart 0 (all_kept entries)
@@ -38,4 +38,4 @@ module _ {H : Type 0} where
       → all_kept (with_first popped first new) ≡ with_kept (all_kept (with_first popped first entries)) one
   rest_with_kept popped None entries new one behind is = is
   rest_with_kept popped (Some piece) entries new one behind is =
-      rw (le-ltb one.position popped behind) (ap (λ rest. kept_of (popped, piece) ∷ rest) is)
+      rw (le-ltb one.position popped behind) (ap (λ rest. kept_piece_of (popped, piece) ∷ rest) is)

@@ -4,7 +4,8 @@ use Rattle.std.{proofs.Common.{None, Some, slice_get, refl, sym, ap, ◌∙◌, 
 use Rattle.std.specs.BTreeMap.{insert_entry, is_at}
 use Rattle.std.proofs.lemmas.Bool.{cases_eq, or_from, or_left, or_right, or_parts, or_cases, lt-ltb, le-ltb, cases_lt, both_ways, eq-eqb, ne_eqb, Decides.{nat_tests}}
 use Rattle.tcp_reorder.specs.declared.piece.KeptPiece.{KeptPiece}
-use Rattle.tcp_reorder.specs.{Queue.{Kept, Queue, end_of, covers, is_kept, has, next_of, with_kept, AreApart, EndWithin, IsSound, front_of}, Pieces.{kept_of, all_kept}}
+use Rattle.tcp_reorder.specs.{Queue.{Kept, Queue, end_of, covers, is_kept, has, next_of, with_kept, AreApart, EndWithin, IsSound, front_of}, Pieces.{kept_piece_of}}
+use Rattle.tcp_reorder.specs.Pieces.{all_kept}
 use Rattle.tcp_reorder.proofs.Positions.{covers-within, covers-before, covers-behind, AreApart-lower, is_kept-below, is_kept-with_kept, EndWithin-more}
 use Rattle.tcp_reorder.proofs.{Positions.{EndWithin-with_kept, IsFree, AreApart-with_kept}, Least.{has-next, has-before, next_of-is, next_of-popped, next_of-within}}
 
@@ -202,21 +203,21 @@ module _ {H : Type 0} where
       → lookup (is_at (nat_cmp k)) es ≡ None
   lookup_free from k [] apart free = refl
   lookup_free from k (e ∷ es) apart free =
-      let parts = or_parts (covers (kept_of e) k) (is_kept (all_kept es) k) free in
-      let other : k ≢ e.0 = λ same. both_ways _ parts.0 (covers-within (kept_of e) k (omega arith) (omega arith)) in
+      let parts = or_parts (covers (kept_piece_of e) k) (is_kept (all_kept es) k) free in
+      let other : k ≢ e.0 = λ same. both_ways _ parts.0 (covers-within (kept_piece_of e) k (omega arith) (omega arith)) in
       let test : is_at (nat_cmp k) e.0 ≡ false = grind (arith, nat_tests) in
-      rw test (lookup_free (end_of (kept_of e)) k es apart.3 parts.1)
+      rw test (lookup_free (end_of (kept_piece_of e)) k es apart.3 parts.1)
 
   pub all_kept-insert_entry : (from k : ℕ) (es : List (ℕ × KeptPiece H)) (piece : KeptPiece H) → AreApart from (all_kept es)
-      → is_kept (all_kept es) k ≡ false → all_kept (insert_entry nat_cmp es k piece) ≡ with_kept (all_kept es) (kept_of (k, piece))
+      → is_kept (all_kept es) k ≡ false → all_kept (insert_entry nat_cmp es k piece) ≡ with_kept (all_kept es) (kept_piece_of (k, piece))
   all_kept-insert_entry from k [] piece apart free = refl
   all_kept-insert_entry from k (e ∷ es) piece apart free =
-      let parts = or_parts (covers (kept_of e) k) (is_kept (all_kept es) k) free in
+      let parts = or_parts (covers (kept_piece_of e) k) (is_kept (all_kept es) k) free in
       ⊎_elim
       (λ (lower : k < e.0). rw (lt-ltb k e.0 lower) refl)
       (λ (upper : e.0 ≤ k).
       let above : e.0 < k =
-      ⊎_elim (λ h. h) (λ (h : k ≤ e.0). absurd (both_ways _ parts.0 (covers-within (kept_of e) k upper (omega arith)))) (cases_lt e.0 k) in
+      ⊎_elim (λ h. h) (λ (h : k ≤ e.0). absurd (both_ways _ parts.0 (covers-within (kept_piece_of e) k upper (omega arith)))) (cases_lt e.0 k) in
       rw (le-ltb k e.0 upper, ne_eqb k e.0 (λ same. omega arith))
-      (ap (λ rest. kept_of e ∷ rest) (all_kept-insert_entry (end_of (kept_of e)) k es piece apart.3 parts.1)))
+      (ap (λ rest. kept_piece_of e ∷ rest) (all_kept-insert_entry (end_of (kept_piece_of e)) k es piece apart.3 parts.1)))
       (cases_lt k e.0)

@@ -3,7 +3,7 @@ use Rattle.std.proofs.Common.{◌≡◌, ℕ, ◌+◌, ◌-◌, ◌^◌, ◌<◌
 use Rattle.std.{specs.{Ordering.{nat_cmp}, Map.{lookup}, BTreeMap.{insert_entry, is_at}}, proofs.lemmas.Bool.{or_from, or_left}}
 use Rattle.zr_kinds.specs.CopyingReceiver.{lead, accepts}
 use Rattle.tcp_reorder.specs.{declared.piece.KeptPiece.{KeptPiece}, Queue.{Kept, Queue, covers, is_kept, next_of, with_kept, IsSound}}
-use Rattle.tcp_reorder.{specs.{Gaps.{origin, wants, AreWanted, with_taken}, Pieces.{kept_of, all_kept, with_first, queue_of}}, proofs.Judging.{accepted}}
+use Rattle.tcp_reorder.{specs.{Gaps.{origin, wants, AreWanted, with_taken}, Pieces.{kept_piece_of, all_kept, with_first, queue_of}}, proofs.Judging.{accepted}}
 use Rattle.tcp_reorder.proofs.Positions.{covers-within, covers-behind}
 use Rattle.tcp_reorder.proofs.Sound.{IsAt, MayBeKept, behind-next, no_first, taken_is_at, lookup_free, all_kept-insert_entry}
 use Rattle.tcp_reorder.proofs.{Rest.{first_end, first_end-low, rest_kept, rest_apart, rest_with_kept}, Gapping.{origin-is, wanted_free, wanted_behind}}
@@ -35,13 +35,13 @@ module _ {H : Type 0} where
 
   -- where nothing is kept a piece at the first position that wasn't popped is the only one
   only_piece : (base popped : ℕ) (position : ℕ) (piece : KeptPiece H) → position ≡ popped → IsSound (queue_of {H = H} base popped None [])
-      → MayBeKept (queue_of base popped None []) (kept_of (position, piece))
+      → MayBeKept (queue_of base popped None []) (kept_piece_of (position, piece))
       → IsAt (queue_of base popped (Some piece) []) (position + piece.len)
   only_piece base popped position piece first sound may =
       let empty : Queue H = queue_of base popped None [] in
-      let one : Kept H = kept_of (position, piece) in
+      let one : Kept H = kept_piece_of (position, piece) in
       let next : popped ≡ next_of empty = no_first empty refl in
-      subst (λ at. IsAt (record { base = base; popped = popped; kept = kept_of (at, piece) ∷ [] }) (position + piece.len)) first
+      subst (λ at. IsAt (record { base = base; popped = popped; kept = kept_piece_of (at, piece) ∷ [] }) (position + piece.len)) first
       (taken_is_at empty one (position + piece.len) sound may (omega arith)
       (λ p from until. or_left (covers one p) false (covers-within one p (omega arith) until))
       (or_from (covers one (position + piece.len)) false (covers-behind one (position + piece.len) (omega arith)) refl))
@@ -64,7 +64,7 @@ module _ {H : Type 0} where
     queue = queue_of base popped first entries
 
     abbrev pub one : Kept H
-    one = kept_of (next + ahead - 2 ^ 31, record { len = len; held = piece })
+    one = kept_piece_of (next + ahead - 2 ^ 31, record { len = len; held = piece })
 
     pub place_is : next + ahead ≡ origin queue seq
     place_is = origin-is queue seq next ahead call.next_is call.ahead_is

@@ -13,16 +13,17 @@ use Rattle.board_face.{specs.{Laws.{AllSides, pool_of}, Blank.{blank_app}, Sides
 use Rattle.board_face.specs.declared.views.{app.{AppSide.{AppSide}, LentPiece.{LentPiece}}, parts.Setting.{Setting as Shared}}
 use Rattle.flow_queues.specs.{Core.{total}, Totals.{lent_len}}
 use Rattle.flow_table.specs.Steered.{SteeredTcp}
-use Rattle.event_log.specs.{IsLogged.{IsLogged, run_of}, Logs.{Kept, log_of}, Settings.{areas_of, setting_of as run_setting}}
-use Rattle.event_log.specs.{Tallies.{IsTallied, bytes_in, copies_in, is_copy, is_loan, is_stray, len_of, loan_bytes, loans_in}, Plain.{weight}}
+use Rattle.event_log.specs.{IsLogged.{IsLogged, setting_of_sides}, Logs.{KeptEvents, log_of}, Settings.{areas_of, setting_of_layout as run_setting}}
+use Rattle.event_log.specs.{Tallies.{IsTallied, bytes_lent_in, copies_in, is_copy_event, is_loan, is_stray_event, len_of_loan, loan_bytes, loans_in}, Plain.{weight}}
 use Rattle.event_log.proofs.Runs.{ended-law, no-holders}
-use Rattle.plain_board.{specs.{Board.{Board, sides_of, stand_of}, Finish.{IsOver}, Recorded.{IsRecorded}, Sound.{IsPhased, IsSound}}, proofs.Ending.{boards-end_well}}
-use Rattle.replay_turns.specs.Events.{room_of}
+use Rattle.plain_board.specs.{Board.{Board, sides_of, stand_of}, Finish.{IsBoardOver}, Recorded.{IsRecorded}, Sound.{IsPhased, IsSound}}
+use Rattle.plain_board.proofs.Ending.{boards-end_well}
+use Rattle.replay_turns.specs.Events.{log_room_of}
 use Rattle.card_feed.specs.{Account.{AccountsFor, AppAccounts}, Counts.{capped}, Plan.{IsPlan}, declared.plan.Plan.{Plan}}
 use Rattle.run_account.{specs.{Ran.{Ran, Told}, Views.{Ends, Streams}}, proofs.Places.{get-within}}
 use Rattle.run_report.specs.{Report.{Reports}, declared.report.Unreported.{Unreported}}
 use Rattle.run_report.specs.declared.report.Unreported.TheVariants as unreported
-use Rattle.top_call.specs.{Records.{HasRecord, IsLineOf, IsReportOf, TellsRun, setting_of}, declared.card.Card.{Card}}
+use Rattle.top_call.specs.{Records.{HasRecord, IsLineOfEvents, IsReportOf, TellsRun, setting_of_plan}, declared.card.Card.{Card}}
 
 -- ---- the areas
 
@@ -81,27 +82,27 @@ few-bytes a (event.Spare app b p) small = omega arith
 few-bytes a (event.Shut b p) small = omega arith
 few-bytes a (event.Scrub app b p u) small = omega arith
 
-bytes-small : (a : ℕ) (events : List Event) → AllByRecursion HasSmallNumbers events → bytes_in a events ≤ 2 ^ 32 * length events
+bytes-small : (a : ℕ) (events : List Event) → AllByRecursion HasSmallNumbers events → bytes_lent_in a events ≤ 2 ^ 32 * length events
 bytes-small a [] small = omega arith
 bytes-small a (e ∷ events) small =
     omega (arith, sum_by-cons (loan_bytes a) e events, few-bytes a e small.0, bytes-small a events small.1)
 
 -- ---- the lines of the report
 
-total-sum : (loans : List LentPiece) → total lent_len loans ≡ sum_by len_of loans
+total-sum : (loans : List LentPiece) → total lent_len loans ≡ sum_by len_of_loan loans
 total-sum [] = refl
-total-sum (loan ∷ loans) = ap (λ n. lent_len loan + n) (total-sum loans) ∙ sym (sum_by-cons len_of loan loans)
+total-sum (loan ∷ loans) = ap (λ n. lent_len loan + n) (total-sum loans) ∙ sym (sum_by-cons len_of_loan loan loans)
 
 line-told : (how : Behaviour) (split : ℕ) (steered : List SteeredTcp) (left_out : List ℕ) (nic : NicSide) (a : ℕ) (app : AppSide) (line : AppLine)
     (events : List Event) → AppAccounts how split steered left_out nic a app line → app.view.loans ≡ [] → app.view.owns ≡ []
-    → IsTallied a app.view events → IsLineOf capped a line events
+    → IsTallied a app.view events → IsLineOfEvents capped a line events
 line-told how split steered left_out nic a app line events accounts no_loans no_spares tallied =
     let no_loan : length app.view.loans ≡ 0 = ap length no_loans in
     let no_spare : length app.view.owns ≡ 0 = ap length no_spares in
-    let no_byte : sum_by len_of app.view.loans ≡ 0 = ap (sum_by len_of) no_loans in
+    let no_byte : sum_by len_of_loan app.view.loans ≡ 0 = ap (sum_by len_of_loan) no_loans in
     let loans : loans_in a events ≡ length app.view.returned = omega (arith, tallied.loans, no_loan) in
     let copies : copies_in a events ≡ app.view.spares = omega (arith, tallied.copies, no_spare) in
-    let bytes : bytes_in a events ≡ total lent_len app.view.returned = omega (arith, tallied.bytes, no_byte, total-sum app.view.returned) in
+    let bytes : bytes_lent_in a events ≡ total lent_len app.view.returned = omega (arith, tallied.bytes, no_byte, total-sum app.view.returned) in
     record {
       loans = accounts.loans ∙ ap capped (sym loans);
       copied = accounts.copied ∙ ap capped (sym copies);
@@ -117,18 +118,18 @@ exactly outcome events small few told = record {
       let of_line = told.apps number line at in
       record {
         loans = of_line.loans ∙ capped-small _ (omega (arith, count_by-le-length (is_loan number) events));
-        copied = of_line.copied ∙ capped-small _ (omega (arith, count_by-le-length (is_copy number) events));
+        copied = of_line.copied ∙ capped-small _ (omega (arith, count_by-le-length (is_copy_event number) events));
         written = λ no. of_line.written no ∙ capped-small _ (omega (arith, bytes-small number events small));
         within = of_line.within;
       };
-  strays = told.strays ∙ capped-small _ (omega (arith, count_by-le-length is_stray events));
+  strays = told.strays ∙ capped-small _ (omega (arith, count_by-le-length is_stray_event events));
 }
 
 -- ---- the log of a board that is over
 
 -- whose sides these are
 module _ {T : Type 0} (kept : T → ℕ → Option (List ℕ)) (shelves shelves_now : List T) (plan : Plan) (outcome : Told) (before : List (List ℕ))
-    (s : AllSides) (log : Kept)
+    (s : AllSides) (log : KeptEvents)
     (layout : MakeLayout plan.areas.items (length plan.ports.items))
     (accounts : AccountsFor kept shelves shelves_now plan before outcome.refused s.nic s.apps outcome.apps outcome.pool.strays)
     (logged : IsLogged s log) (room : log.room ≡ most_events)
@@ -141,7 +142,7 @@ module _ {T : Type 0} (kept : T → ℕ → Option (List ℕ)) (shelves shelves_
   log-all : log ≡ log_of most_events logged.all
   log-all = subst (λ n. log ≡ log_of n logged.all) room logged.log_is
 
-  is-setting : run_of s ≡ setting_of plan
+  is-setting : setting_of_sides s ≡ setting_of_plan plan
   is-setting =
       ap (λ (set : Shared). run_setting set.layout) accounts.opened
       ∙ ap (λ areas. record { areas = areas; apps = length plan.ports.items })
@@ -163,8 +164,8 @@ module _ {T : Type 0} (kept : T → ℕ → Option (List ℕ)) (shelves shelves_
 
   whole-all : log.whole ≡ true → (length logged.all ≤ most_events) × (log.events ≡ logged.all)
   whole-all whole =
-      let few : length logged.all ≤ most_events = leb-true _ _ (sym (ap (λ (k : Kept). k.whole) log-all) ∙ whole) in
-      (few, ap (λ (k : Kept). k.events) log-all ∙ take_all most_events logged.all few)
+      let few : length logged.all ≤ most_events = leb-true _ _ (sym (ap (λ (k : KeptEvents). k.whole) log-all) ∙ whole) in
+      (few, ap (λ (k : KeptEvents). k.events) log-all ∙ take_all most_events logged.all few)
 
   pub tells-run : TellsRun plan outcome s log
   tells-run = record {
@@ -181,8 +182,9 @@ module _ {T : Type 0} (kept : T → ℕ → Option (List ℕ)) (shelves shelves_
         let are = whole-all whole in
         subst (IsReportOf (λ n. n) outcome) (sym are.1) (exactly outcome logged.all logged.small are.0 told-all);
     full = λ cut.
-        let many : nat_le (length logged.all) most_events ≡ false = sym (ap (λ (k : Kept). k.whole) log-all) ∙ cut in
-        ap (λ (k : Kept). length k.events) log-all ∙ length-take-le most_events logged.all (omega (arith, leb-false (length logged.all) most_events many));
+        let many : nat_le (length logged.all) most_events ≡ false = sym (ap (λ (k : KeptEvents). k.whole) log-all) ∙ cut in
+        ap (λ (k : KeptEvents). length k.events) log-all ∙ length-take-le most_events logged.all
+        (omega (arith, leb-false (length logged.all) most_events many));
   }
 
 -- ---- the text behind the report
@@ -223,11 +225,11 @@ of-app P apps a app at all = subst P at.is (all a app at.there)
 -- the record of a board that is over, where it is asked for
 pub board-records : {S T : Type 0} {m : Streams S T} (was now : Ends m) (plan : Plan) (outcome : Told) (board : Board)
     → IsPlan plan → Ran was now plan outcome board.nic board.apps
-    → IsSound (stand_of board) → IsRecorded (sides_of board) board.log → board.log.room ≡ room_of plan
+    → IsSound (stand_of board) → IsRecorded (sides_of board) board.log → board.log.room ≡ log_room_of plan
     → HasRecord plan outcome (Card.Plain board)
 board-records {m} was now plan outcome board is_plan ran sound recorded room asked =
     let roomy : board.log.room ≡ most_events = rw asked at room in
-    let over : IsOver (stand_of board) = record { card = ran.over.card; apps = ran.over.left } in
+    let over : IsBoardOver (stand_of board) = record { card = ran.over.card; apps = ran.over.left } in
     let none = (boards-end_well (stand_of board) sound over).counts in
     let layout : IsLayout board.nic.view.setting.layout = subst (λ (set : Shared). IsLayout set.layout) (sym sound.set.card) sound.sizes.layout in
     tells-run m.shelf.kept was.shelves now.shelves plan outcome ran.before (sides_of board) board.log is_plan.layout ran.accounts recorded.logged

@@ -12,7 +12,7 @@ use Rattle.card_feed.{specs.{Account.{kept_in}, declared.plan.Plan.{Plan}}, proo
 use Rattle.run_account.specs.{Ran.{HaveWholeStreams, IsLineOf, IsStreamed, Ran, There, Told}, Views.{Ends, Streams, counts_at, ends_at, kept_at, shelf_seen}}
 use Rattle.run_account.proofs.{AppLines.{found-there, is-there, one-value}, Places.{get-within}}
 use Rattle.top_call.specs.{Flushing.{Flushes, HasFlushed, stopped_or_lost}, declared.card.Card.{Card}}
-use Rattle.top_call.specs.Records.{HasRecord, IsReportOf, IsLineOf as IsRecordedLine}
+use Rattle.top_call.specs.Records.{HasRecord, IsReportOf, IsLineOfEvents as IsRecordedLine}
 
 -- ---- one line
 

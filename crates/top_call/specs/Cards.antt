@@ -2,15 +2,15 @@
 use Rattle.std.specs.Prelude.{◌≡◌, ℕ, ⊤, List, All, Option, None}
 use Rattle.area_layout.specs.Layout.{pool_buffers}
 use Rattle.board_face.specs.{Ended.{IsEachOnce, IsServed}, declared.views.{nic.NicSide.{NicSide}, app.AppSide.{AppSide}}}
-use Rattle.plain_board.specs.{Finish.{IsOver, free_of, HasNoCounts}, Board.{sides_of, stand_of}, Recorded.{IsRecorded}, Sound.{IsSound}}
-use Rattle.word_board.specs.{Board.{card_of}, Desk.{AllAreBack, AreServed, CountsAreOver, HasNoHolders, StandInOrder}}
+use Rattle.plain_board.specs.{Finish.{IsBoardOver, free_buffers_of, HasNoCounts}, Board.{sides_of, stand_of}, Recorded.{IsRecorded}, Sound.{IsSound}}
+use Rattle.word_board.specs.{Board.{card_of_seat}, Desk.{AllAreBack, AreServed, CountsAreOver, HasNoHolders, StandInOrder}}
 use Rattle.top_call.specs.declared.card.Card.{Card}
 
 -- there is a board, and it is over
 abbrev pub HasOver : Card → Type 0
 HasOver Card.Blank = ⊥
 HasOver (Card.Found found) = ⊥
-HasOver (Card.Plain board) = IsOver (stand_of board)
+HasOver (Card.Plain board) = IsBoardOver (stand_of board)
 HasOver (Card.Words board desk) = (desk.board ≡ board) × AllAreBack board.setting desk.view
 
 -- there is none, or one that is over
@@ -32,9 +32,10 @@ abbrev pub HasFreed : Card → List ℕ → Type 0
 HasFreed Card.Blank free = ⊥
 HasFreed (Card.Found found) free = ⊥
 HasFreed (Card.Plain board) free =
-    (free ≡ free_of board.arrays) × IsEachOnce (pool_buffers board.arrays.layout) free × HasNoCounts (stand_of board) × All (IsServed board.nic) board.apps
+    (free ≡ free_buffers_of board.arrays) × IsEachOnce (pool_buffers board.arrays.layout) free × HasNoCounts (stand_of board)
+    × All (IsServed board.nic) board.apps
 HasFreed (Card.Words board desk) free =
-    StandInOrder (card_of desk.view).view.cache free × IsEachOnce (pool_buffers board.setting.layout) free × HasNoHolders desk.view
+    StandInOrder (card_of_seat desk.view).view.cache free × IsEachOnce (pool_buffers board.setting.layout) free × HasNoHolders desk.view
     × AreServed desk.view
 
 -- There is a board with the setting of its roles, and this is what they did.
@@ -42,7 +43,7 @@ abbrev pub HasSides : Card → NicSide → List AppSide → Type 0
 HasSides Card.Blank nic apps = ⊥
 HasSides (Card.Found found) nic apps = ⊥
 HasSides (Card.Plain board) nic apps = (board.nic ≡ nic) × (board.apps ≡ apps)
-HasSides (Card.Words board desk) nic apps = (card_of desk.view ≡ nic) × (desk.view.apps ≡ apps) × (nic.view.setting ≡ board.setting)
+HasSides (Card.Words board desk) nic apps = (card_of_seat desk.view ≡ nic) × (desk.view.apps ≡ apps) × (nic.view.setting ≡ board.setting)
 
 -- With a text of turns it is the board for one thread, which is sound, and its log tells of it; without one it is that or the board on
 -- words.

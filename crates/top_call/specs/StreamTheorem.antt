@@ -10,7 +10,7 @@ use Rattle.frames_read.specs.{Ending.{ended_of, steered_in}, Reading.{IsEnding, 
 use Rattle.zr_kinds.specs.declared.behaviour.Stopped.TheVariants as stop
 use Rattle.card_feed.specs.{declared.{plan.Plan.{Plan}, outcome.Outcome.{Outcome}}, Counts.{sweeping_in, sweeps_in}, Need.{buffers_of, need_in}, Offered.{offers_of}}
 use Rattle.card_feed.specs.Plan.{TakesTurns}
-use Rattle.run_account.specs.Ran.{HasReadOn, HaveWholeStreams, IsLineOf, IsStreamed, LacksMemory, LacksMemoryBeside, Ran, There, Told, told_of}
+use Rattle.run_account.specs.Ran.{HasReadOn, HaveWholeStreams, IsLineOf, IsStreamed, RunLacksMemory, LacksMemoryBeside, Ran, There, Told, told_of}
 use Rattle.run_account.specs.Views.{Ends, ShelfSeen, Streams, ends_at}
 use Rattle.replay_turns.specs.Following.{RunsBy}
 use Rattle.run_report.specs.{Report.{report_of, Reports, answer_of}, declared.report.Unreported.{Unreported}}
@@ -31,17 +31,17 @@ abbrev pub IsBrokenOff : Option Fault → Type 0
 IsBrokenOff end = (end ≡ None) ⊎ (end ≡ Some Cut)
 
 -- the text of an outcome's report, which says its status
-abbrev pub text_of : Told → Bool → List ℕ
-text_of outcome lost =
+abbrev pub report_text_of : Told → Bool → List ℕ
+report_text_of outcome lost =
     report_of outcome.tally outcome.apps outcome.flows outcome.refused outcome.pool (status_of outcome lost)
 
 -- ---- what is told
 
 -- the report of an outcome and what stands behind it went out, by what the flush of the shelves said, and the answer
-pub record Tells (before after : Sunk) (outcome : Told) (lost : Bool) (behind : List ℕ) (answer : ℕ) : Type 0 where
+pub record TellsOutcome (before after : Sunk) (outcome : Told) (lost : Bool) (behind : List ℕ) (answer : ℕ) : Type 0 where
   -- All of it went out, and no call of the sink failed; or not, and then the answer says so.
   pub reported : Result (Unit {0}) Unreported
-  pub report : Reports before.sent after.sent before.failed after.failed (text_of outcome lost ++ behind) reported
+  pub report : Reports before.sent after.sent before.failed after.failed (report_text_of outcome lost ++ behind) reported
   pub still : OnOk reported (after.failed ≡ before.failed)
   pub answered : answer ≡ answer_of (status_of outcome lost) reported
 
@@ -51,7 +51,7 @@ pub record Finishes {T : Type 0} (m : ShelfSeen T) (shelves shelves_now : List T
   pub lines : List AppLine
   pub lost : Bool
   pub flushes : Flushes m (length outcome.0.apps) shelves shelves_now outcome.0.apps lines lost
-  pub tells : Tells before after (record outcome.0 { apps = lines }) lost outcome.1 answer
+  pub tells : TellsOutcome before after (record outcome.0 { apps = lines }) lost outcome.1 answer
 
 -- ---- what ran
 
@@ -85,7 +85,7 @@ pub record RanWith {S T : Type 0} {m : Streams S T} (before after : Ends m) (car
 
 -- There was no memory for a run by these turns, or for one by threads.
 abbrev pub LacksMemoryBy : {S T : Type 0} → {m : Streams S T} → Ends m → Ends m → Option (List ℕ) → Plan → Type 0
-LacksMemoryBy before after (Some turns) plan = LacksMemory before after plan
+LacksMemoryBy before after (Some turns) plan = RunLacksMemory before after plan
 LacksMemoryBy before after None plan = LacksMemoryBeside before after plan
 
 -- What a run by these turns leaves, or one without a text of turns: an outcome, or for want of memory none.
@@ -179,7 +179,7 @@ pub record Replays {S T O : Type 0} {m : Seen S T O} (before after : World m) (t
   pub streams : SaysOfStreams before after told.ports ran.ran.before outcome
   -- The report, with the status of that outcome, went out whole, and the record behind it where one is asked for; or not, and then the
   -- answer says so.
-  pub report : Tells (sink_in before) (sink_in after) outcome flush_failed (record_in plan after.card) answer
+  pub report : TellsOutcome (sink_in before) (sink_in after) outcome flush_failed (record_in plan after.card) answer
   -- The record tells of that run.
   pub recorded : HasRecord plan outcome after.card
   pub kind : IsStatus answer

@@ -9,7 +9,7 @@ ghost use Rattle.card_feed.specs.Plan.{IsPlan, TakesTurns};
 ghost use Rattle.run_account.specs.{Ran.{told_of}, Views.{ends_at, shelf_seen, streams}};
 ghost use Rattle.run_report.specs.Report.{Reports, report_of};
 ghost use Rattle.replay_turns.specs.Schedule.{AreTurns};
-ghost use Rattle.top_call.specs.{Planned.{IsPlanOf}, Records.{record_in}, StreamTheorem.{Answers, AnswersAlone, Finishes, IsThreaded, Plays, RepliesTo, Tells, asked_by}, Worlds.{IsUntouched, seen, sink_seen, sunk, world_at}};
+ghost use Rattle.top_call.specs.{Planned.{IsPlanOf}, Records.{record_in}, StreamTheorem.{Answers, AnswersAlone, Finishes, IsThreaded, Plays, RepliesTo, TellsOutcome, asked_by}, Worlds.{IsUntouched, seen, sink_seen, sunk, world_at}};
 
 use crate::card::Card;
 use crate::checking::check_record;
@@ -76,7 +76,7 @@ fn tell<O: Sink>(
 ) -> u8
     requires plan { IsPlan plan.now }
     ensures { let m = sink_seen O.sent O.faults in
-        Tells (sunk m out.old) (sunk m out.new) (told_of outcome.now) lost
+        TellsOutcome (sunk m out.old) (sunk m out.new) (told_of outcome.now) lost
         (record_in plan.now card.now) result }
 {
     let status = status_of(outcome, lost);

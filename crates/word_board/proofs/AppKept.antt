@@ -3,27 +3,27 @@ use Rattle.std.proofs.Common.{◌≡◌, ℕ, ◌+◌, ◌-◌, ◌%◌, ◌<◌
 use Rattle.std.{specs.Prelude.{◌==◌, if◌then◌else◌, All, Option, Some, None, slice_index, slice_set}, proofs.lemmas.List.{length-set, length-append}}
 use Rattle.std.proofs.{lemmas.List.Elements.{All-nil, All-cons, All-append, All-push, All-map, All-contains}, Math.Nat.{mod-add-mod, mod-lt}}
 use Rattle.zr_kinds.specs.declared.{place.{Place.{Place}, Note.{Note}}, ring.Rqe.{Rqe}}
-use Rattle.area_layout.specs.Layout.{total as all_buffers, LiesIn}
+use Rattle.area_layout.specs.Layout.{all_buffers, LiesIn}
 use Rattle.board_face.specs.{Lists.{same_place}, Opened.{unseen}, Sides.{app_at}, SlotSteps.{side_gave, side_pushed, side_took_note, side_took_linear}}
 use Rattle.board_face.specs.{Texts.{front_place, rest_place, further}, AppCalls.{HasHeld, HasLoan}}
 use Rattle.board_face.specs.{AppEvents.{app_saw, fell_quiet, cut, held_origin, helds_without, released, lent, has_read, told_end}, Returns.{loans_out}}
 use Rattle.board_face.specs.declared.answers.Polled.{Polled, TheVariants.{Note as got_note, Linear as got_linear, Empty as got_none, Ended as got_end}}
 use Rattle.board_face.specs.{NicCalls.{apps_of}, declared.views.{parts.Setting.{Setting}, app.{Origin.TheVariants.{Note as of_note}, HeldPiece.{HeldPiece}}}}
 use Rattle.board_face.specs.declared.views.app.{LentPiece.{LentPiece}, AppLook.{AppLook, TheVariants.{NoNote, NotQuiet}}, AppSide.{AppSide}}
-use Rattle.board_face.proofs.{ListLemmas.{All-without, eqb_same}, Tallies.{weight, tally-push}, Parts.{count-tally}, LiesLemmas.{loans-at}, WrittenLemmas.{loans-fewer}}
+use Rattle.board_face.proofs.{ListLemmas.{All-without, eqb_same}, Tallies.{one_if, tally-push}, Parts.{count-tally}, LiesLemmas.{loans-at}, WrittenLemmas.{loans-fewer}}
 use Rattle.word_board.{specs.{Hands.{AppRests, AppLies, KnowsSlots, AppKeeps}, Polls.{Polls, end_known}}, proofs.LoansCounted.{count-raised, count-lowered}}
 
 -- ---- one count raised or lowered
 
 -- Where each count is f of its place, the counts with one more in the place i are g.
 raised : (t : ℕ) (counts : List ℕ) (i : ℕ) (f g : ℕ → ℕ) → i < t → length counts ≡ t → ((b : ℕ) → b < t → slice_index counts b ≡ f b)
-    → ((b : ℕ) → g b ≡ f b + weight (i == b)) → (b : ℕ) → b < t → slice_index (slice_set counts i (slice_index counts i + 1)) b ≡ g b
+    → ((b : ℕ) → g b ≡ f b + one_if (i == b)) → (b : ℕ) → b < t → slice_index (slice_set counts i (slice_index counts i + 1)) b ≡ g b
 raised t counts i f g within many are more b inside = omega (arith, count-raised counts i b (omega arith), are b inside, more b)
 
 lowered : (t : ℕ) (counts : List ℕ) (i : ℕ) (f g : ℕ → ℕ) → i < t → length counts ≡ t → ((b : ℕ) → b < t → slice_index counts b ≡ f b)
-    → ((b : ℕ) → g b + weight (i == b) ≡ f b) → (b : ℕ) → b < t → slice_index (slice_set counts i (slice_index counts i - 1)) b ≡ g b
+    → ((b : ℕ) → g b + one_if (i == b) ≡ f b) → (b : ℕ) → b < t → slice_index (slice_set counts i (slice_index counts i - 1)) b ≡ g b
 lowered t counts i f g within many are less b inside =
-    let some : 0 < slice_index counts i = omega (arith, are i within, less i, ap weight (eqb_same i)) in
+    let some : 0 < slice_index counts i = omega (arith, are i within, less i, ap one_if (eqb_same i)) in
     omega (arith, count-lowered counts i b (omega arith) some, are b inside, less b)
 
 -- the next place of a ring
@@ -46,7 +46,7 @@ pub loan-some : (app : AppSide) (p : Place) → HasLoan app.view p → 0 < loans
 loan-some app p out = omega (
   arith,
   loans-at app.view.loans p (λ q. q.buffer == p.buffer) out,
-  ap weight (eqb_same p.buffer),
+  ap one_if (eqb_same p.buffer),
   count-tally (λ (l : LentPiece). l.place.buffer == p.buffer) app.view.loans,
 )
 

@@ -4,8 +4,8 @@ use Rattle.std.proofs.Common.{arith, subst, ⊎_elim, length-append}
 use Rattle.std.specs.Prelude.{◌≢◌, All, AllPairs, Option, Some, None, is_none, replicate, nat_eq, count_by, if◌then◌else◌}
 use Rattle.std.proofs.lemmas.List.{append-nil, map-append, replicate-append-replicate, get_or-set_same, get_or-set_other}
 use Rattle.std.proofs.{Math.Seq.{take-append_seam, drop-append_seam}, lemmas.{List.Elements.{All-push}, Bool.Decides.{eqb_tells}}}
-use Rattle.board_face.{specs.declared.views.{nic.NicSide.{NicSide}, app.AppSide.{AppSide}}, proofs.Tallies.{weight}}
-use Rattle.ref_words.specs.{declared.view.View.{View}, Over.{CardIsOver, AppIsOver}, Seated.{times_in, both_sides, card_view, app_view}}
+use Rattle.board_face.{specs.declared.views.{nic.NicSide.{NicSide}, app.AppSide.{AppSide}}, proofs.Tallies.{one_if}}
+use Rattle.ref_words.specs.{declared.view.View.{View}, Over.{CardIsOver, AppIsOver}, Seated.{times_in, both_sides, card_seat_view, app_seat_view}}
 use Rattle.board_parts.{specs.Free.{listed_below}, proofs.FreeLists.{below-rises}}
 use Rattle.word_board.specs.{Board.{HasDealt, first_nic}, Desk.{AreOver, StandInOrder, cache_back}}
 
@@ -15,14 +15,14 @@ HasDealt-both given v w none dealt r =
     ap (times_in {V = View} (λ v. v.dealt) (λ x. x) r) (ap (λ ds. v.dealt ++ ds) none ∙ append-nil v.dealt) ∙ dealt r
 
 -- the card's, or an application's
-pub AreOver-card : (v : View) (nic : NicSide) → AreOver v → CardIsOver nic → AreOver (both_sides v (card_view nic))
+pub AreOver-card : (v : View) (nic : NicSide) → AreOver v → CardIsOver nic → AreOver (both_sides v (card_seat_view nic))
 AreOver-card v nic over is = record {
   card = All-push CardIsOver v.nics nic over.card is;
   apps = subst (All AppIsOver) (sym (append-nil v.apps)) over.apps;
   due = append-nil v.due ∙ over.due;
 }
 
-pub AreOver-app : (v : View) (app : AppSide) → AreOver v → AppIsOver app → AreOver (both_sides v (app_view app))
+pub AreOver-app : (v : View) (app : AppSide) → AreOver v → AppIsOver app → AreOver (both_sides v (app_seat_view app))
 AreOver-app v app over is = record {
   card = subst (All CardIsOver) (sym (append-nil v.nics)) over.card;
   apps = All-push AppIsOver v.apps app over.apps is;
@@ -54,7 +54,7 @@ none-given hands hand n none =
 pub none-more : (n : ℕ) → false ∷ replicate n false ≡ replicate (1 + n) false
 none-more n = let e : suc n ≡ 1 + n = omega arith in ap (λ k. replicate k false) e
 
-pub HasDealt-none : (n r : ℕ) → weight (get_or (replicate n false) r false) ≡ 0
+pub HasDealt-none : (n r : ℕ) → one_if (get_or (replicate n false) r false) ≡ 0
 HasDealt-none zero r = refl
 HasDealt-none (suc n) zero = refl
 HasDealt-none (suc n) (suc r) = HasDealt-none n r
@@ -63,19 +63,19 @@ HasDealt-none (suc n) (suc r) = HasDealt-none n r
 
 -- a buffer more was looked at: it is listed or cached
 pub looked-more : (cached : List ℕ) (listed : List Bool) (n : ℕ) (found : Bool) → n < length listed
-    → ((b : ℕ) → b < n → count_by (nat_eq b) cached + weight (get_or listed b false) ≡ 1)
+    → ((b : ℕ) → b < n → count_by (nat_eq b) cached + one_if (get_or listed b false) ≡ 1)
     → count_by (nat_eq n) cached ≡ (if found then 0 else 1)
-    → (b : ℕ) → b < suc n → count_by (nat_eq b) cached + weight (get_or (set listed n found) b false) ≡ 1
+    → (b : ℕ) → b < suc n → count_by (nat_eq b) cached + one_if (get_or (set listed n found) b false) ≡ 1
 looked-more cached listed n found there before now b less =
     ⊎_elim
     (λ t. let same : b ≡ n = t.1 in
-    subst (λ k. count_by (nat_eq k) cached + weight (get_or (set listed n found) k false) ≡ 1) (sym same)
-    (ap (λ c. count_by (nat_eq n) cached + weight c) (get_or-set_same listed n found false there) ∙ in-one-place found (count_by (nat_eq n) cached) now))
+    subst (λ k. count_by (nat_eq k) cached + one_if (get_or (set listed n found) k false) ≡ 1) (sym same)
+    (ap (λ c. count_by (nat_eq n) cached + one_if c) (get_or-set_same listed n found false there) ∙ in-one-place found (count_by (nat_eq n) cached) now))
     (λ t. let other : b ≢ n = t.1 in
-    ap (λ c. count_by (nat_eq b) cached + weight c) (get_or-set_other listed n b found false other) ∙ before b (omega (arith, other)))
+    ap (λ c. count_by (nat_eq b) cached + one_if c) (get_or-set_other listed n b found false other) ∙ before b (omega (arith, other)))
     (eqb_tells b n)
   where
-    in-one-place : (c : Bool) (k : ℕ) → k ≡ (if c then 0 else 1) → k + weight c ≡ 1
+    in-one-place : (c : Bool) (k : ℕ) → k ≡ (if c then 0 else 1) → k + one_if c ≡ 1
     in-one-place true k e = omega (arith, e)
     in-one-place false k e = omega (arith, e)
 

@@ -9,13 +9,13 @@ use Rattle.board_face.specs.{NicEvents.{cached, cache_room, fresh, placed, shut,
 use Rattle.board_face.specs.declared.{answers.Entry.{Entry, TheVariants.{Freed, Honoured, Stray, Empty}}, views.nic.{Dealt.{Dealt}, NicSide.{NicSide}}}
 use Rattle.board_face.specs.declared.views.{nic.{NicView.{NicView}, SentNote.{SentNote}}, parts.{Filling.{Filling}, Setting.{Setting}, Slot.{Slot}}}
 use Rattle.board_face.proofs.{DealtLemmas.{dealt-more, dealt-same, length-mapped}, ListLemmas.{All-without}, NicLemmas.{sent_to-same, sent_to-other}}
-use Rattle.ref_words.specs.{FreeSteps.{IsSwept, found_in, side_swept}}
-use Rattle.word_board.specs.{Board.{IsSetting, TheNic}, Hands.{NicKeeps}}
+use Rattle.ref_words.specs.{FreeSteps.{IsSwept, all_listed_in, side_swept}}
+use Rattle.word_board.specs.{Board.{IsBoardSetting, TheNic}, Hands.{NicKeeps}}
 
 -- ---- the next slots
 
 -- a number of an application is that of a slot kept for it
-pub few-apps : (setting : Setting) (a : ℕ) → IsSetting setting → a < apps_of setting → a < 8
+pub few-apps : (setting : Setting) (a : ℕ) → IsBoardSetting setting → a < apps_of setting → a < 8
 few-apps setting a sound here = omega (arith, here, sound.layout.reserves.1)
 
 -- what its face calls an application is one of the board
@@ -60,10 +60,10 @@ module _ (setting : Setting) (nic : NicSide) (kept notes entries : List ℕ) (ke
   pool = pool_buffers setting.layout
 
   -- the next slot is one of the ring
-  pub note-within : (a : ℕ) → IsSetting setting → a < apps_of setting → get_or notes a 0 < setting.places
+  pub note-within : (a : ℕ) → IsBoardSetting setting → a < apps_of setting → get_or notes a 0 < setting.places
   note-within a sound here = subst (λ n. n < setting.places) (sym (keeps.next_notes a here)) (mod-lt (length (sent_to a nic)) sound.places)
 
-  pub entry-within : (a : ℕ) → IsSetting setting → a < apps_of setting → get_or entries a 0 < setting.places
+  pub entry-within : (a : ℕ) → IsBoardSetting setting → a < apps_of setting → get_or entries a 0 < setting.places
   entry-within a sound here =
       subst (λ n. n < setting.places) (sym (keeps.next_entries a here)) (mod-lt (length (dealt_entries a nic)) sound.places)
 
@@ -108,12 +108,12 @@ module _ (setting : Setting) (nic : NicSide) (kept notes entries : List ℕ) (ke
   }
 
   -- a word was swept
-  pub NicKeeps-swept : (word n : ℕ) → IsSwept nic word n → NicKeeps setting (side_swept nic word n) (kept ++ found_in word n) notes entries
+  pub NicKeeps-swept : (word n : ℕ) → IsSwept nic word n → NicKeeps setting (side_swept nic word n) (kept ++ all_listed_in word n) notes entries
   NicKeeps-swept word n is =
       let more = is.event in
       let of_pool : (k d : ℕ) → k < length more.found → get_or more.found k d < pool =
       λ k d there. subst (λ (s : Setting). get_or more.found k d < pool_buffers s.layout) keeps.set (more.within k d there).1 in
-      NicKeeps-nic (side_swept nic word n).view (kept ++ found_in word n) refl refl refl (ap (λ xs. xs ++ found_in word n) keeps.cache)
+      NicKeeps-nic (side_swept nic word n).view (kept ++ all_listed_in word n) refl refl refl (ap (λ xs. xs ++ all_listed_in word n) keeps.cache)
       (subst (All (λ b. b < pool)) (sym (ap (λ (v : NicView). v.cache) more.event))
       (All-append (λ b. b < pool) nic.view.cache more.found keeps.lies.cached of_pool))
       keeps.lies.owns
@@ -141,7 +141,7 @@ module _ (setting : Setting) (nic : NicSide) (kept notes entries : List ℕ) (ke
       (All-without (λ (o : Filling). (o.buffer < pool) × (o.size ≡ size_of setting.layout o.buffer)) (same_filling own) nic.view.owns keeps.lies.owns)
 
   -- a note was sent
-  pub NicKeeps-sent : (v : NicView) (slots : List Slot) (s : SentNote) (slot : ℕ) → IsSetting setting → s.app < apps_of setting
+  pub NicKeeps-sent : (v : NicView) (slots : List Slot) (s : SentNote) (slot : ℕ) → IsBoardSetting setting → s.app < apps_of setting
       → v.setting ≡ nic.view.setting → v.cache ≡ nic.view.cache → v.owns ≡ nic.view.owns → v.dealt ≡ nic.view.dealt → v.sent ≡ nic.view.sent ++ s ∷ []
       → slot ≡ (get_or notes s.app 0 + 1) % setting.places
       → NicKeeps setting (record { view = v; inside = record nic.inside { note_slots = slots } }) kept (set notes s.app slot) entries
@@ -208,7 +208,7 @@ is-dealt old new app Stray some did = record {
 is-dealt old new app Empty some did = absurd (some refl)
 
 pub NicKeeps-dealt : (setting : Setting) (nic now : NicSide) (kept notes entries next : List ℕ) (a slot : ℕ) (slots : List Slot)
-    → NicKeeps setting nic kept notes entries → IsSetting setting → a < apps_of setting → IsDealt nic.view now.view a
+    → NicKeeps setting nic kept notes entries → IsBoardSetting setting → a < apps_of setting → IsDealt nic.view now.view a
     → now.inside ≡ record nic.inside { refill_slots = slots } → next ≡ now.view.cache → slot ≡ (get_or entries a 0 + 1) % setting.places
     → NicKeeps setting now next notes (set entries a slot)
 NicKeeps-dealt setting nic now kept notes entries next a slot slots keeps sound here did inside cache is =

@@ -4,7 +4,7 @@ use Rattle.std.proofs.lemmas.{List.{get_or-set_same, get_or-set_other}, Bool.Dec
 use mathlib.Core.Option.{some}
 use lib.ListN.{get_elem?}
 use Rattle.atomic_table.{specs.Table.{Me, keeps, Allows, Splits, Joins}, proofs.Lists.{set_else}}
-use Rattle.board_face.{specs.declared.views.{parts.Setting.{Setting}, nic.NicSide.{NicSide}, app.AppSide.{AppSide}}, proofs.Tallies.{weight}}
+use Rattle.board_face.{specs.declared.views.{parts.Setting.{Setting}, nic.NicSide.{NicSide}, app.AppSide.{AppSide}}, proofs.Tallies.{one_if}}
 use Rattle.ref_words.specs.{declared.view.View.{View}, Words.{Words, roles_of, with_role, role_at, table_of}}
 use Rattle.ref_words.specs.{Seated.{Seated, times_in, due_view, dealt_out, both_sides, no_role}, Laws.{SplitLaw, JoinLaw, TakesRole}, Rule.{BoardRule}}
 use Rattle.ref_words.proofs.{Seating.{in-append}, Laying.{role-set, role-word}}
@@ -78,16 +78,16 @@ HasDealt-given given v role dealt there fresh r =
       arith,
       more,
       dealt r,
-      ap weight t.0,
-      ap (λ n. weight (get_or given n false)) (sym e),
-      ap weight fresh,
-      ap (λ n. weight (get_or (set given role true) n false)) (sym e),
-      ap weight (get_or-set_same given role true false there),
+      ap one_if t.0,
+      ap (λ n. one_if (get_or given n false)) (sym e),
+      ap one_if fresh,
+      ap (λ n. one_if (get_or (set given role true) n false)) (sym e),
+      ap one_if (get_or-set_same given role true false there),
     ))
     (λ t. let ne : role ≢ r = t.1 in
-    omega (arith, more, dealt r, ap weight t.0, ap weight (get_or-set_other given role r true false (λ e. ne (sym e)))))
+    omega (arith, more, dealt r, ap one_if t.0, ap one_if (get_or-set_other given role r true false (λ e. ne (sym e)))))
     (eqb_tells role r)
 
 pub undealt : (given : List Bool) (v : View) (role : ℕ) → HasDealt given v → get_or given role false ≡ false
     → times_in {V = View} (λ v. v.dealt) (λ x. x) role v.dealt ≡ 0
-undealt given v role dealt fresh = dealt role ∙ ap weight fresh
+undealt given v role dealt fresh = dealt role ∙ ap one_if fresh

@@ -2,11 +2,12 @@
 use Rattle.std.{proofs.Common.{◌≡◌, ℕ, ◌/◌, ◌%◌, ◌^◌, ◌*◌, ◌<◌, List, set, get_or, refl, ap, sym, ◌∙◌, arith, subst}, specs.Prelude.{bit_and, bit_or}}
 use Rattle.std.{specs.Int.{bit_not, w64}, proofs.lemmas.Nat.{one_shl}}
 use Rattle.board_face.specs.{NicCalls.{free_words_of}, NicEvents.{word_bits}, declared.views.{parts.Setting.{Setting}, nic.NicSide.{NicSide}, app.AppSide.{AppSide}}}
-use Rattle.ref_words.{specs.{Words.{Words, table_of, free_at, free_of, with_free, with_listed, with_unlisted}, Rule.{BoardRule}}, proofs.Laying.{free-word, free-set}}
+use Rattle.ref_words.{specs.{Words.{Words, table_of, free_at, free_word_of, with_free, with_listed, with_unlisted}, Rule.{BoardRule}}, proofs.Laying.{free-word}}
+use Rattle.ref_words.proofs.Laying.{free-set}
 use Rattle.word_board.specs.Steps.{MakesWords}
 
 module _ (setting : Setting) (words : Words) (j i : ℕ) (at : i ≡ free_at setting j) (within : j < free_words_of setting) where
-  pub found-free : {nic : NicSide} {apps : List AppSide} → BoardRule setting words nic apps → get_or (table_of words) i 0 ≡ free_of words j
+  pub found-free : {nic : NicSide} {apps : List AppSide} → BoardRule setting words nic apps → get_or (table_of words) i 0 ≡ free_word_of words j
   found-free rule = ap (λ x. get_or (table_of words) x 0) at ∙ free-word setting words rule.refs.sizes j (omega (arith, within, rule.refs.sizes.free))
 
   -- where a law leaves n there, so does a step that makes m
@@ -22,7 +23,7 @@ module _ (setting : Setting) (words : Words) (j i : ℕ) (at : i ≡ free_at set
   }
 
   -- what an event does with the word, it does with the number found
-  pub of-word : {nic : NicSide} {apps : List AppSide} → BoardRule setting words nic apps → (P : ℕ → Type 0) → P (free_of words j)
+  pub of-word : {nic : NicSide} {apps : List AppSide} → BoardRule setting words nic apps → (P : ℕ → Type 0) → P (free_word_of words j)
       → P (get_or (table_of words) i 0)
   of-word rule P p = subst P (sym (found-free rule)) p
 

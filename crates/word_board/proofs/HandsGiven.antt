@@ -2,7 +2,7 @@
 use Rattle.std.proofs.Common.{◌≡◌, ℕ, zero, suc, ◌+◌, ◌<◌, Bool, true, false, List, [], ◌∷◌, length, map, set, get_or, replicate, refl, ap, sym, ◌∙◌}
 use Rattle.std.proofs.{Common.{subst, arith, Option, Some, None, is_none, IfSome}, Math.Nat.{zero-mod}}
 use Rattle.std.proofs.lemmas.List.{map-set, get_or-map, set-get_or, get_or_default, length-replicate}
-use Rattle.area_layout.specs.Layout.{total}
+use Rattle.area_layout.specs.Layout.{all_buffers}
 use Rattle.board_face.specs.{NicCalls.{apps_of}, Opened.{new_app}, declared.views.parts.Setting.{Setting}}
 use Rattle.word_board.specs.Hands.{IsNew, AppKeeps}
 
@@ -64,9 +64,9 @@ AppKeeps-new setting a note entry raw loans lengths there new = record {
     given = omega arith;
     looked = refl;
     searched = (refl, refl);
-    owes = none-counted (total setting.layout);
+    owes = none-counted (all_buffers setting.layout);
     unbegun = λ _. refl;
-    lists = λ _. record { took = length-replicate (total setting.layout) 0; owes = length-replicate (total setting.layout) 0 };
+    lists = λ _. record { took = length-replicate (all_buffers setting.layout) 0; owes = length-replicate (all_buffers setting.layout) 0 };
   };
   lies = record {
     helds = λ k d none. absurd (omega arith);
@@ -81,8 +81,12 @@ AppKeeps-new setting a note entry raw loans lengths there new = record {
     last_raw = rw new.slots.2 refl;
   };
   tokens = record {
-    many = (ap length new.none_out ∙ length-replicate (total setting.layout) 0, ap length new.none_filled ∙ length-replicate (total setting.layout) 0);
-    out = λ b inside. ap (λ counts. get_or counts b 0) new.none_out ∙ none-counted (total setting.layout) b;
+    many = (
+      ap length new.none_out ∙ length-replicate (all_buffers setting.layout) 0,
+      ap length new.none_filled
+          ∙ length-replicate (all_buffers setting.layout) 0,
+    );
+    out = λ b inside. ap (λ counts. get_or counts b 0) new.none_out ∙ none-counted (all_buffers setting.layout) b;
     lengths = λ k d none. absurd (omega arith);
   };
 }

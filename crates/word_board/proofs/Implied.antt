@@ -1,15 +1,15 @@
 -- What an answer 'not now' implies of the role's own view, by the rule of the board of which the look tells.
 use Rattle.std.proofs.Common.{◌≡◌, ℕ, ◌+◌, ◌<◌, ◌≤◌, false, [], ◌∷◌, length, get_or, refl, ap, sym, ◌∙◌, arith, subst, ⊎_elim, Option, Some, None, zero, suc}
 use Rattle.std.{proofs.{Math.Nat.{mod-eq_of_lt}, lemmas.Bool.{cases_lt, false≢true}}, specs.Prelude.{◌==◌, not, IfSome}}
-use Rattle.area_layout.specs.Layout.{pool_buffers, total}
+use Rattle.area_layout.specs.Layout.{pool_buffers, all_buffers}
 use Rattle.board_face.specs.{NicCalls.{apps_of}, NicEvents.{nic_gist}, AppEvents.{app_gist, reserve_of}}
 use Rattle.board_face.specs.{NotNow.{HasSentRingful, HasWrittenRingful, HasWritten, HasPushedRaw, HasUsedReserve}, Returns.{is_raw}, Holders.{sent_to, making_places}}
 use Rattle.board_face.specs.{SlotSteps.{next_slot}, Blank.{blank_app}, declared.views.{parts.{Setting.{Setting}, Making.{Making}}, nic.NicView.{NicView}}}
 use Rattle.board_face.{specs.declared.views.app.{LentPiece.{LentPiece}, SpareOwn.{SpareOwn}, AppView.{AppView}}, proofs.SideLemmas.{IsApp-at}}
-use Rattle.board_face.proofs.{Tallies.{weight, tally, tally-append}, Parts.{count-tally}}
+use Rattle.board_face.proofs.{Tallies.{one_if, tally, tally-append}, Parts.{count-tally}}
 use Rattle.board_parts.proofs.{FreeLists.{weight-other}, Reserves.{reserve-alone}}
 use Rattle.word_rings.specs.Slots.{note_width}
-use Rattle.ref_words.{specs.{Words.{slot_word, pool_of}, Rings.{IsRing, words_of_note}}, proofs.Phases.{phases-mine}}
+use Rattle.ref_words.{specs.{Words.{slot_word, pool_word_of}, Rings.{IsRing, words_of_note}}, proofs.Phases.{phases-mine}}
 use Rattle.word_board.specs.Told.{IsToldToApp, IsRawInUse, IsOneInUse, SawNoteInUse, SawRefillInUse, SawReserveHeld}
 
 -- what is 0 wasn't seen above it
@@ -54,7 +54,7 @@ pub raw-pushed : (setting : Setting) (v : AppView) → IsToldToApp setting (app_
 raw-pushed setting v told =
     let last = told.holds.last in
     let is = ap (tally is_raw) last.is in
-    let raw : weight (is_raw last.entry) ≡ 1 = ap (λ b. weight (not b)) last.raw in
+    let raw : one_if (is_raw last.entry) ≡ 1 = ap (λ b. one_if (not b)) last.raw in
     subst HasPushedRaw told.same
     (omega (arith, is, raw, tally-append is_raw last.before (last.entry ∷ last.behind), count-tally is_raw told.app.view.written))
 
@@ -93,13 +93,14 @@ used-reserve setting v told =
     let reserve : ℕ = reserve_of app.view in
     let pools : pool_buffers told.nic.view.setting.layout ≡ pool_buffers setting.layout = ap (λ s. pool_buffers s.layout) set.card in
     let mine : pool_buffers app.view.setting.layout ≡ pool_buffers setting.layout = ap (λ s. pool_buffers s.layout) own in
-    let inside : reserve < total setting.layout = let h = told.here.there in omega (arith, mine, set.many) in
+    let inside : reserve < all_buffers setting.layout = let h = told.here.there in omega (arith, mine, set.many) in
     let alone = reserve-alone told.nic told.apps app.view.app app told.here set.numbers
     (λ k y it. subst (λ x. x.view.setting ≡ setting) it.is (set.others k y it.there) ∙ sym set.card)
     (λ k y it. (phases-mine told.words.phases told.nic told.apps rule.phases k y it).lies) rule.phases.lies rule.refs.sides.fit.of_pool
     (made-none told.nic.inside.making _ reserve rule.phases.made (omega (arith, mine, pools))) in
-    let some : 0 < pool_of told.words reserve = ⊎_elim (λ more. more) (λ none. absurd (zero-seen (pool_of told.words reserve) (omega (arith, none)) told.holds))
-    (cases_lt 0 (pool_of told.words reserve)) in
+    let some : 0 < pool_word_of told.words reserve = ⊎_elim (λ more. more)
+    (λ none. absurd (zero-seen (pool_word_of told.words reserve) (omega (arith, none)) told.holds))
+    (cases_lt 0 (pool_word_of told.words reserve)) in
     subst HasUsedReserve told.same
     (omega (
       arith,

@@ -4,7 +4,7 @@ use Rattle.std.{specs.Prelude.{if◌then◌else◌}, proofs.{Math.Seq.{drop-appe
 use Rattle.std.proofs.lemmas.List.{take_all, take_more_set, length-set, length-append, length-drop, length-take-le, take-append-drop}
 use Rattle.zr_kinds.specs.declared.place.Note.{Note}
 use Rattle.board_face.specs.{SlotSteps.{seen_with, at_slot, side_took_note, side_took_linear}, declared.views.app.AppSide.{AppSide}}
-use Rattle.word_rings.{specs.{Slots.{note_fields, field_words, payload_width, note_of, linear_of, bytes_of, words_for}}, proofs.NoteSlots.{note-front, bytes-front}}
+use Rattle.word_rings.{specs.Slots.{note_fields, field_words, payload_width, note_of, linear_of, bytes_of_words, words_for}, proofs.NoteSlots.{note-front, bytes-front}}
 use Rattle.ref_words.specs.Rings.{loaded_note, loaded_bytes}
 use Rattle.word_board.specs.Board.{side_full_taken}
 
@@ -39,11 +39,11 @@ module _ (fields payload : List ℕ) where
       (λ all. ap (λ ws. take t (linear_of (1 ∷ (fields ++ ws)))) (take_all m payload (omega arith)))
       (cases_lt m payload_width)
 
-  behind-fields : length fields ≡ field_words → linear_of (1 ∷ (fields ++ payload)) ≡ bytes_of payload
-  behind-fields long = ap (λ n. bytes_of (drop n (fields ++ payload))) (sym long) ∙ ap bytes_of (drop-append_seam fields payload)
+  behind-fields : length fields ≡ field_words → linear_of (1 ∷ (fields ++ payload)) ≡ bytes_of_words payload
+  behind-fields long = ap (λ n. bytes_of_words (drop n (fields ++ payload))) (sym long) ∙ ap bytes_of_words (drop-append_seam fields payload)
 
 pub linear-taken : (app : AppSide) (slot payload linear : List ℕ) (note : Note) (m : ℕ) → slot ≡ 1 ∷ drop 1 slot → length slot ≡ note_fields
-    → length payload ≡ payload_width → note ≡ note_of slot → m ≡ min (words_for note.total) payload_width → linear ≡ bytes_of payload → note.split ≡ false
+    → length payload ≡ payload_width → note ≡ note_of slot → m ≡ min (words_for note.total) payload_width → linear ≡ bytes_of_words payload → note.split ≡ false
     → side_took_linear app (loaded_note (at_slot app (seen_with (drop 1 slot ++ take m payload))))
     (loaded_bytes (at_slot app (seen_with (drop 1 slot ++ take m payload)))) ≡ side_full_taken app note linear
 linear-taken app slot payload linear note m full long whole read enough bytes split =

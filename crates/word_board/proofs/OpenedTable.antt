@@ -3,7 +3,7 @@ use Rattle.std.proofs.Common.{◌≡◌, ℕ, zero, suc, ◌+◌, ◌-◌, ◌*�
 use Rattle.std.{specs.List.{flat_map}, proofs.lemmas.List.{append_assoc, append-nil, replicate-append-replicate, length-map, length-replicate, take_all, get_or_default}}
 use mathlib.Core.Option.{some}
 use Rattle.atomic_table.{specs.Table.{opening}, proofs.Lists.{at_index, at_map}}
-use Rattle.area_layout.specs.Layout.{total, pool_buffers}
+use Rattle.area_layout.specs.Layout.{all_buffers, pool_buffers}
 use Rattle.board_face.specs.{NicCalls.{apps_of, free_words_of}, Opened.{new_nic, new_apps}, declared.views.{parts.Setting.{Setting}, nic.NicSide.{NicSide}, app.AppSide.{AppSide}}}
 use Rattle.ref_words.specs.{Lines.{joined}, Homes.{StandInSlots}, Laws.{IsOpened}, Seated.{no_role}}
 use Rattle.ref_words.specs.Words.{table_of, opened_words, begin_at, table_words, free_list, free_word, roles_of}
@@ -50,7 +50,7 @@ module _ (setting : Setting) where
   pub opened-table : front ++ replicate (table_words setting - begin_at setting 5) 0 ≡ table_of (opened_words setting)
   opened-table =
       let r = roles_of setting in
-      let t = total setting.layout in
+      let t = all_buffers setting.layout in
       let u = apps_of setting * t in
       let n = apps_of setting * (setting.places * note_width) in
       let x = apps_of setting * (setting.places * refill_width) in

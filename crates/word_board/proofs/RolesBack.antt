@@ -6,11 +6,11 @@ use mathlib.Core.Option.{some}
 use lib.ListN.{get_elem?}
 use Rattle.atomic_table.{specs.Table.{State, Me, keeps, Allows}, proofs.Lists.{at_index, set_again}}
 use Rattle.area_layout.specs.Layout.{pool_buffers}
-use Rattle.board_face.specs.{Counts.{is_user}, Ended.{IsServed}, Holders.{nic_holders, app_holders, holders_of}, Opened.{new_app}, Relay.{IsProper}, Sides.{IsApp}}
+use Rattle.board_face.specs.{Counts.{is_user_kind}, Ended.{IsServed}, Holders.{nic_holders, app_holders, holders_of}, Opened.{new_app}, Relay.{IsProper}, Sides.{IsApp}}
 use Rattle.board_face.{proofs.SideLemmas.{IsApp-at}, specs.declared.views.{parts.Setting.{Setting}, nic.NicSide.{NicSide}, app.AppSide.{AppSide}}}
-use Rattle.ref_words.specs.{declared.view.View.{View}, Seated.{Seated, times_in}, Words.{listed_in}, Over.{CardIsOver, AppIsOver, OverLaw}}
+use Rattle.ref_words.specs.{declared.view.View.{View}, Seated.{Seated, times_in}, Words.{listed_bit}, Over.{CardIsOver, AppIsOver, OverLaw}}
 use Rattle.ref_words.proofs.{Seating.{taken-at}, Laying.{pool-word, user-word}}
-use Rattle.word_board.specs.{Board.{IsBoard, card_of, first_nic}, Desk.{AreOver, AreOfBoard, AreServed, AllAreBack, HasNoHolders, HaveNoCounts}}
+use Rattle.word_board.specs.{Board.{IsBoard, card_of_seat, first_nic}, Desk.{AreOver, AreOfBoard, AreServed, AllAreBack, HasNoHolders, HaveNoCounts}}
 
 -- A load that changes nothing tells what the rule says of each table under it.
 pub lesson : (setting : Setting) (slots id i : ℕ) (told : ℕ → Type 0) (me : Me (List ℕ) View)
@@ -102,8 +102,8 @@ module _ (law : OverLaw) (setting : Setting) (s : State (List ℕ) View) (board 
   -- ---- all are back
 
   module _ (all : AllAreBack setting v) where
-    card-is : card_of v ≡ board.nic
-    card-is = card-there 0 (card_of v) (first-found v.nics all.card)
+    card-is : card_of_seat v ≡ board.nic
+    card-is = card-there 0 (card_of_seat v) (first-found v.nics all.card)
 
     card-over : CardIsOver board.nic
     card-over = subst CardIsOver card-is (first-all CardIsOver v.nics all.card over.card)
@@ -119,21 +119,21 @@ module _ (law : OverLaw) (setting : Setting) (s : State (List ℕ) View) (board 
         ∙ (get_or_default board.apps app.view.app app d here.there ∙ ap (λ n. get_or board.apps n d) number) in
         subst AppIsOver is (over.apps back.0 d at_desk)
 
-    holders-none : (b : ℕ) → holders_of b (card_of v) v.apps ≡ []
+    holders-none : (b : ℕ) → holders_of b (card_of_seat v) v.apps ≡ []
     holders-none b =
-        let card : nic_holders b (card_of v) ≡ [] = subst (λ nic. nic_holders b nic ≡ []) (sym card-is)
+        let card : nic_holders b (card_of_seat v) ≡ [] = subst (λ nic. nic_holders b nic ≡ []) (sym card-is)
         (law.card setting board.words board.nic board.apps b board.rule card-over) in
-        let apps : All (λ app. app_holders b (card_of v) app ≡ []) v.apps = λ k d there.
+        let apps : All (λ app. app_holders b (card_of_seat v) app ≡ []) v.apps = λ k d there.
         let app = get_or v.apps k d in
         subst (λ nic. app_holders b nic app ≡ []) (sym card-is)
         (law.app setting board.words board.nic board.apps app.view.app app b board.rule
         (app-there k app (found-at v.apps k d there)) (over.apps k d there)) in
-        ap (λ ks. ks ++ flat_map (app_holders b (card_of v)) v.apps) card ∙ flat-none (app_holders b (card_of v)) v.apps apps
+        ap (λ ks. ks ++ flat_map (app_holders b (card_of_seat v)) v.apps) card ∙ flat-none (app_holders b (card_of_seat v)) v.apps apps
 
     pub unheld-there : HasNoHolders v
     unheld-there = record {
       pool = λ b. ap length (holders-none b);
-      users = λ a b. ap (count_by (is_user a)) (holders-none b);
+      users = λ a b. ap (count_by (is_user_kind a)) (holders-none b);
     }
 
     board-unheld : (b : ℕ) → holders_of b board.nic board.apps ≡ []
@@ -150,16 +150,16 @@ module _ (law : OverLaw) (setting : Setting) (s : State (List ℕ) View) (board 
       pool = λ b within. pool-word setting board.words board.rule.refs.sizes b (omega (arith, within, board.rule.refs.sizes.pool))
           ∙ (board.rule.refs.pool b within ∙ ap length (board-unheld b));
       users = λ a b few within. user-word setting board.words board.rule.refs.sizes a b (omega (arith, few, board.rule.refs.sizes.users)) within
-          ∙ (board.rule.refs.users a b few within ∙ ap (count_by (is_user a)) (board-unheld b));
+          ∙ (board.rule.refs.users a b few within ∙ ap (count_by (is_user_kind a)) (board-unheld b));
     })
 
     pub free-there : (b : ℕ) → b < pool_buffers setting.layout
-        → count_by (nat_eq b) (card_of v).view.cache + (if listed_in board.words b then 1 else 0) ≡ 1
+        → count_by (nat_eq b) (card_of_seat v).view.cache + (if listed_bit board.words b then 1 else 0) ≡ 1
     free-there b within =
-        subst (λ (nic : NicSide). count_by (nat_eq b) nic.view.cache + (if listed_in board.words b then 1 else 0) ≡ 1) (sym card-is)
+        subst (λ (nic : NicSide). count_by (nat_eq b) nic.view.cache + (if listed_bit board.words b then 1 else 0) ≡ 1) (sym card-is)
         (law.free setting board.words board.nic board.apps b board.rule card-over apps-over within)
 
-    pub reserves-there : (b : ℕ) → pool_buffers setting.layout ≤ b → count_by (nat_eq b) (card_of v).view.cache ≡ 0
+    pub reserves-there : (b : ℕ) → pool_buffers setting.layout ≤ b → count_by (nat_eq b) (card_of_seat v).view.cache ≡ 0
     reserves-there b past =
         subst (λ (nic : NicSide). count_by (nat_eq b) nic.view.cache ≡ 0) (sym card-is)
         (law.reserves setting board.words board.nic board.apps b board.rule past)

@@ -4,7 +4,7 @@ use Rattle.std.{proofs.Common.{arith, Option, ⊎_elim, length-append}, specs.Pr
 use Rattle.std.proofs.lemmas.List.{length-set, get_or-set_same, get_or_default, Elements.{All-push, All-map, All-contains}, Quantifiers.{all_pairs_push}}
 use Rattle.std.proofs.lemmas.Bool.{false≢true}
 use Rattle.zr_kinds.specs.declared.place.Place.{Place}
-use Rattle.area_layout.{specs.Layout.{IsLayout, LiesIn, pool_buffers, total, size_of}, proofs.Words.{words_apart}}
+use Rattle.area_layout.{specs.Layout.{IsLayout, LiesIn, pool_buffers, all_buffers, size_of}, proofs.Words.{words_apart}}
 use Rattle.board_face.specs.{Sides.{app_at}, NicEvents.{fresh}, Lists.{same_place}, Tokens.{filled_by, same_filling}, OwnBuffers.{IsOwnBuffer}, Returns.{loans_out}}
 use Rattle.board_face.specs.{AppEvents.{abandoned, got_spare, filled, owns_without, lent_own, own_bytes, begin_place}, AppCalls.{HasLoan, HasSpare, HasNoneIn, IsLive}}
 use Rattle.board_face.specs.declared.views.{parts.{Setting.{Setting}, Filling.{Filling}}, app.{Origin.TheVariants.{Copied as of_copy}, LentPiece.{LentPiece}}}
@@ -14,7 +14,7 @@ use Rattle.word_board.{specs.Hands.{AppKeeps}, proofs.{AppKept.{loan-lies, loan-
 use Rattle.word_board.proofs.SparesApart.{AreApartBuffers, IsElsewhere, HasLength, AllPairs-without, others-elsewhere, lengths-elsewhere, text-of_spare, own-of_spare}
 
 abbrev SpareLies : Setting → SpareOwn → Type 0
-SpareLies setting s = (s.own.buffer < total setting.layout) × (s.own.size ≡ size_of setting.layout s.own.buffer) × (256 ≤ s.own.size)
+SpareLies setting s = (s.own.buffer < all_buffers setting.layout) × (s.own.size ≡ size_of setting.layout s.own.buffer) × (256 ≤ s.own.size)
 
 abbrev TextIsShort : SpareOwn → Type 0
 TextIsShort s = length s.bytes ≤ 256
@@ -29,11 +29,11 @@ module _ (setting : Setting) (app : AppSide) (note entry : ℕ) (raw : Option �
 
   module _ (own : Filling) (out : HasSpare app.view own) where
     -- a spare that is out lies in a buffer, and has room for a short text
-    spare-lies : (own.buffer < total setting.layout) × (own.size ≡ size_of setting.layout own.buffer) × (256 ≤ own.size)
-    spare-lies = own-of_spare (λ o. (o.buffer < total setting.layout) × (o.size ≡ size_of setting.layout o.buffer) × (256 ≤ o.size)) own app.view.owns out
+    spare-lies : (own.buffer < all_buffers setting.layout) × (own.size ≡ size_of setting.layout own.buffer) × (256 ≤ own.size)
+    spare-lies = own-of_spare (λ o. (o.buffer < all_buffers setting.layout) × (o.size ≡ size_of setting.layout o.buffer) × (256 ≤ o.size)) own app.view.owns out
         kept.lies.spares
 
-    pub spare-within : own.buffer < total setting.layout
+    pub spare-within : own.buffer < all_buffers setting.layout
     spare-within = spare-lies.0
 
     pub spare-room : 256 ≤ own.size
@@ -158,7 +158,7 @@ module _ (setting : Setting) (app : AppSide) (note entry : ℕ) (raw : Option �
     abbrev given : SpareOwn
     given = record { own = fresh app.view.setting buffer; bytes = [] }
 
-    pub given-within : buffer < total setting.layout
+    pub given-within : buffer < all_buffers setting.layout
     given-within =
         let pool = ap (λ s. pool_buffers s.layout) kept.set in
         ⊎_elim (λ less. omega (arith, pool, less)) (λ e. omega (arith, pool, e, kept.here)) mine
@@ -207,7 +207,7 @@ module _ (setting : Setting) (app : AppSide) (note entry : ℕ) (raw : Option �
   -- ---- loans
 
   module _ (place : Place) (out : HasLoan app.view place) where
-    lies-there : place.buffer < total setting.layout
+    lies-there : place.buffer < all_buffers setting.layout
     lies-there = (loan-lies setting app place kept.lies out).buffer
 
     pub loan-there : place.buffer < length loans
@@ -245,7 +245,8 @@ module _ (setting : Setting) (app : AppSide) (note entry : ℕ) (raw : Option �
     none-beyond past = (
       λ e. absurd (false≢true e),
       λ live.
-          let within = All-contains (λ b. b < total setting.layout) (map (λ (l : LentPiece). l.place.buffer) app.view.loans) buffer
-          (All-map (λ b. b < total setting.layout) (λ (l : LentPiece). l.place.buffer) app.view.loans (λ k d there. (kept.lies.loans k d there).buffer)) live in
+          let within = All-contains (λ b. b < all_buffers setting.layout) (map (λ (l : LentPiece). l.place.buffer) app.view.loans) buffer
+          (All-map (λ b. b < all_buffers setting.layout) (λ (l : LentPiece). l.place.buffer) app.view.loans (λ k d there. (kept.lies.loans k d there).buffer))
+          live in
           absurd (omega (arith, within, past, kept.tokens.many.0)),
     )

@@ -1,10 +1,10 @@
 -- What a law says of words and sides is what the table asks of a step.
 use Rattle.std.proofs.{Common.{◌≡◌, ℕ, ◌+◌, ◌-◌, ◌%◌, ◌^◌, ◌<◌, ◌≤◌, List, [], set, get_or, refl, ap, sym, ◌∙◌, arith, subst}, lemmas.List.{set-get_or}}
 use Rattle.atomic_table.specs.{Table.{Me, keeps, Allows}, Seated.{TableId}}
-use Rattle.area_layout.specs.Layout.{total}
+use Rattle.area_layout.specs.Layout.{all_buffers}
 use Rattle.board_face.specs.{NicCalls.{apps_of}, Sides.{IsApp}, declared.views.{parts.Setting.{Setting}, nic.NicSide.{NicSide}, app.AppSide.{AppSide}}}
-use Rattle.ref_words.specs.{declared.view.View.{View}, Words.{Words, table_of, table_words, pool_at, pool_of, with_pool, user_at, user_of, with_user}}
-use Rattle.ref_words.specs.{Words.{note_at, with_note, refill_at, slot_word, with_refill}, Seated.{Seated, card_view, app_view}}
+use Rattle.ref_words.specs.{declared.view.View.{View}, Words.{Words, table_of, table_words, pool_at, pool_word_of, with_pool, user_word_at, user_word_of, with_user}}
+use Rattle.ref_words.specs.{Words.{note_at, with_note, refill_at, slot_word, with_refill}, Seated.{Seated, card_seat_view, app_seat_view}}
 use Rattle.ref_words.{specs.{Homes.{StandInSlots}, Rule.{BoardRule}}, proofs.Roles.{card-is, card-moves, app-is, app-moves}}
 use Rattle.ref_words.proofs.Laying.{pool-word, pool-set, user-word, user-set, note-word, note-set, refill-word, refill-set}
 use Rattle.word_rings.specs.Slots.{note_width, refill_width}
@@ -15,10 +15,10 @@ module _ (setting : Setting) (slots id i : ℕ) (f : ℕ → ℕ) (told : ℕ �
   pub card-step : (mine : NicSide) (next : ℕ → NicSide) → ((n : ℕ) → (next n).inside.making ≡ mine.inside.making)
       → ((words : Words) (apps : List AppSide) → BoardRule setting words mine apps → get_or (table_of words) i 0 < 2 ^ 64
       → MakesWords setting words i (f (get_or (table_of words) i 0)) (next (get_or (table_of words) i 0)) apps × told (get_or (table_of words) i 0))
-      → (me : Me (List ℕ) View) → me ≡ (card_view mine, [])
-      → Allows (IsBoard setting) slots id me i f (λ n w. (w ≡ (card_view (next n), me.1)) × told n)
+      → (me : Me (List ℕ) View) → me ≡ (card_seat_view mine, [])
+      → Allows (IsBoard setting) slots id me i f (λ n w. (w ≡ (card_seat_view (next n), me.1)) × told n)
   card-step mine next making law me sits =
-      subst (λ (x : Me (List ℕ) View). Allows (IsBoard setting) slots id x i f (λ n w. (w ≡ (card_view (next n), x.1)) × told n)) (sym sits)
+      subst (λ (x : Me (List ℕ) View). Allows (IsBoard setting) slots id x i f (λ n w. (w ≡ (card_seat_view (next n), x.1)) × told n)) (sym sits)
       (λ s board deep at small.
       let is : mine ≡ board.nic = card-is setting board.words.roles s.views board.nic board.apps board.seated id mine at in
       let both = law board.words board.apps (subst (λ x. BoardRule setting board.words x board.apps) (sym is) board.rule) (subst
@@ -26,7 +26,7 @@ module _ (setting : Setting) (slots id i : ℕ) (f : ℕ → ℕ) (told : ℕ �
       let made = both.0 in
       let n : ℕ = get_or s.words i 0 in
       let found : get_or (table_of board.words) i 0 ≡ n = ap (λ ws. get_or ws i 0) (sym board.laid) in (
-        card_view (next n),
+        card_seat_view (next n),
         keeps,
         tt,
         record {
@@ -36,7 +36,7 @@ module _ (setting : Setting) (slots id i : ℕ) (f : ℕ → ℕ) (told : ℕ �
           laid = ap (λ ws. set ws i (f (get_or s.words i 0))) board.laid ∙ (ap (λ m. set (table_of board.words) i (f m)) (sym found) ∙ made.laid);
           lines = stand-card setting made.words'.area board.nic (next n) board.apps s.homes (making n ∙ ap (λ x. x.inside.making) is)
               (subst (λ area. StandInSlots setting area board.nic board.apps s.homes) (sym made.area) board.lines);
-          seated = subst (λ roles. Seated setting roles (set s.views id (card_view (next n))) (next n) board.apps) (sym made.roles)
+          seated = subst (λ roles. Seated setting roles (set s.views id (card_seat_view (next n))) (next n) board.apps) (sym made.roles)
               (card-moves setting board.words.roles s.views board.nic board.apps board.seated id mine (next n) at);
           rule = subst (λ m. BoardRule setting made.words' (next m) board.apps) found made.rule;
         },
@@ -50,17 +50,17 @@ module _ (setting : Setting) (slots id i : ℕ) (f : ℕ → ℕ) (told : ℕ �
       → get_or (table_of words) i 0 < 2 ^ 64
       → MakesWords setting words i (f (get_or (table_of words) i 0)) nic (set apps mine.view.app (next (get_or (table_of words) i 0))) × told (get_or
       (table_of words) i 0))
-      → (me : Me (List ℕ) View) → me ≡ (app_view mine, [])
-      → Allows (IsBoard setting) slots id me i f (λ n w. (w ≡ (app_view (next n), me.1)) × told n)
+      → (me : Me (List ℕ) View) → me ≡ (app_seat_view mine, [])
+      → Allows (IsBoard setting) slots id me i f (λ n w. (w ≡ (app_seat_view (next n), me.1)) × told n)
   app-step mine next number making law me sits =
-      subst (λ (x : Me (List ℕ) View). Allows (IsBoard setting) slots id x i f (λ n w. (w ≡ (app_view (next n), x.1)) × told n)) (sym sits)
+      subst (λ (x : Me (List ℕ) View). Allows (IsBoard setting) slots id x i f (λ n w. (w ≡ (app_seat_view (next n), x.1)) × told n)) (sym sits)
       (λ s board deep at small.
       let here = app-is setting board.words.roles s.views board.nic board.apps board.seated id mine at board.rule.refs.sides.set.many in
       let both = law board.words board.nic board.apps board.rule here (subst (λ ws. get_or ws i 0 < 2 ^ 64) board.laid small) in
       let made = both.0 in
       let n : ℕ = get_or s.words i 0 in
       let found : get_or (table_of board.words) i 0 ≡ n = ap (λ ws. get_or ws i 0) (sym board.laid) in (
-        app_view (next n),
+        app_seat_view (next n),
         keeps,
         tt,
         record {
@@ -70,7 +70,7 @@ module _ (setting : Setting) (slots id i : ℕ) (f : ℕ → ℕ) (told : ℕ �
           laid = ap (λ ws. set ws i (f (get_or s.words i 0))) board.laid ∙ (ap (λ m. set (table_of board.words) i (f m)) (sym found) ∙ made.laid);
           lines = stand-app setting made.words'.area board.nic board.apps s.homes mine.view.app mine (next n) here (making n)
               (subst (λ area. StandInSlots setting area board.nic board.apps s.homes) (sym made.area) board.lines);
-          seated = subst (λ roles. Seated setting roles (set s.views id (app_view (next n))) board.nic (set board.apps mine.view.app (next n)))
+          seated = subst (λ roles. Seated setting roles (set s.views id (app_seat_view (next n))) board.nic (set board.apps mine.view.app (next n)))
               (sym made.roles)
               (app-moves setting board.words.roles s.views board.nic board.apps board.seated id mine (next n) at (number n) board.rule.refs.sides.set.many);
           rule = subst (λ m. BoardRule setting made.words' board.nic (set board.apps mine.view.app (next m))) found made.rule;
@@ -83,14 +83,14 @@ pub card-may : {card : TheNic} {i : ℕ} {f : ℕ → ℕ} {next : ℕ → NicSi
     → ((n : ℕ) → (next n).inside.making ≡ card.side.inside.making)
     → ((words : Words) (apps : List AppSide) → BoardRule card.board.setting words card.side apps → word_in words i < 2 ^ 64
     → MakesWords card.board.setting words i (f (word_in words i)) (next (word_in words i)) apps × told (word_in words i))
-    → MayStep card_view (λ _ _. Unit {0}) card i f next told
+    → MayStep card_seat_view (λ _ _. Unit {0}) card i f next told
 card-may {card} {i} {f} {next} {told} making law = record {
   stays = λ n. tt;
   allowed = λ slots id. card-step card.board.setting slots id i f told card.side next making law;
 }
 
 pub app-may : {app : TheApp} {i : ℕ} {f : ℕ → ℕ} {next : ℕ → AppSide} {told : ℕ → Type 0} → MayApp app i f next told
-    → MayStep app_view (λ old new. new.view.app ≡ old.view.app) app i f next told
+    → MayStep app_seat_view (λ old new. new.view.app ≡ old.view.app) app i f next told
 app-may {app} {i} {f} {next} {told} may = record {
   stays = may.number;
   allowed = λ slots id. app-step app.board.setting slots id i f told app.side next may.number may.making may.step;
@@ -139,8 +139,8 @@ mod-small n small = omega arith
 mod-less : (n k : ℕ) → 0 < k → k ≤ n → n < 2 ^ 64 → (n + (2 ^ 64 - k)) % 2 ^ 64 ≡ n - k
 mod-less n k some enough small = omega arith
 
-module _ (setting : Setting) (words : Words) (b i : ℕ) (at : i ≡ pool_at setting b) (within : b < total setting.layout) where
-  pub found : {nic : NicSide} {apps : List AppSide} → BoardRule setting words nic apps → get_or (table_of words) i 0 ≡ pool_of words b
+module _ (setting : Setting) (words : Words) (b i : ℕ) (at : i ≡ pool_at setting b) (within : b < all_buffers setting.layout) where
+  pub found : {nic : NicSide} {apps : List AppSide} → BoardRule setting words nic apps → get_or (table_of words) i 0 ≡ pool_word_of words b
   found rule = ap (λ x. get_or (table_of words) x 0) at ∙ pool-word setting words rule.refs.sizes b (omega (arith, within, rule.refs.sizes.pool))
 
   -- the words with n in the buffer's pool count
@@ -156,53 +156,53 @@ module _ (setting : Setting) (words : Words) (b i : ℕ) (at : i ≡ pool_at set
   }
 
   -- where a law raises a pool count, adding 1 to its word does
-  pub raises : {nic now : NicSide} {apps apps' : List AppSide} → BoardRule setting words nic apps → pool_of words b + 1 < 2 ^ 64
-      → BoardRule setting (with_pool words b (pool_of words b + 1)) now apps' → MakesWords setting words i ((get_or (table_of words) i 0 + 1) % 2 ^ 64) now apps'
+  pub raises : {nic now : NicSide} {apps apps' : List AppSide} → BoardRule setting words nic apps → pool_word_of words b + 1 < 2 ^ 64
+      → BoardRule setting (with_pool words b (pool_word_of words b + 1)) now apps' → MakesWords setting words i ((get_or (table_of words) i 0 + 1) % 2 ^ 64) now apps'
   raises rule few after =
-      makes-pool rule _ (pool_of words b + 1) (ap (λ x. (x + 1) % 2 ^ 64) (found rule) ∙ mod-small (pool_of words b + 1) few) after
+      makes-pool rule _ (pool_word_of words b + 1) (ap (λ x. (x + 1) % 2 ^ 64) (found rule) ∙ mod-small (pool_word_of words b + 1) few) after
 
   -- where a law takes k of it, subtracting k does
-  pub lowers : {nic now : NicSide} {apps apps' : List AppSide} → BoardRule setting words nic apps → (k : ℕ) → 0 < k → k ≤ pool_of words b
-      → get_or (table_of words) i 0 < 2 ^ 64 → BoardRule setting (with_pool words b (pool_of words b - k)) now apps'
+  pub lowers : {nic now : NicSide} {apps apps' : List AppSide} → BoardRule setting words nic apps → (k : ℕ) → 0 < k → k ≤ pool_word_of words b
+      → get_or (table_of words) i 0 < 2 ^ 64 → BoardRule setting (with_pool words b (pool_word_of words b - k)) now apps'
       → MakesWords setting words i ((get_or (table_of words) i 0 + (2 ^ 64 - k)) % 2 ^ 64) now apps'
   lowers rule k some enough small after =
-      makes-pool rule _ (pool_of words b - k)
+      makes-pool rule _ (pool_word_of words b - k)
       (mod-less (get_or (table_of words) i 0) k some (omega (arith, found rule, enough)) small ∙ ap (λ x. x - k) (found rule)) after
 
   -- what an event does with the count, it does with the number found
-  pub of-count : {nic : NicSide} {apps : List AppSide} → BoardRule setting words nic apps → (P : ℕ → Type 0) → P (pool_of words b)
+  pub of-count : {nic : NicSide} {apps : List AppSide} → BoardRule setting words nic apps → (P : ℕ → Type 0) → P (pool_word_of words b)
       → P (get_or (table_of words) i 0)
   of-count rule P p = subst P (sym (found rule)) p
 
 -- ---- a user count
 
-module _ (setting : Setting) (words : Words) (a b i : ℕ) (at : i ≡ user_at setting a b) (few : a < apps_of setting)
-    (within : b < total setting.layout) where
-  found-user : {nic : NicSide} {apps : List AppSide} → BoardRule setting words nic apps → get_or (table_of words) i 0 ≡ user_of words a b
+module _ (setting : Setting) (words : Words) (a b i : ℕ) (at : i ≡ user_word_at setting a b) (few : a < apps_of setting)
+    (within : b < all_buffers setting.layout) where
+  found-user : {nic : NicSide} {apps : List AppSide} → BoardRule setting words nic apps → get_or (table_of words) i 0 ≡ user_word_of words a b
   found-user rule = ap (λ x. get_or (table_of words) x 0) at ∙ user-word setting words rule.refs.sizes a b (omega (arith, few, rule.refs.sizes.users)) within
 
   makes-user : {nic now : NicSide} {apps apps' : List AppSide} → BoardRule setting words nic apps → (m n : ℕ) → m ≡ n
       → BoardRule setting (with_user words a b n) now apps' → MakesWords setting words i m now apps'
   makes-user rule m n is after = record {
     words' = with_user words a b n;
-    laid = ap (λ x. set (table_of words) x m) at ∙ (ap (λ x. set (table_of words) (user_at setting a b) x) is
+    laid = ap (λ x. set (table_of words) x m) at ∙ (ap (λ x. set (table_of words) (user_word_at setting a b) x) is
         ∙ user-set setting words rule.refs.sizes a b n (omega (arith, few, rule.refs.sizes.users)) within);
     roles = refl;
     area = refl;
     rule = after;
   }
 
-  pub raises-user : {nic now : NicSide} {apps apps' : List AppSide} → BoardRule setting words nic apps → user_of words a b + 1 < 2 ^ 64
-      → BoardRule setting (with_user words a b (user_of words a b + 1)) now apps'
+  pub raises-user : {nic now : NicSide} {apps apps' : List AppSide} → BoardRule setting words nic apps → user_word_of words a b + 1 < 2 ^ 64
+      → BoardRule setting (with_user words a b (user_word_of words a b + 1)) now apps'
       → MakesWords setting words i ((get_or (table_of words) i 0 + 1) % 2 ^ 64) now apps'
   raises-user rule small after =
-      makes-user rule _ (user_of words a b + 1) (ap (λ x. (x + 1) % 2 ^ 64) (found-user rule) ∙ mod-small (user_of words a b + 1) small) after
+      makes-user rule _ (user_word_of words a b + 1) (ap (λ x. (x + 1) % 2 ^ 64) (found-user rule) ∙ mod-small (user_word_of words a b + 1) small) after
 
-  pub lowers-user : {nic now : NicSide} {apps apps' : List AppSide} → BoardRule setting words nic apps → 0 < user_of words a b
-      → get_or (table_of words) i 0 < 2 ^ 64 → BoardRule setting (with_user words a b (user_of words a b - 1)) now apps'
+  pub lowers-user : {nic now : NicSide} {apps apps' : List AppSide} → BoardRule setting words nic apps → 0 < user_word_of words a b
+      → get_or (table_of words) i 0 < 2 ^ 64 → BoardRule setting (with_user words a b (user_word_of words a b - 1)) now apps'
       → MakesWords setting words i ((get_or (table_of words) i 0 + (2 ^ 64 - 1)) % 2 ^ 64) now apps'
   lowers-user rule enough small after =
-      makes-user rule _ (user_of words a b - 1)
+      makes-user rule _ (user_word_of words a b - 1)
       (mod-less (get_or (table_of words) i 0) 1 (omega arith) (omega (arith, found-user rule, enough)) small ∙ ap (λ x. x - 1) (found-user rule)) after
 
   -- where a law leaves 0, swapping the word with 0 does
@@ -214,7 +214,7 @@ module _ (setting : Setting) (words : Words) (a b i : ℕ) (at : i ≡ user_at s
   pub looks : {now : NicSide} {apps' : List AppSide} → BoardRule setting words now apps' → MakesWords setting words i (get_or (table_of words) i 0) now apps'
   looks after = record { words' = words; laid = set-get_or (table_of words) i 0; roles = refl; area = refl; rule = after }
 
-  pub of-user : {nic : NicSide} {apps : List AppSide} → BoardRule setting words nic apps → (P : ℕ → Type 0) → P (user_of words a b)
+  pub of-user : {nic : NicSide} {apps : List AppSide} → BoardRule setting words nic apps → (P : ℕ → Type 0) → P (user_word_of words a b)
       → P (get_or (table_of words) i 0)
   of-user rule P p = subst P (sym (found-user rule)) p
 

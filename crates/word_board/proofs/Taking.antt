@@ -8,8 +8,8 @@ use lib.ListN.{get_elem?}
 use Rattle.zr_kinds.specs.declared.place.Place.{Place}
 use Rattle.area_layout.{specs.Layout.{Shape, LiesIn}}
 use Rattle.board_face.specs.{Sides.{IsApp}, declared.views.{parts.Setting.{Setting}, nic.NicSide.{NicSide}, app.AppSide.{AppSide}}}
-use Rattle.ref_words.specs.{declared.view.View.{View}, Words.{Words, table_of, phase_at, with_lines}, Lines.{begin_line, line_count, has_line, has_out, lines_of, laid, AreWide}}
-use Rattle.ref_words.specs.{Homes.{IsHome, AreHome, StandInSlots}, AreaSteps.{at_hand}, Seated.{Seated, card_view, app_view}, Rule.{BoardRule}}
+use Rattle.ref_words.specs.{declared.view.View.{View}, Words.{Words, table_of, phase_at, with_lines}, Lines.{begin_line, line_count, has_line, has_out, lines_at, laid, AreWide}}
+use Rattle.ref_words.specs.{Homes.{IsHome, AreHome, StandInSlots}, AreaSteps.{making_in_hand}, Seated.{Seated, card_seat_view, app_seat_view}, Rule.{BoardRule}}
 use Rattle.ref_words.proofs.{Roles.{card-is, card-moves, app-is, app-moves}, LaidLines.{length-laid, laid-other, laid-at, lines-wide, lines-inside}}
 use Rattle.atomic_table.specs.{Table.{Me, Allows, Valid, carried_after, homes_after}, Seated.{TableId}}
 use Rattle.word_board.specs.{Board.{IsBoard, TheSeat, TheNic, TheApp}, Lines.{numbered, TookLines}, Steps.{MakesWords, MayTake, MayGive, word_in}}
@@ -45,16 +45,16 @@ module _ (layout : Shape) (p : Place) where
       (cases_lt k (begin_line layout p))
 
   module _ (area : List (List ℕ)) (inside : begin_line layout p + line_count p ≤ length area) where
-    many-lines : length (lines_of layout area p) ≡ line_count p
+    many-lines : length (lines_at layout area p) ≡ line_count p
     many-lines = omega (arith, length-take (line_count p) (drop (begin_line layout p) area), length-drop (begin_line layout p) area)
 
-    line-of : (j : ℕ) → j < line_count p → get_or (lines_of layout area p) j [] ≡ get_or area (begin_line layout p + j) []
+    line-of : (j : ℕ) → j < line_count p → get_or (lines_at layout area p) j [] ≡ get_or area (begin_line layout p + j) []
     line-of j less = get_or-take (line_count p) (drop (begin_line layout p) area) j [] less ∙ get_or-drop (begin_line layout p) area j []
 
     -- to lay the lines that stand there changes nothing
-    pub laid-back : laid area (begin_line layout p) (lines_of layout area p) ≡ area
+    pub laid-back : laid area (begin_line layout p) (lines_at layout area p) ≡ area
     laid-back =
-        let lines = lines_of layout area p in
+        let lines = lines_at layout area p in
         let first = begin_line layout p in
         ext_get_or [] (laid area first lines) area (length-laid area first lines) (λ k less.
         let bound : k < length area = omega (arith, less, length-laid area first lines) in
@@ -77,11 +77,11 @@ module _ (setting : Setting) (area : List (List ℕ)) (homes : List (Option (Lis
   -- The lines of a place are taken, and are not at home then.
   slots-taken : AreHome setting nic apps place
       → ((k : ℕ) → IsHome setting nic' apps' k → (has_line setting.layout k place ≡ false) × IsHome setting nic apps k)
-      → Valid homes [] (taking (begin_line setting.layout place) (lines_of setting.layout area place))
-      × StandInSlots setting area nic' apps' (homes_after homes [] (taking (begin_line setting.layout place) (lines_of setting.layout area place)))
+      → Valid homes [] (taking (begin_line setting.layout place) (lines_at setting.layout area place))
+      × StandInSlots setting area nic' apps' (homes_after homes [] (taking (begin_line setting.layout place) (lines_at setting.layout area place)))
   slots-taken home still =
       let first = begin_line setting.layout place in
-      let lines = lines_of setting.layout area place in
+      let lines = lines_at setting.layout area place in
       let long = many-lines setting.layout place area inside in (
         taking-valid first lines homes (λ j less.
             let small : j < line_count place = omega (arith, less, long) in
@@ -165,26 +165,26 @@ app-now P apps a old new here all =
 -- The card may take the lines of a place where its law holds for all words and applications.
 pub card-take : (card : TheNic) (i : ℕ) (f : ℕ → ℕ) (first many : ℕ) (place : Place) (next : List (List ℕ) → NicSide) (out : List (List ℕ) → List ℕ)
     (told : List (List ℕ) → Type 0) → first ≡ begin_line card.board.setting.layout place → LiesIn card.board.setting.layout place → 0 < place.len
-    → card.side.inside.making ≡ None → ((lines : List (List ℕ)) → (next lines).inside.making ≡ at_hand place (out lines))
+    → card.side.inside.making ≡ None → ((lines : List (List ℕ)) → (next lines).inside.making ≡ making_in_hand place (out lines))
     → ((words : Words) (apps : List AppSide) → BoardRule card.board.setting words card.side apps → word_in words i < 2 ^ 64
-    → MakesWords card.board.setting words i (f (word_in words i)) (next (lines_of card.board.setting.layout words.area place)) apps
-    × (line_count place ≡ many) × AreHome card.board.setting card.side apps place × told (lines_of card.board.setting.layout words.area place))
-    → MayTake card_view card i f first many next told
+    → MakesWords card.board.setting words i (f (word_in words i)) (next (lines_at card.board.setting.layout words.area place)) apps
+    × (line_count place ≡ many) × AreHome card.board.setting card.side apps place × told (lines_at card.board.setting.layout words.area place))
+    → MayTake card_seat_view card i f first many next told
 card-take card i f first' many place next out told at_first lies full idle takes law =
-    subst (λ x. MayTake card_view card i f x many next told) (sym at_first) (record {
+    subst (λ x. MayTake card_seat_view card i f x many next told) (sym at_first) (record {
       allowed = λ slots id me sits.
           let setting = card.board.setting in
           let mine = card.side in
           let first = begin_line setting.layout place in
           subst (λ (x : Me (List ℕ) View). Allows (IsBoard setting) slots id x i f
-          (λ n w. TookLines first many (λ lines. card_view (next lines)) told w)) (sym sits)
+          (λ n w. TookLines first many (λ lines. card_seat_view (next lines)) told w)) (sym sits)
           (λ s board deep at small.
           let is : mine ≡ board.nic = card-is setting board.words.roles s.views board.nic board.apps board.seated id mine at in
           let rule = subst (λ x. BoardRule setting board.words x board.apps) (sym is) board.rule in
           let law_now = law board.words board.apps rule (subst (λ ws. get_or ws i 0 < 2 ^ 64) board.laid small) in
           let made = law_now.0 in
           let area = board.words.area in
-          let lines = lines_of setting.layout area place in
+          let lines = lines_at setting.layout area place in
           let sizes = rule.refs.sizes in
           let inside = lines-inside setting.layout area rule.refs.layout sizes.area sizes.lines place lies full in
           let found : get_or (table_of board.words) i 0 ≡ get_or s.words i 0 = ap (λ ws. get_or ws i 0) (sym board.laid) in
@@ -194,7 +194,7 @@ card-take card i f first' many place next out told at_first lies full idle takes
             ap (has_out setting.layout k) (sym (takes lines)) ∙ is_home.card,
             record { card = ap (has_out setting.layout k) idle; others = is_home.others },
           )) in (
-            card_view (next lines),
+            card_seat_view (next lines),
             taking first lines,
             homes.0,
             record {
@@ -203,11 +203,11 @@ card-take card i f first' many place next out told at_first lies full idle takes
               apps = board.apps;
               laid = ap (λ ws. set ws i (f (get_or s.words i 0))) board.laid ∙ (ap (λ m. set (table_of board.words) i (f m)) (sym found) ∙ made.laid);
               lines = subst (λ rows. StandInSlots setting rows (next lines) board.apps (homes_after s.homes [] (taking first lines))) (sym made.area) homes.1;
-              seated = subst (λ roles. Seated setting roles (set s.views id (card_view (next lines))) (next lines) board.apps) (sym made.roles)
+              seated = subst (λ roles. Seated setting roles (set s.views id (card_seat_view (next lines))) (next lines) board.apps) (sym made.roles)
                   (card-moves setting board.words.roles s.views board.nic board.apps board.seated id mine (next lines) at);
               rule = made.rule;
             },
-            took first many (λ ls. card_view (next ls)) told lines (many-lines setting.layout place area inside ∙ law_now.1)
+            took first many (λ ls. card_seat_view (next ls)) told lines (many-lines setting.layout place area inside ∙ law_now.1)
                 (lines-wide setting.layout place area sizes.lines) law_now.3,
           ));
     })
@@ -215,24 +215,24 @@ card-take card i f first' many place next out told at_first lies full idle takes
 -- It may give them back where its law holds for the area with these lines.
 pub card-give : (card : TheNic) (first : ℕ) (place : Place) (bytes : List ℕ) (lines : List (List ℕ)) (next : NicSide)
     → first ≡ begin_line card.board.setting.layout place → LiesIn card.board.setting.layout place → 0 < place.len
-    → card.side.inside.making ≡ at_hand place bytes → length lines ≡ line_count place
+    → card.side.inside.making ≡ making_in_hand place bytes → length lines ≡ line_count place
     → ((words : Words) (apps : List AppSide) → BoardRule card.board.setting words card.side apps
     → BoardRule card.board.setting (with_lines words (begin_line card.board.setting.layout place) lines) next apps)
-    → MayGive card_view card first lines next
-card-give card first' place bytes lines next at_first lies full out long law = subst (λ x. MayGive card_view card x lines next) (sym at_first) (record {
+    → MayGive card_seat_view card first lines next
+card-give card first' place bytes lines next at_first lies full out long law = subst (λ x. MayGive card_seat_view card x lines next) (sym at_first) (record {
   allowed = λ slots id me sits.
       let setting = card.board.setting in
       let mine = card.side in
       let first = begin_line setting.layout place in
       let i : ℕ = phase_at setting 0 in
-      subst (λ (x : Me (List ℕ) View). Allows (IsBoard setting) slots id x i (λ n. n) (λ n w. w ≡ (card_view next, []))) (sym sits)
+      subst (λ (x : Me (List ℕ) View). Allows (IsBoard setting) slots id x i (λ n. n) (λ n w. w ≡ (card_seat_view next, []))) (sym sits)
       (λ s board deep at small.
       let is : mine ≡ board.nic = card-is setting board.words.roles s.views board.nic board.apps board.seated id mine at in
       let rule = subst (λ x. BoardRule setting board.words x board.apps) (sym is) board.rule in
       let area = board.words.area in
       let sizes = rule.refs.sizes in
       let inside = lines-inside setting.layout area rule.refs.layout sizes.area sizes.lines place lies full in (
-        card_view next,
+        card_seat_view next,
         giving (numbered first lines),
         giving-valid (numbered first lines) s.homes,
         record {
@@ -246,7 +246,7 @@ card-give card first' place bytes lines next at_first lies full out long law = s
           seated = card-moves setting board.words.roles s.views board.nic board.apps board.seated id mine next at;
           rule = law board.words board.apps rule;
         },
-        ap (λ xs. (card_view next, xs)) (given (numbered first lines)),
+        ap (λ xs. (card_seat_view next, xs)) (given (numbered first lines)),
       ));
 })
 
@@ -256,22 +256,23 @@ card-give card first' place bytes lines next at_first lies full out long law = s
 pub app-take : (app : TheApp) (i : ℕ) (f : ℕ → ℕ) (first many : ℕ) (place : Place) (next : List (List ℕ) → AppSide) (out : List (List ℕ) → List ℕ)
     (told : List (List ℕ) → Type 0) → first ≡ begin_line app.board.setting.layout place → line_count place ≡ many
     → LiesIn app.board.setting.layout place → 0 < place.len → app.side.inside.making ≡ None
-    → ((lines : List (List ℕ)) → (next lines).inside.making ≡ at_hand place (out lines)) → ((lines : List (List ℕ)) → (next lines).view.app ≡ app.side.view.app)
+    → ((lines : List (List ℕ)) → (next lines).inside.making ≡ making_in_hand place (out lines))
+    → ((lines : List (List ℕ)) → (next lines).view.app ≡ app.side.view.app)
     → ((words : Words) (nic : NicSide) (apps : List AppSide) → BoardRule app.board.setting words nic apps → IsApp apps app.side.view.app app.side
     → word_in words i < 2 ^ 64
     → MakesWords app.board.setting words i (f (word_in words i)) nic
-    (set apps app.side.view.app (next (lines_of app.board.setting.layout words.area place)))
-    × AreHome app.board.setting nic apps place × told (lines_of app.board.setting.layout words.area place))
-    → MayTake app_view app i f first many next told
+    (set apps app.side.view.app (next (lines_at app.board.setting.layout words.area place)))
+    × AreHome app.board.setting nic apps place × told (lines_at app.board.setting.layout words.area place))
+    → MayTake app_seat_view app i f first many next told
 app-take app i f first' many place next out told at_first count lies full idle takes number law =
-    subst (λ x. MayTake app_view app i f x many next told) (sym at_first) (record {
+    subst (λ x. MayTake app_seat_view app i f x many next told) (sym at_first) (record {
       allowed = λ slots id me sits.
           let setting = app.board.setting in
           let mine = app.side in
           let a = mine.view.app in
           let first = begin_line setting.layout place in
           subst (λ (x : Me (List ℕ) View). Allows (IsBoard setting) slots id x i f
-          (λ n w. TookLines first many (λ lines. app_view (next lines)) told w)) (sym sits)
+          (λ n w. TookLines first many (λ lines. app_seat_view (next lines)) told w)) (sym sits)
           (λ s board deep at small.
           let rule = board.rule in
           let apps = board.apps in
@@ -279,7 +280,7 @@ app-take app i f first' many place next out told at_first count lies full idle t
           let law_now = law board.words board.nic apps rule here (subst (λ ws. get_or ws i 0 < 2 ^ 64) board.laid small) in
           let made = law_now.0 in
           let area = board.words.area in
-          let lines = lines_of setting.layout area place in
+          let lines = lines_at setting.layout area place in
           let sizes = rule.refs.sizes in
           let inside = lines-inside setting.layout area rule.refs.layout sizes.area sizes.lines place lies full in
           let found : get_or (table_of board.words) i 0 ≡ get_or s.words i 0 = ap (λ ws. get_or ws i 0) (sym board.laid) in
@@ -293,7 +294,7 @@ app-take app i f first' many place next out told at_first count lies full idle t
                   (ap (has_out setting.layout k) idle);
             },
           )) in (
-            app_view (next lines),
+            app_seat_view (next lines),
             taking first lines,
             homes.0,
             record {
@@ -303,29 +304,29 @@ app-take app i f first' many place next out told at_first count lies full idle t
               laid = ap (λ ws. set ws i (f (get_or s.words i 0))) board.laid ∙ (ap (λ m. set (table_of board.words) i (f m)) (sym found) ∙ made.laid);
               lines = subst (λ rows. StandInSlots setting rows board.nic (set apps a (next lines)) (homes_after s.homes [] (taking first lines))) (sym made.area)
                   homes.1;
-              seated = subst (λ roles. Seated setting roles (set s.views id (app_view (next lines))) board.nic (set apps a (next lines))) (sym made.roles)
+              seated = subst (λ roles. Seated setting roles (set s.views id (app_seat_view (next lines))) board.nic (set apps a (next lines))) (sym made.roles)
                   (app-moves setting board.words.roles s.views board.nic apps board.seated id mine (next lines) at (number lines) rule.refs.sides.set.many);
               rule = made.rule;
             },
-            took first many (λ ls. app_view (next ls)) told lines (many-lines setting.layout place area inside ∙ count)
+            took first many (λ ls. app_seat_view (next ls)) told lines (many-lines setting.layout place area inside ∙ count)
                 (lines-wide setting.layout place area sizes.lines) law_now.2,
           ));
     })
 
 pub app-give : (app : TheApp) (first : ℕ) (place : Place) (bytes : List ℕ) (lines : List (List ℕ)) (next : AppSide)
     → first ≡ begin_line app.board.setting.layout place → LiesIn app.board.setting.layout place → 0 < place.len
-    → app.side.inside.making ≡ at_hand place bytes → length lines ≡ line_count place → next.view.app ≡ app.side.view.app
+    → app.side.inside.making ≡ making_in_hand place bytes → length lines ≡ line_count place → next.view.app ≡ app.side.view.app
     → ((words : Words) (nic : NicSide) (apps : List AppSide) → BoardRule app.board.setting words nic apps → IsApp apps app.side.view.app app.side
     → BoardRule app.board.setting (with_lines words (begin_line app.board.setting.layout place) lines) nic (set apps app.side.view.app next))
-    → MayGive app_view app first lines next
-app-give app first' place bytes lines next at_first lies full out long number law = subst (λ x. MayGive app_view app x lines next) (sym at_first) (record {
+    → MayGive app_seat_view app first lines next
+app-give app first' place bytes lines next at_first lies full out long number law = subst (λ x. MayGive app_seat_view app x lines next) (sym at_first) (record {
   allowed = λ slots id me sits.
       let setting = app.board.setting in
       let mine = app.side in
       let a = mine.view.app in
       let first = begin_line setting.layout place in
       let i : ℕ = phase_at setting 0 in
-      subst (λ (x : Me (List ℕ) View). Allows (IsBoard setting) slots id x i (λ n. n) (λ n w. w ≡ (app_view next, []))) (sym sits)
+      subst (λ (x : Me (List ℕ) View). Allows (IsBoard setting) slots id x i (λ n. n) (λ n w. w ≡ (app_seat_view next, []))) (sym sits)
       (λ s board deep at small.
       let rule = board.rule in
       let apps = board.apps in
@@ -333,7 +334,7 @@ app-give app first' place bytes lines next at_first lies full out long number la
       let area = board.words.area in
       let sizes = rule.refs.sizes in
       let inside = lines-inside setting.layout area rule.refs.layout sizes.area sizes.lines place lies full in (
-        app_view next,
+        app_seat_view next,
         giving (numbered first lines),
         giving-valid (numbered first lines) s.homes,
         record {
@@ -350,13 +351,13 @@ app-give app first' place bytes lines next at_first lies full out long number la
           seated = app-moves setting board.words.roles s.views board.nic apps board.seated id mine next at number rule.refs.sides.set.many;
           rule = law board.words board.nic apps rule here;
         },
-        ap (λ xs. (app_view next, xs)) (given (numbered first lines)),
+        ap (λ xs. (app_seat_view next, xs)) (given (numbered first lines)),
       ));
 })
 
 -- Lines that are given back as they stand leave the area as it is.
 pub kept-lines : (setting : Setting) (words : Words) (place : Place) (lines : List (List ℕ)) (nic : NicSide) (apps apps' : List AppSide)
-    → LiesIn setting.layout place → 0 < place.len → BoardRule setting words nic apps → lines_of setting.layout words.area place ≡ lines
+    → LiesIn setting.layout place → 0 < place.len → BoardRule setting words nic apps → lines_at setting.layout words.area place ≡ lines
     → BoardRule setting words nic apps' → BoardRule setting (with_lines words (begin_line setting.layout place) lines) nic apps'
 kept-lines setting words place lines nic apps apps' lies full rule same after =
     let sizes = rule.refs.sizes in

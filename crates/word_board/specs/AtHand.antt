@@ -2,7 +2,7 @@
 -- buffer, a search that it may begin, a scrub.
 use Rattle.std.specs.Prelude.{◌≡◌, ℕ, ◌<◌, ◌≤◌, true, false, List, [], Some, None, slice_index}
 use Rattle.zr_kinds.specs.declared.ring.Rqe.{Rqe}
-use Rattle.area_layout.specs.Layout.{IsLayout, total}
+use Rattle.area_layout.specs.Layout.{IsLayout, all_buffers}
 use Rattle.board_face.specs.{NicCalls.{apps_of, DealtWith}, AppCalls.{CanScrub, MaySpare, NamesNoLoan}, AppEvents.{reserve_of}, SlotSteps.{next_slot}, Used.{PicksAreGiven}}
 use Rattle.board_face.specs.declared.{answers.Entry.{Entry}, views.{nic.{Judged.{Judged}, SentNote.{SentNote}}, app.WrittenEntry.{WrittenEntry}}}
 use Rattle.word_rings.specs.Slots.{payload_width, IsBlankFrom, entry_body}
@@ -96,14 +96,14 @@ pub record MaySearch (app : TheApp) : Type 0 where
 
 -- This is its reserve, a buffer of the board.
 pub record IsReserve (app : TheApp) (buffer : ℕ) : Type 0 where
-  pub within : buffer < total app.board.setting.layout
+  pub within : buffer < all_buffers app.board.setting.layout
   pub own : buffer ≡ reserve_of app.side.view
 
 -- ---- a scrub
 
 -- An application's scrub came to this buffer.
 pub record ScrubsAt (app : TheApp) (b : ℕ) : Type 0 where
-  pub within : b < total app.board.setting.layout
+  pub within : b < all_buffers app.board.setting.layout
   pub next : app.side.inside.scrub_mark ≡ b
   pub can : CanScrub app.side.view
 

@@ -1,7 +1,7 @@
 -- What holds of the table between any two steps, and what its seats are.
 use Rattle.std.specs.Prelude.{◌≡◌, ℕ, ◌<◌, Bool, true, false, if◌then◌else◌, List, [], ◌∷◌, slice_index_or, slice_index, slice_set, replicate, take, Option, Some, None}
 use Rattle.atomic_table.specs.{Table.{State}, Seated.{TableId}}
-use Rattle.area_layout.specs.Layout.{IsLayout, shape_of, total}
+use Rattle.area_layout.specs.Layout.{IsLayout, shape_of, all_buffers}
 use Rattle.zr_kinds.specs.declared.{place.Note.{Note}, ring.Rqe.{Rqe}}
 use Rattle.board_face.specs.{AppEvents.{scrubbed}, SlotSteps.{seen_with, side_entry_looked, side_took_note, side_took_linear}}
 use Rattle.board_face.specs.{declared.views.nic.Judged.TheVariants.{Not}, Opened.{new_nic, new_app}, Steps.{side_user_taken, side_owes_lowered}}
@@ -34,11 +34,11 @@ first_app [] = new_app no_setting 0
 first_app (app ∷ apps) = app
 
 -- the side of the card's seat, and that of an application's
-abbrev pub card_of : View → NicSide
-card_of v = first_nic v.nics
+abbrev pub card_of_seat : View → NicSide
+card_of_seat v = first_nic v.nics
 
-abbrev pub app_of : View → AppSide
-app_of v = first_app v.apps
+abbrev pub app_of_seat : View → AppSide
+app_of_seat v = first_app v.apps
 
 -- ---- a scrub
 
@@ -54,7 +54,7 @@ pub record ScrubbedAll (old new : AppSide) : Type 0 where
   pub owes : List ℕ
   pub event : new ≡ record {
     view = scrubbed old.view;
-    inside = record old.inside { scrub_mark = total old.view.setting.layout; scrub_took = took; scrub_owes = owes };
+    inside = record old.inside { scrub_mark = all_buffers old.view.setting.layout; scrub_took = took; scrub_owes = owes };
   }
   pub clear : (b : ℕ) → slice_index owes b ≡ 0
 
@@ -79,7 +79,7 @@ side_full_taken app note bytes = if note.split then side_took_note app note else
 -- ---- what callers see
 
 -- its layout is one, and each ring has a slot
-pub record IsSetting (setting : Setting) : Type 0 where
+pub record IsBoardSetting (setting : Setting) : Type 0 where
   pub layout : IsLayout setting.layout
   pub places : 0 < setting.places
 

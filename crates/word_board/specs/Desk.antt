@@ -3,11 +3,11 @@ use Rattle.std.specs.Prelude.{◌≡◌, ℕ, ◌<◌, List, [], ◌∷◌, leng
 use mathlib.Core.Option.{some}
 use lib.ListN.{get_elem?}
 use Rattle.atomic_table.specs.Table.{State}
-use Rattle.area_layout.specs.Layout.{total}
+use Rattle.area_layout.specs.Layout.{all_buffers}
 use Rattle.board_face.specs.{NicCalls.{apps_of}, Counts.{pool_count, user_count}, Ended.{IsServed}, Relay.{IsProper}, declared.views.parts.Setting.{Setting}}
 use Rattle.board_face.specs.declared.views.nic.NicSide.{NicSide}
-use Rattle.ref_words.specs.{declared.view.View.{View}, Seated.{both_sides}, Over.{CardIsOver, AppIsOver}, Words.{pool_at, user_at}}
-use Rattle.word_board.specs.Board.{IsBoard, TheDesk, card_of}
+use Rattle.ref_words.specs.{declared.view.View.{View}, Seated.{both_sides}, Over.{CardIsOver, AppIsOver}, Words.{pool_at, user_word_at}}
+use Rattle.word_board.specs.Board.{IsBoard, TheDesk, card_of_seat}
 
 -- The roles that are back are over: the card ended, and the applications left, and none is in the middle of anything. No role is due.
 pub record AreOver (v : View) : Type 0 where
@@ -40,13 +40,13 @@ pub record AllAreBack (setting : Setting) (v : View) : Type 0 where
 
 -- no buffer has a holder, and no application owes any
 pub record HasNoHolders (v : View) : Type 0 where
-  pub pool : (b : ℕ) → pool_count b (card_of v) v.apps ≡ 0
-  pub users : (a b : ℕ) → user_count a b (card_of v) v.apps ≡ 0
+  pub pool : (b : ℕ) → pool_count b (card_of_seat v) v.apps ≡ 0
+  pub users : (a b : ℕ) → user_count a b (card_of_seat v) v.apps ≡ 0
 
 -- Each word of counts is 0, those of the reserves too: the pool count of each buffer, and each application's user count for it.
 pub record HaveNoCounts (setting : Setting) (words : List ℕ) : Type 0 where
-  pub pool : (b : ℕ) → b < total setting.layout → slice_index words (pool_at setting b) ≡ 0
-  pub users : (a b : ℕ) → a < apps_of setting → b < total setting.layout → slice_index words (user_at setting a b) ≡ 0
+  pub pool : (b : ℕ) → b < all_buffers setting.layout → slice_index words (pool_at setting b) ≡ 0
+  pub users : (a b : ℕ) → a < apps_of setting → b < all_buffers setting.layout → slice_index words (user_word_at setting a b) ≡ 0
 
 -- However the table stands by its rule while its first seat, the desk, has this view: each word of counts is 0.
 abbrev pub CountsAreOver : Setting → View → Type 0

@@ -2,7 +2,7 @@
 -- beside the words tells of its side.
 use Rattle.std.specs.Prelude.{◌≡◌, ◌≢◌, ℕ, ◌+◌, ◌*◌, ◌%◌, ◌<◌, ◌≤◌, ◌==◌, true, false, List, [], length, filter, All, AllPairs}
 use Rattle.std.specs.Prelude.{replicate, slice_index, Option, Some, None, MatchOption}
-use Rattle.area_layout.specs.Layout.{LiesIn, pool_buffers, total, size_of}
+use Rattle.area_layout.specs.Layout.{LiesIn, pool_buffers, all_buffers, size_of}
 use Rattle.board_face.specs.{NicCalls.{apps_of}, Returns.{loans_out}, Used.{PicksAreGiven}, declared.views.{parts.Setting.{Setting}, nic.NicSide.{NicSide}}}
 use Rattle.board_face.specs.{declared.views.{app.AppSide.{AppSide}, nic.SentNote.{SentNote}, parts.Slot.{Slot}}, SlotSteps.{next_slot}}
 use Rattle.word_rings.specs.Slots.{note_width, payload_width, IsBlankFrom}
@@ -59,15 +59,15 @@ pub record AppRests (setting : Setting) (app : AppSide) : Type 0 where
 pub record AppLies (setting : Setting) (app : AppSide) : Type 0 where
   pub helds : All (λ h. LiesIn setting.layout h.place) app.view.helds
   pub loans : All (λ l. LiesIn setting.layout l.place) app.view.loans
-  pub spares : All (λ s. (s.own.buffer < total setting.layout) × (s.own.size ≡ size_of setting.layout s.own.buffer) × (256 ≤ s.own.size)) app.view.owns
+  pub spares : All (λ s. (s.own.buffer < all_buffers setting.layout) × (s.own.size ≡ size_of setting.layout s.own.buffer) × (256 ≤ s.own.size)) app.view.owns
   pub texts : All (λ s. length s.bytes ≤ 256) app.view.owns
   pub apart : AllPairs (λ s t. s.own.buffer ≢ t.own.buffer) app.view.owns
 
 -- what an application keeps that has done nothing
 pub record IsNew (setting : Setting) (note entry : ℕ) (raw : Option ℕ) (loans filled : List ℕ) : Type 0 where
   pub slots : (note ≡ 0) × (entry ≡ 0) × (raw ≡ None)
-  pub none_out : loans ≡ replicate (total setting.layout) 0
-  pub none_filled : filled ≡ replicate (total setting.layout) 0
+  pub none_out : loans ≡ replicate (all_buffers setting.layout) 0
+  pub none_filled : filled ≡ replicate (all_buffers setting.layout) 0
 
 -- it knows the next slot of each of its rings, and that of its last raw entry, where it hasn't settled since
 pub record KnowsSlots (setting : Setting) (app : AppSide) (note entry : ℕ) (raw : Option ℕ) : Type 0 where
@@ -79,8 +79,8 @@ pub record KnowsSlots (setting : Setting) (app : AppSide) (note entry : ℕ) (ra
 
 -- it knows of each buffer how many of its loans are out there, and how long the text of its spare is
 pub record KnowsTokens (setting : Setting) (app : AppSide) (loans filled : List ℕ) : Type 0 where
-  pub many : (length loans ≡ total setting.layout) × (length filled ≡ total setting.layout)
-  pub out : (b : ℕ) → b < total setting.layout → slice_index loans b ≡ loans_out b app
+  pub many : (length loans ≡ all_buffers setting.layout) × (length filled ≡ all_buffers setting.layout)
+  pub out : (b : ℕ) → b < all_buffers setting.layout → slice_index loans b ≡ loans_out b app
   pub lengths : All (λ s. slice_index filled s.own.buffer ≡ length s.bytes) app.view.owns
 
 pub record AppKeeps (setting : Setting) (app : AppSide) (note entry : ℕ) (raw : Option ℕ) (loans filled : List ℕ) : Type 0 where

@@ -63,7 +63,7 @@ pub record HasStored {Side : Type 0} (old new : TheSeat Side) (bytes : List ℕ)
   pub event : new ≡ record old { side = done lines }
 
 -- A seat read these bytes in lines, from one of the first line on, and gave the lines back as they are.
-pub record HasRead {Side : Type 0} (old new : TheSeat Side) (skip : ℕ) (read : List ℕ) (done : List (List ℕ) → Side) (tells : List (List ℕ) → Type 0)
+pub record HasReadLines {Side : Type 0} (old new : TheSeat Side) (skip : ℕ) (read : List ℕ) (done : List (List ℕ) → Side) (tells : List (List ℕ) → Type 0)
     : Type 0 where
   pub lines : List (List ℕ)
   pub told : tells lines

@@ -6,8 +6,8 @@ use Rattle.board_face.specs.{NicCalls.{free_words_of}, NicEvents.{word_bits, nic
 use Rattle.board_face.specs.declared.views.{parts.Setting.{Setting}, nic.{NicView.{NicView}, NicSide.{NicSide}, NicLook.{NicLook}}}
 use Rattle.board_face.specs.declared.views.{nic.NicLook.TheVariants.{RingEmpty, NoteInUse, NotLeft}, app.{AppView.{AppView}, AppSide.{AppSide}, AppLook.{AppLook}}}
 use Rattle.board_face.specs.declared.views.app.AppLook.TheVariants.{NoNote, RefillInUse, RawOnItsWay, NoneListed, NoSpare, NotQuiet}
-use Rattle.ref_words.specs.{Words.{Words, slot_word, free_of, listed_in, pool_of}, Rings.{IsLastRaw, takes_entry_at, writes_note_at, writes_entry_at, takes_note_at}}
-use Rattle.ref_words.specs.Rule.{BoardRule}
+use Rattle.ref_words.specs.{Words.{Words, slot_word, free_word_of, listed_bit, pool_word_of}, Rings.{IsLastRaw, takes_entry_at, writes_note_at, writes_entry_at}}
+use Rattle.ref_words.specs.{Rings.{takes_note_at}, Rule.{BoardRule}}
 use Rattle.word_board.specs.Board.{TheBoard}
 
 -- By the rule there is a board on which the card has done what it did, and this holds of the words.
@@ -79,11 +79,11 @@ pub record IsOneInUse (setting : Setting) (words : Words) (app : AppSide) : Type
 
 -- the word of the free list is this number
 abbrev pub SawFree : Setting → AppView → ℕ → ℕ → Type 0
-SawFree setting v j n = IsToldToApp setting v (λ words app. free_of words j ≡ n)
+SawFree setting v j n = IsToldToApp setting v (λ words app. free_word_of words j ≡ n)
 
 -- the buffer isn't listed
 abbrev pub SawUnlisted : Setting → AppView → ℕ → Type 0
-SawUnlisted setting v b = IsToldToApp setting v (λ words app. listed_in words b ≡ false)
+SawUnlisted setting v b = IsToldToApp setting v (λ words app. listed_bit words b ≡ false)
 
 -- A word of the free list was seen 0, or its lowest buffer wasn't listed any more when the bit was cleared.
 pub record SawWithout (setting : Setting) (v : AppView) (j : ℕ) : Type 0 where
@@ -97,7 +97,7 @@ SawNoneListed setting v = (j : ℕ) → j < free_words_of setting → SawWithout
 
 -- the pool count of the own reserve isn't 0
 abbrev pub SawReserveHeld : Setting → AppView → Type 0
-SawReserveHeld setting v = IsToldToApp setting v (λ words app. (pool_of words (reserve_of app.view) == 0) ≡ false)
+SawReserveHeld setting v = IsToldToApp setting v (λ words app. (pool_word_of words (reserve_of app.view) == 0) ≡ false)
 
 -- what an application's seat says of its looks
 abbrev pub AppTells : AppLook → AppView → TheBoard → Type 0

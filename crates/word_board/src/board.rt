@@ -25,13 +25,13 @@ pub struct WordBoard {
 }
 
 impl Model for WordBoard {
-    ghost use Rattle.word_board.specs.Board.{TheBoard, IsSetting};
+    ghost use Rattle.word_board.specs.Board.{TheBoard, IsBoardSetting};
 
     ghost Value = { TheBoard };
 
     ghost view = { λ b. record { table = b.words.table.shared.table_id; setting = b.words.map } };
 
-    ghost invariant = { λ b. IsSetting b.words.map };
+    ghost invariant = { λ b. IsBoardSetting b.words.map };
 }
 
 impl WordBoard {

@@ -1,6 +1,6 @@
 //! The desk, which gives each role's seat once and takes the seats back.
 ghost use Rattle.std.specs.Prelude.{◌≡◌, [], true, IfOk};
-ghost use Rattle.ref_words.specs.Seated.{no_role, card_view, app_view};
+ghost use Rattle.ref_words.specs.Seated.{no_role, card_seat_view, app_seat_view};
 ghost use Rattle.word_board.specs.{Board.{new_desk}, Desk.{AreOfBoard, AreServed, took_back}};
 
 use crate::app_seat::AppSeat;
@@ -88,7 +88,7 @@ impl<'a> NicSeat<'a> {
     pub fn back(self, desk: &mut Desk)
         requires desk { desk.old.board ≡ self.board }
         requires ended { self.side.view.ended ≡ true }
-        ensures desk { desk.new ≡ took_back desk.old (card_view self.entry.side) }
+        ensures desk { desk.new ≡ took_back desk.old (card_seat_view self.entry.side) }
         ensures served { AreServed desk.new.view }
         ensures known { AreOfBoard desk.new.board.setting desk.new.view }
     {
@@ -105,7 +105,7 @@ impl<'a> AppSeat<'a> {
     pub fn back(self, desk: &mut Desk)
         requires desk { desk.old.board ≡ self.board }
         requires left { self.side.view.left ≡ true }
-        ensures desk { desk.new ≡ took_back desk.old (app_view self.entry.side) }
+        ensures desk { desk.new ≡ took_back desk.old (app_seat_view self.entry.side) }
         ensures served { AreServed desk.new.view }
         ensures known { AreOfBoard desk.new.board.setting desk.new.view }
     {

@@ -1,9 +1,9 @@
 //! The end of a board.
 ghost use Rattle.std.specs.Prelude.{◌≡◌, ◌<◌, slice_index};
-ghost use Rattle.area_layout.specs.Layout.{pool_buffers, total};
+ghost use Rattle.area_layout.specs.Layout.{pool_buffers, all_buffers};
 ghost use Rattle.board_face.specs.{Ended.{IsEachOnce}, NicCalls.{apps_of}};
-ghost use Rattle.ref_words.specs.Words.{pool_at, user_at};
-ghost use Rattle.word_board.specs.{Board.{card_of}, Desk.{AllAreBack, AreOver, AreServed, CountsAreOver, HasNoHolders, HaveNoCounts, StandInOrder}};
+ghost use Rattle.ref_words.specs.Words.{pool_at, user_word_at};
+ghost use Rattle.word_board.specs.{Board.{card_of_seat}, Desk.{AllAreBack, AreOver, AreServed, CountsAreOver, HasNoHolders, HaveNoCounts, StandInOrder}};
 
 use crate::board::WordBoard;
 use crate::desk::Desk;
@@ -49,7 +49,7 @@ impl Drop for ClosedWords {
 impl ClosedWords {
     /// The word of a buffer's pool count.
     pub fn pool(&self, buffer: u32) -> u64
-        requires { buffer < total self.now.setting.layout }
+        requires { buffer < all_buffers self.now.setting.layout }
         ensures { result ≡ slice_index self.now.words (pool_at self.now.setting buffer) }
     {
         self.closed.word(self.map.pool(buffer))
@@ -58,8 +58,8 @@ impl ClosedWords {
     /// The word of an application's user count for a buffer.
     pub fn user(&self, app: u32, buffer: u32) -> u64
         requires app { app < apps_of self.now.setting }
-        requires buffer { buffer < total self.now.setting.layout }
-        ensures { result ≡ slice_index self.now.words (user_at self.now.setting app buffer) }
+        requires buffer { buffer < all_buffers self.now.setting.layout }
+        ensures { result ≡ slice_index self.now.words (user_word_at self.now.setting app buffer) }
     {
         self.closed.word(self.map.user(app, buffer))
     }
@@ -108,7 +108,7 @@ impl WordBoard {
         requires desk { desk.board ≡ self }
         requires back { AllAreBack self.setting desk.view }
         ensures once { IsEachOnce (pool_buffers self.setting.layout) result.0.free.items }
-        ensures order { StandInOrder (card_of desk.view).view.cache result.0.free.items }
+        ensures order { StandInOrder (card_of_seat desk.view).view.cache result.0.free.items }
         ensures holders { HasNoHolders desk.view }
         ensures served { AreServed desk.view }
         ensures setting { result.1.setting ≡ self.setting }
@@ -136,7 +136,7 @@ impl WordBoard {
         requires desk { desk.board ≡ self }
         requires back { AllAreBack self.setting desk.view }
         ensures once { IsEachOnce (pool_buffers self.setting.layout) result.free.items }
-        ensures order { StandInOrder (card_of desk.view).view.cache result.free.items }
+        ensures order { StandInOrder (card_of_seat desk.view).view.cache result.free.items }
         ensures holders { HasNoHolders desk.view }
         ensures served { AreServed desk.view }
     {

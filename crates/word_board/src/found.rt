@@ -1,7 +1,7 @@
 //! The buffers that a number lists in a word of the free list, and those that enter the card's cache.
 ghost use Rattle.std.specs.Prelude.{◌≡◌, ◌+◌, ◌<◌, ◌≤◌, [], ◌∷◌, ◌++◌, length, if◌then◌else◌, MatchOption};
 ghost use Rattle.board_face.specs.NicEvents.{cached, cache_room, word_bits};
-ghost use Rattle.ref_words.specs.FreeSteps.{found_in};
+ghost use Rattle.ref_words.specs.FreeSteps.{all_listed_in};
 
 use crate::kinds::WORD_BITS;
 use board_parts::Cache;
@@ -10,8 +10,8 @@ use board_parts::Cache;
 pub(crate) fn highest_listed(word: u32, found: u64) -> Option<(u32, u64)>
     requires few { word < 64 }
     ensures { MatchOption result
-        (found_in word found ≡ [])
-        (λ first. found_in word found ≡ first.0 ∷ found_in word first.1) }
+        (all_listed_in word found ≡ [])
+        (λ first. all_listed_in word found ≡ first.0 ∷ all_listed_in word first.1) }
 {
     if found == 0 {
         return None;
@@ -33,8 +33,8 @@ pub(crate) fn cache_if(free: bool, buffer: u32, cache: &mut Cache)
 pub(crate) fn cache_found(cache: &mut Cache, word: u32, found: u64) -> u32
     requires few { word < 64 }
     requires room { length cache.old.items + word_bits ≤ cache_room }
-    ensures cache { cache.new.items ≡ cache.old.items ++ found_in word found }
-    ensures count { result ≡ length (found_in word found) }
+    ensures cache { cache.new.items ≡ cache.old.items ++ all_listed_in word found }
+    ensures count { result ≡ length (all_listed_in word found) }
 {
     let mut left = found;
     let mut count = 0;

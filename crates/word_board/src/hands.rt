@@ -1,7 +1,7 @@
 //! What the seats keep beside the words: which slot of each ring is next, the card's cache and how much payload its note slots
 //! have, and of an application how many loans are out in each buffer and how long the text of a filled spare is.
 ghost use Rattle.std.specs.Prelude.{◌≡◌, ◌+◌, ◌*◌, ◌%◌, ◌<◌, [], IfOk, replicate, None, slice_index, slice_set};
-ghost use Rattle.area_layout.specs.Layout.{total};
+ghost use Rattle.area_layout.specs.Layout.{all_buffers};
 
 use area_layout::Layout;
 use board_parts::Cache;
@@ -89,8 +89,10 @@ impl AppHand {
     pub(crate) fn new(alloc: Global, layout: &Layout) -> Result<AppHand, AllocError>
         ensures slots { IfOk result
             (λ hand. (hand.note ≡ 0) × (hand.entry ≡ 0) × (hand.raw ≡ None)) }
-        ensures loans { IfOk result (λ hand. hand.loans.items ≡ replicate (total layout.now) 0) }
-        ensures filled { IfOk result (λ hand. hand.filled.items ≡ replicate (total layout.now) 0) }
+        ensures loans { IfOk result (λ hand. hand.loans.items
+            ≡ replicate (all_buffers layout.now) 0) }
+        ensures filled { IfOk result (λ hand. hand.filled.items
+            ≡ replicate (all_buffers layout.now) 0) }
     {
         let buffers = layout.total() as usize;
         Ok(AppHand {

@@ -1,6 +1,6 @@
 //! The card's seat, which is the card's face of this board.
 ghost use Rattle.std.specs.Prelude.{◌≡◌};
-ghost use Rattle.word_board.specs.{Board.{IsSetting}, Hands.{NicKeeps, KnowsLeft}};
+ghost use Rattle.word_board.specs.{Board.{IsBoardSetting}, Hands.{NicKeeps, KnowsLeft}};
 
 use crate::board::WordBoard;
 use crate::found::{cache_found, cache_if};
@@ -23,20 +23,20 @@ pub struct NicSeat<'a> {
 }
 
 impl<'a> Model for NicSeat<'a> {
-    ghost use Rattle.word_board.specs.{Board.{TheNic, IsSetting}, Hands.{NicKeeps, KnowsLeft}};
+    ghost use Rattle.word_board.specs.{Board.{TheNic, IsBoardSetting}, Hands.{NicKeeps, KnowsLeft}};
 
     ghost Value = { TheNic };
 
     ghost view = { λ s. s.card };
 
-    ghost invariant = { λ s. IsSetting s.card.board.setting
+    ghost invariant = { λ s. IsBoardSetting s.card.board.setting
         × NicKeeps s.card.board.setting s.card.side s.hand.cache.items s.hand.notes s.hand.entries
         × KnowsLeft s.card.board.setting s.card.side.view.sent s.card.side.inside.note_slots s.hand.filled.counts };
 }
 
 impl<'a> NicSeat<'a> {
     pub(crate) fn new(card: CardStepper<'a>, hand: NicHand) -> NicSeat<'a>
-        requires setting { IsSetting card.board.setting }
+        requires setting { IsBoardSetting card.board.setting }
         requires keeps { NicKeeps card.board.setting card.side hand.cache.items hand.notes
             hand.entries }
         requires left { KnowsLeft card.board.setting card.side.view.sent card.side.inside.note_slots

@@ -2,7 +2,7 @@
 ghost use Rattle.std.specs.Prelude.{◌≡◌, ℕ, ◌+◌, ◌/◌, ◌^◌, ◌<◌, List, [], length};
 ghost use Rattle.board_face.specs.{NicCalls.{apps_of}, declared.views.parts.Setting.{Setting}};
 ghost use Rattle.ref_words.specs.{declared.view.View.{View}, Words.{table_words, phase_at}, Lines.{AreWide, HaveText}};
-ghost use Rattle.word_board.specs.{Board.{TheSeat}, Steps.{MayStep, MayTake, MayGive, HasStored, HasRead, made_by}};
+ghost use Rattle.word_board.specs.{Board.{TheSeat}, Steps.{MayStep, MayTake, MayGive, HasStored, HasReadLines, made_by}};
 
 use crate::lines::{read_lines, write_lines};
 use crate::rule::{After, AtHand, SharedWords, WordSeat};
@@ -34,14 +34,14 @@ pub(crate) struct CardRole;
 
 impl Role for CardRole {
     ghost use Rattle.std.specs.Prelude.{refl};
-    ghost use Rattle.ref_words.specs.Seated.{card_view};
-    ghost use Rattle.word_board.specs.Board.{card_of};
+    ghost use Rattle.ref_words.specs.Seated.{card_seat_view};
+    ghost use Rattle.word_board.specs.Board.{card_of_seat};
 
     type Side = NicSide;
 
-    ghost view_of = { card_view };
+    ghost view_of = { card_seat_view };
 
-    ghost side_of = { card_of };
+    ghost side_of = { card_of_seat };
 
     ghost stays = { λ _ _. Unit {0} };
 
@@ -61,14 +61,14 @@ pub(crate) struct AppRole {
 impl Role for AppRole {
     ghost use Rattle.std.{proofs.Common.{◌∙◌}, specs.Prelude.{◌≡◌, ◌<◌, refl}};
     ghost use Rattle.board_face.specs.NicCalls.{apps_of};
-    ghost use Rattle.ref_words.specs.Seated.{app_view};
-    ghost use Rattle.word_board.specs.Board.{app_of};
+    ghost use Rattle.ref_words.specs.Seated.{app_seat_view};
+    ghost use Rattle.word_board.specs.Board.{app_of_seat};
 
     type Side = AppSide;
 
-    ghost view_of = { app_view };
+    ghost view_of = { app_seat_view };
 
-    ghost side_of = { app_of };
+    ghost side_of = { app_of_seat };
 
     ghost stays = { λ old new. new.view.app ≡ old.view.app };
 
@@ -217,7 +217,8 @@ impl<'a, R: Role + Drop> Stepper<'a, R> {
             (R.side_of (N.done lines)) }
         requires stays { (lines : List (List ℕ))
             → R.stays self.old.side (R.side_of (N.done lines)) }
-        ensures read { HasRead self.old self.new skip into.new (λ lines. R.side_of (N.done lines))
+        ensures read { HasReadLines self.old self.new skip into.new
+            (λ lines. R.side_of (N.done lines))
             N.told }
         ensures many { length into.new ≡ length into.old }
     {

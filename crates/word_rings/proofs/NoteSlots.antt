@@ -4,7 +4,7 @@ use Rattle.std.proofs.{Common.{List, [], ◌∷◌, ◌++◌, length, take, drop
 use Rattle.std.proofs.lemmas.{List.{append-nil, length-append, length-drop, take-append-le, drop-append-le, drop-drop, drop-replicate}, Grind.{flat_map-append}}
 use Rattle.byteorder.specs.{Endian.{little_bytes}, Numbers.{length-bytes_low_first}}
 use Rattle.zr_kinds.specs.declared.place.Note.{Note}
-use Rattle.word_rings.specs.Slots.{pair, low_of, high_of, flags_of, words_of, note_width, note_fields, field_words, payload_width, note_body, note_slot, note_of, linear_of, bytes_of, IsNoteSlot, IsBlankFrom}
+use Rattle.word_rings.specs.Slots.{pair, low_of, high_of, flags_of, words_of, note_width, note_fields, field_words, payload_width, note_body, note_slot, note_of, linear_of, bytes_of_words, IsNoteSlot, IsBlankFrom}
 
 -- ---- two numbers in a word
 
@@ -112,14 +112,14 @@ pub bytes-front : (n : ℕ) (ws rest : List ℕ) → field_words ≤ length ws �
     → take n (linear_of (1 ∷ (ws ++ rest))) ≡ take n (linear_of (1 ∷ ws))
 bytes-front n ws rest few enough =
     let behind = drop field_words ws in
-    ap (λ xs. take n (bytes_of xs)) (drop-append-le field_words ws rest few)
+    ap (λ xs. take n (bytes_of_words xs)) (drop-append-le field_words ws rest few)
     ∙ (ap (take n) (flat_map-append (little_bytes 8) behind rest)
-    ∙ take-append-le n (bytes_of behind) (bytes_of rest) (omega (arith, length-bytes behind, length-drop field_words ws)))
+    ∙ take-append-le n (bytes_of_words behind) (bytes_of_words rest) (omega (arith, length-bytes behind, length-drop field_words ws)))
   where
-    length-bytes : (xs : List ℕ) → length (bytes_of xs) ≡ 8 * length xs
+    length-bytes : (xs : List ℕ) → length (bytes_of_words xs) ≡ 8 * length xs
     length-bytes [] = refl
     length-bytes (x ∷ xs) =
-        omega (arith, length-append (little_bytes 8 x) (bytes_of xs), length-bytes_low_first 0 8 x, length-bytes xs)
+        omega (arith, length-append (little_bytes 8 x) (bytes_of_words xs), length-bytes_low_first 0 8 x, length-bytes xs)
 
 -- ---- zeros behind a payload
 

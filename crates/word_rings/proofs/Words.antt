@@ -4,7 +4,7 @@ use Rattle.std.proofs.{Common.{take, drop, slice_index, replicate, sym, ap, ◌�
 use Rattle.std.proofs.lemmas.List.{get_or-drop, take-append-drop, drop-drop, length-drop, length-append, length-replicate}
 use Rattle.byteorder.specs.{Endian.{little_from, little_number}, Numbers.{little_number-reads_back, length-bytes_low_first}}
 use Rattle.area_layout.proofs.Bytes.{little_bytes-number, small_behind}
-use Rattle.word_rings.specs.Slots.{words_of, bytes_of}
+use Rattle.word_rings.specs.Slots.{words_of, bytes_of_words}
 
 -- ---- what a number in bytes reads
 
@@ -40,21 +40,21 @@ words_are (suc n) bytes (x ∷ dst) len read =
 -- ---- there and back
 
 -- the bytes of the words of so many bytes are these bytes
-pub bytes_back : (n : ℕ) (xs : List ℕ) → length xs ≡ 8 * n → ((i : ℕ) → slice_index xs i < 256) → bytes_of (words_of n xs) ≡ xs
+pub bytes_back : (n : ℕ) (xs : List ℕ) → length xs ≡ 8 * n → ((i : ℕ) → slice_index xs i < 256) → bytes_of_words (words_of n xs) ≡ xs
 bytes_back zero [] len small = refl
 bytes_back zero (x ∷ xs) len small = absurd (omega arith)
 bytes_back (suc n) xs len small =
     let behind = length-drop 8 xs in
     let first = little_bytes-number 8 xs (omega arith) small in
     let rest = bytes_back n (drop 8 xs) (omega arith) (small_behind 8 xs small) in
-    ap (λ (bs : List ℕ). bs ++ bytes_of (words_of n (drop 8 xs))) first ∙ ap (λ (bs : List ℕ). take 8 xs ++ bs) rest
+    ap (λ (bs : List ℕ). bs ++ bytes_of_words (words_of n (drop 8 xs))) first ∙ ap (λ (bs : List ℕ). take 8 xs ++ bs) rest
     ∙ take-append-drop 8 xs
 
 -- the words of the bytes of these words are these words
-pub words_back : (ws : List ℕ) → ((k : ℕ) → slice_index ws k < 2 ^ 64) → words_of (length ws) (bytes_of ws) ≡ ws
+pub words_back : (ws : List ℕ) → ((k : ℕ) → slice_index ws k < 2 ^ 64) → words_of (length ws) (bytes_of_words ws) ≡ ws
 words_back [] small = refl
 words_back (w ∷ ws) small =
-    let first = little_number-reads_back 8 w (bytes_of ws) (small 0) in
+    let first = little_number-reads_back 8 w (bytes_of_words ws) (small 0) in
     let len = length-bytes_low_first 0 8 w in
     let rest = words_back ws (λ k. small (suc k)) in
     rw (first) (ap (λ (r : List ℕ). w ∷ r) rest)
@@ -80,7 +80,7 @@ padded_words n m k xs = same_words n (xs ++ drop k (replicate m 0)) xs (same_pad
 
 -- the first bytes of the words of a text with zeros behind it are the text
 pub text_back : (xs : List ℕ) (m n : ℕ) → length xs ≤ m → m ≡ 8 * n → ((i : ℕ) → slice_index xs i < 256)
-    → take (length xs) (bytes_of (words_of n (xs ++ drop (length xs) (replicate m 0)))) ≡ xs
+    → take (length xs) (bytes_of_words (words_of n (xs ++ drop (length xs) (replicate m 0)))) ≡ xs
 text_back xs m n few whole small =
     let zeros = drop (length xs) (replicate m 0) in
     let behind : length zeros ≡ m - length xs = length-drop (length xs) (replicate m 0) ∙ ap (λ (k : ℕ). k - length xs) (length-replicate m 0) in

@@ -28,8 +28,8 @@ abbrev pub words_for : ℕ → ℕ
 words_for n = (n + 7) / 8
 
 -- the bytes of these words
-abbrev pub bytes_of : List ℕ → List ℕ
-bytes_of words = flat_map (little_bytes 8) words
+abbrev pub bytes_of_words : List ℕ → List ℕ
+bytes_of_words words = flat_map (little_bytes 8) words
 
 -- ---- a note slot
 
@@ -82,7 +82,7 @@ note_of w = record {
 
 -- the bytes of a slot behind its fields
 abbrev pub linear_of : List ℕ → List ℕ
-linear_of w = bytes_of (drop note_fields w)
+linear_of w = bytes_of_words (drop note_fields w)
 
 -- ---- a refill slot
 
@@ -99,8 +99,8 @@ abbrev pub refill_slot : Rqe → List ℕ
 refill_slot e = 1 ∷ entry_body e
 
 -- the entry of a slot
-abbrev pub entry_of : List ℕ → Rqe
-entry_of w = record { off = slice_index w 1; len = low_of (slice_index w 2); pad = high_of (slice_index w 2) }
+abbrev pub entry_of_words : List ℕ → Rqe
+entry_of_words w = record { off = slice_index w 1; len = low_of (slice_index w 2); pad = high_of (slice_index w 2) }
 
 -- a full slot with flags that a note may have
 pub record IsNoteSlot (w : List ℕ) : Type 0 where

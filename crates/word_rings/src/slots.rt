@@ -1,6 +1,6 @@
 //! The words of a note slot and of a refill slot.
 ghost use Rattle.std.specs.Prelude.{◌≡◌, ◌≤◌, ◌<◌, ◌+◌, true, false, [], length, take, slice_index};
-ghost use Rattle.word_rings.specs.Slots.{pair, flags_of, payload_bytes, note_slot, note_of, linear_of, bytes_of, refill_slot, entry_of, low_of, high_of, IsNoteSlot, SlotsComeBack};
+ghost use Rattle.word_rings.specs.Slots.{pair, flags_of, payload_bytes, note_slot, note_of, linear_of, bytes_of_words, refill_slot, entry_of_words, low_of, high_of, IsNoteSlot, SlotsComeBack};
 
 use byteorder::{ByteOrder, LittleEndian};
 use zr_kinds::{Note, Place, Rqe};
@@ -102,7 +102,7 @@ pub fn note_read(w: &[u64; NOTE_FIELDS]) -> Note
 
 /// `linear` becomes the bytes of a slot, by the words behind its fields. An unsplit note's payload are the first of them.
 pub fn payload_read(w: &[u64; PAYLOAD_WORDS], linear: &mut [u8; PAYLOAD_BYTES])
-    ensures { linear.new ≡ bytes_of w.now }
+    ensures { linear.new ≡ bytes_of_words w.now }
 {
     LittleEndian::write_u64_into(w, linear);
 }
@@ -115,14 +115,14 @@ pub fn slots_come_back()
 /// The words of a full refill slot: its flag, the offset, and length and pad.
 pub fn refill_words(e: &Rqe) -> [u64; REFILL_WORDS]
     ensures words { result ≡ refill_slot e.now }
-    ensures entry { entry_of result ≡ e.now }
+    ensures entry { entry_of_words result ≡ e.now }
 {
     [FULL, e.off, pair(e.len, e.pad)]
 }
 
 /// The entry of a slot.
 pub fn refill_read(w: &[u64; REFILL_WORDS]) -> Rqe
-    ensures entry { result ≡ entry_of w.now }
+    ensures entry { result ≡ entry_of_words w.now }
     // A full slot is the one of its entry.
     ensures again { slice_index w.now 0 ≡ 1 → refill_slot result ≡ w.now }
 {

@@ -4,7 +4,7 @@ use Rattle.zr_kinds.specs.declared.place.Place.{Place}
 use Rattle.zr_io.specs.Memory.{raised}
 use Rattle.board_face.specs.declared.views.app.AppView.{AppView}
 use Rattle.zc_poll.specs.Standing.{Desk}
-use Rattle.zc_forward.specs.{Sending.{OutboxState, is_urgent}, Carriage.{AnswersLate, Carriage, is_waiting, pace_of}, Turns.{Asks, CarriedItem, KeepsDelay, Stage, Told, stage_of}}
+use Rattle.zc_forward.specs.{Sending.{OutboxState, is_urgent}, Carriage.{AnswersLate, Carriage, is_waiting, pace_of}, Turns.{Asks, CarriedItem, KeepsDelay, Stage, NoticeCame, stage_of}}
 
 module _ {T : Type 0} (w z : OutboxState) (desk later : Desk) (v y : AppView) (old new : Carriage T) where
   abbrev was : Stage
@@ -16,10 +16,10 @@ module _ {T : Type 0} (w z : OutboxState) (desk later : Desk) (v y : AppView) (o
   abbrev Late : Type 0
   Late = MatchBool (is_waiting old (is_urgent w))
       ((pace_of new ≡ record (pace_of old) { looks = raised old.looks }) × ((new.out ≡ old.out) ⊎ CarriedItem was now))
-      ((pace_of new ≡ pace_of old) × Told was now × (first : ℕ × ℕ) × (old.out ≡ first ∷ new.out))
+      ((pace_of new ≡ pace_of old) × NoticeCame was now × (first : ℕ × ℕ) × (old.out ≡ first ∷ new.out))
 
   answered : (asked : Carriage T) (told : Option ℕ) → AnswersLate (is_urgent w) old asked told → pace_of new ≡ pace_of asked
-      → MatchOption told ((new ≡ asked) ⊎ CarriedItem was now) (λ tag. (new ≡ asked) × Told was now) → Late
+      → MatchOption told ((new ≡ asked) ⊎ CarriedItem was now) (λ tag. (new ≡ asked) × NoticeCame was now) → Late
   answered asked None (few, looked) pace rest = rw (sym few) (
     pace ∙ ap (λ (k : Carriage T). pace_of k) looked,
     ⊎_elim
@@ -36,7 +36,7 @@ module _ {T : Type 0} (w z : OutboxState) (desk later : Desk) (v y : AppView) (o
 
   settled : (due : Option Place) (asked : Carriage T) (told : Option ℕ)
       → MatchOption due (AnswersLate (is_urgent w) old asked told) (λ loan. (told ≡ None) × (asked ≡ old)) → pace_of new ≡ pace_of asked
-      → MatchOption told ((new ≡ asked) ⊎ CarriedItem was now) (λ tag. (new ≡ asked) × Told was now)
+      → MatchOption told ((new ≡ asked) ⊎ CarriedItem was now) (λ tag. (new ≡ asked) × NoticeCame was now)
       → MatchOption due Late (λ loan. pace_of new ≡ pace_of old)
   settled None asked told by pace rest = answered asked told by pace rest
   settled (Some loan) asked told by pace rest = pace ∙ ap (λ (k : Carriage T). pace_of k) by.1

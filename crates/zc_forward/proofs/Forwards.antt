@@ -5,21 +5,21 @@ use Rattle.zr_kinds.specs.declared.place.Place.{Place}
 use Rattle.zr_kinds.specs.declared.behaviour.Stopped.TheVariants as stop
 use Rattle.zr_io.{specs.Moved.{Rose, ShelfCounts, raised_by}, proofs.Moved.{Gained-then, Gained-nothing}}
 use Rattle.board_face.specs.{AppEvents.{app_saw, gave, entry_of}, declared.views.app.{AppLook.{AppLook}, LentPiece.{LentPiece}, AppView.{AppView}}}
-use Rattle.flow_queues.{specs.{Core.{total, IsIn}, Totals.{lent_len, loan_entries}, Ends.{bytes_in}, Counting.{TallyState}}, proofs.Tokens.{in-total}}
+use Rattle.flow_queues.{specs.{Core.{total, IsIn}, Totals.{lent_len, loan_entries}, Ends.{bytes_written_of}, Counting.{TallyState}}, proofs.Tokens.{in-total}}
 use Rattle.zc_poll.specs.{declared.to_shelf.PollTurn.{PollTurn, TheVariants.{Did, Idle, Ended}}, Standing.{Desk, StreamStands}}
-use Rattle.zc_poll.specs.{Items.{Given, HasGiven, marks_given}, PourTurns.{GoesBack}, Steps.{OnlySteps, Unlent}, Pouring.{IsPoured, HasPoured}}
+use Rattle.zc_poll.specs.{Items.{GivenItem, HasGiven, marks_given}, PourTurns.{GoesBack}, Steps.{OnlySteps, Unlent}, Pouring.{IsPoured, HasPoured}}
 use Rattle.zc_poll.proofs.{ItemPoured.{SameCounts, poured-moved, poured-all, same-kept}, EntriesFirst.{first-same, first-gave}, PouredOn.{sees-still}}
 use Rattle.zc_poll.proofs.{PourTurns.{same-counts}, Pours.{is-no, no-write}}
 use Rattle.zc_forward.specs.{declared.sent.Sent.{Sent}, Tags.{FlowsKeep, Tags, TakesTag}, Sending.{AreLoans, OutboxState, of_one, of_sent, tags_of, many_out, most_out}}
-use Rattle.zc_forward.specs.{Forwarding.{ForwardStands}, Turns.{GivesBack, with_due}}
+use Rattle.zc_forward.specs.{Forwarding.{ForwardStands}, Turns.{GivesLoanBack, with_due}}
 use Rattle.zc_forward.proofs.{Live.{IsOut, counted-out, at_place, at-itself, went, went-places, went-many, went-lent, gave-entry, gave-returned}, Sents.{still-once}}
 
 -- ---- the carrier told, or had none
 
-pub poured-kept : (P : Type 0) (first kept later : ℕ → Option (List ℕ)) (w : TallyState) (st : Desk) (v : AppView) (items : List Given) (torn missing : ℕ)
+pub poured-kept : (P : Type 0) (first kept later : ℕ → Option (List ℕ)) (w : TallyState) (st : Desk) (v : AppView) (items : List GivenItem) (torn missing : ℕ)
     → HasPoured P first w st kept v items torn missing → FlowsKeep kept later → HasPoured P first w st later v items torn missing
 poured-kept P first kept later w st v items torn missing poured keeps =
-    let Was : ℕ → List ℕ → Type 0 = λ n bytes. IsPoured (P × (n ≡ torn)) v (marks_given n items) (bytes_in n w.counts) bytes in
+    let Was : ℕ → List ℕ → Type 0 = λ n bytes. IsPoured (P × (n ≡ torn)) v (marks_given n items) (bytes_written_of n w.counts) bytes in
     record {
       given = poured.given;
       many = poured.many;
@@ -69,7 +69,7 @@ kept-forwards first got later losses now after w st tags v before keeps same = r
 }
 
 -- of what is due and what stopped it nothing was poured
-pub poured-as : (P Q : Type 0) (first kept : ℕ → Option (List ℕ)) (u w : TallyState) (st : Desk) (v : AppView) (items : List Given) (torn missing : ℕ)
+pub poured-as : (P Q : Type 0) (first kept : ℕ → Option (List ℕ)) (u w : TallyState) (st : Desk) (v : AppView) (items : List GivenItem) (torn missing : ℕ)
     → HasPoured P first u st kept v items torn missing → SameCounts u w → (P → Q) → HasPoured Q first w st kept v items torn missing
 poured-as P Q first kept u w st v items torn missing poured work implies =
     poured-moved P Q first kept u w st st v v items torn missing poured work poured.given (sees-still v) refl refl refl poured.back refl implies
@@ -348,7 +348,7 @@ sent-out w loans s are there =
     let here : at_place s.loan s.loan ≤ of_sent (at_place s.loan) w.out = in-total (λ (x : Sent). at_place s.loan x.loan) s w.out there in
     counted-out s.loan loans (omega (arith, are (at_place s.loan), here, at-itself s.loan))
 
-pub goes-back : (loan : Place) (w z : OutboxState) (old new : AppView) (ran : PollTurn) → GivesBack loan w z old new ran → w.tally.due ≡ None
+pub goes-back : (loan : Place) (w z : OutboxState) (old new : AppView) (ran : PollTurn) → GivesLoanBack loan w z old new ran → w.tally.due ≡ None
     → GoesBack loan z.tally.due old new
 goes-back loan w z old new Did back none =
     subst (λ due. GoesBack loan due old new) (sym (ap (λ (o : OutboxState). o.tally.due) back.0 ∙ none)) back.1
@@ -360,7 +360,7 @@ pub if-none : (told : Option ℕ) (P : Type 0) → IfNone told P → told ≡ No
 if-none told P holds is = subst (λ o. IfNone o P) is holds
 
 -- and nothing else that is kept changed but what is due
-pub back-work : (loan : Place) (w z : OutboxState) (old new : AppView) (ran : PollTurn) → GivesBack loan w z old new ran → z ≡ with_due w z.tally.due
+pub back-work : (loan : Place) (w z : OutboxState) (old new : AppView) (ran : PollTurn) → GivesLoanBack loan w z old new ran → z ≡ with_due w z.tally.due
 back-work loan w z old new Did back = subst (λ (o : OutboxState). o ≡ with_due w o.tally.due) (sym back.0) refl
 back-work loan w z old new (Idle why) back = subst (λ (o : OutboxState). o ≡ with_due w o.tally.due) (sym back.1) refl
 back-work loan w z old new (Ended poured) back = absurd back

@@ -3,7 +3,7 @@ use Rattle.std.proofs.{Common.{◌≡◌, ℕ, List, [], ◌∷◌, ◌++◌, le
 use Rattle.zr_kinds.specs.declared.behaviour.Stopped.TheVariants as stop
 use Rattle.zr_io.{specs.Moved.{ShelfCounts}, proofs.Moved.{Gained-weaker}}
 use Rattle.board_face.specs.{AppCalls.{HasLoan}, declared.views.app.AppView.{AppView}}
-use Rattle.flow_queues.specs.{Marks.{Mark, FramesStandTogether, marks_of}, Core.{Each, IsIn}, Streams.{HasFronts, IsFront}, Ends.{bytes_in}}
+use Rattle.flow_queues.specs.{Marks.{Mark, FramesStandTogether, marks_of}, Core.{Each, IsIn}, Streams.{HasFronts, IsFront}, Ends.{bytes_written_of}}
 use Rattle.zc_poll.{specs.{Standing.{Desk}, Items.{marks_given}, Pouring.{IsPoured}}, proofs.Whole.{items-front}}
 use Rattle.zc_forward.{specs.{declared.sent.Sent.{Sent}, Tags.{Tags}, Sending.{AreLoans, OutboxState}, Forwarding.{ForwardStands}}, proofs.Live.{has-out}}
 use Rattle.zc_forward.proofs.Forwards.{sent-out}
@@ -13,7 +13,7 @@ pub front-of : (first got : ℕ → Option (List ℕ)) (losses now : ShelfCounts
 front-of first got losses now w st tags v before whole n =
     let marks : List Mark = marks_given n before.items in
     let (rest, parts) = items-front st.flows v.taken before.items before.stands.common.found before.poured.given whole n in
-    Gained-weaker (first n) (got n) (IsPoured ((w.tally.stopped ≡ stop.Write) × (n ≡ before.torn)) v marks (bytes_in n w.tally.counts))
+    Gained-weaker (first n) (got n) (IsPoured ((w.tally.stopped ≡ stop.Write) × (n ≡ before.torn)) v marks (bytes_written_of n w.tally.counts))
     (IsFront v.taken v.reads (marks_of n v.taken))
     (λ bytes is. record {
       read = take (length bytes) marks;

@@ -6,10 +6,10 @@ use Rattle.zr_kinds.specs.declared.behaviour.Stopped.TheVariants as stop
 use Rattle.zr_io.{specs.Moved.{Gained, Rose, ShelfCounts, raised_by}, proofs.Moved.{Rose-earlier}}
 use Rattle.board_face.specs.declared.views.app.{LentPiece.{LentPiece}, AppView.{AppView}}
 use Rattle.flow_queues.specs.{Marks.{Mark}, declared.queues.Lending.{Lending}, Core.{total, IsIn, lent_piece, OnlyReads, IsReadOf}, Totals.{lent_len, loan_entries}}
-use Rattle.flow_queues.{specs.{Shelves.{AreOfOneLoan, kept_loans}, Ends.{bytes_in}}, proofs.Tokens.{loan-some, total-append}}
+use Rattle.flow_queues.{specs.{Shelves.{AreOfOneLoan, kept_loans}, Ends.{bytes_written_of}}, proofs.Tokens.{loan-some, total-append}}
 use Rattle.zc_poll.specs.declared.step.Lent.{Lent}
 use Rattle.flow_queues.specs.{Counting.{TallyState, AddsTo, item_counted}}
-use Rattle.zc_poll.specs.{Standing.{Desk, StreamStands}, Items.{Given, HasGiven, marks_given}, Steps.{OnlySteps, IsItem, given_as}, Pouring.{HasPoured}}
+use Rattle.zc_poll.specs.{Standing.{Desk, StreamStands}, Items.{GivenItem, HasGiven, marks_given}, Steps.{OnlySteps, IsItem, given_as}, Pouring.{HasPoured}}
 use Rattle.zc_poll.proofs.{Views.{total-one}, LoanGone.{drop-all}, PouredOn.{SeesOn, read-on}}
 use Rattle.zc_poll.proofs.{ItemPoured.{Roomy, SameCounts, moved-by, poured-moved, poured-roomy, item-poured, push-length}, EntriesFirst.{first-gone, first-same}}
 use Rattle.zc_poll.proofs.{Appended.{appended, at-flow}, Pours.{is-no, no-write, known-at}}
@@ -52,7 +52,7 @@ module _ (y x : AppView) (up : GaveUp y x) (none : x.loans ≡ []) (all : loan_e
     reads = ap (λ (k : AppView). k.reads) up.view ∙ sym (append-nil y.reads);
   }
 
-  pub up-poured : (P Q : Type 0) (first kept : ℕ → Option (List ℕ)) (u w : TallyState) (st now : Desk) (items : List Given) (torn missing : ℕ)
+  pub up-poured : (P Q : Type 0) (first kept : ℕ → Option (List ℕ)) (u w : TallyState) (st now : Desk) (items : List GivenItem) (torn missing : ℕ)
       → HasPoured P first u st kept y items torn missing → SameCounts u w → HasGiven items now.flows x.taken → (P → Q)
       → HasPoured Q first w now kept x items torn missing
   up-poured P Q first kept u w st now items torn missing poured work given implies =
@@ -77,7 +77,7 @@ module _ (first kept : ℕ → Option (List ℕ)) (losses losses_now : ShelfCoun
   pub nothing : u.tally.stopped ≡ stop.No
   nothing = ⊎_elim (λ is. is) (λ stopped. (let e : false ≡ true = sym item.going.0 ∙ before.over stopped in absurd (cc))) (is-no u.tally.stopped)
 
-  abbrev all_items : List Given
+  abbrev all_items : List GivenItem
   all_items = before.items ++ given_as lent item.lending ∷ []
 
   -- it is out beside those that were
@@ -116,7 +116,7 @@ module _ (first kept : ℕ → Option (List ℕ)) (losses losses_now : ShelfCoun
 
     -- there was no memory to count it, so it isn't carried
     pub wants : (z : AppView) (later : Desk) (k : OutboxState) → z ≡ record x { helds = [] }
-        → ((items : List Given) → HasGiven items now.flows x.taken → HasGiven items later.flows z.taken) → StreamStands later z
+        → ((items : List GivenItem) → HasGiven items now.flows x.taken → HasGiven items later.flows z.taken) → StreamStands later z
         → later.stopped ≡ true → later.ended ≡ now.ended
         → k.tally ≡ record w { stopped = stop.Memory } → k.out ≡ u.out → k.uncarried ≡ Some lent.loan
         → length u.out < most_out
@@ -189,12 +189,12 @@ module _ (first kept : ℕ → Option (List ℕ)) (losses losses_now : ShelfCoun
         (gained : (lending : Lending) → lending.loan ≡ lent.loan → lending.note < length x.taken → IsIn (lent_piece x.taken lending) x.loans
         → Gained (kept lent.flow) (after lent.flow) (IsReadOf x.taken y.reads lending done lent.loan.len))
         (others : (n : ℕ) → n ≢ lent.flow → Keeps (kept n) (after n)) (same : k ≡ record w { counts = k.counts; written = min (w.written + done) (2 ^ 64 - 1) })
-        (fits : bytes_in lent.flow w.counts + done < 2 ^ 64 → AddsTo lent.flow done w.counts k.counts)
+        (fits : bytes_written_of lent.flow w.counts + done < 2 ^ 64 → AddsTo lent.flow done w.counts k.counts)
         (many : length k.counts ≡ length w.counts) where
       note-known : item.lending.note < length x.taken
       note-known = known-at x.taken item.lending.note item.note item.is
 
-      few : bytes_in lent.flow w.counts + done < 2 ^ 64
+      few : bytes_written_of lent.flow w.counts + done < 2 ^ 64
       few = omega (
         arith,
         ready.counts lent.flow,
@@ -228,7 +228,7 @@ module _ (first kept : ℕ → Option (List ℕ)) (losses losses_now : ShelfCoun
 
       -- the carrier failed, and all is given up
       pub fails : (end : ℕ → Option (List ℕ)) (faults : ShelfCounts) (mid z : AppView) (later : Desk) (m : OutboxState) → FlowsKeep after end → GaveUp y mid → z ≡ record mid { helds = [] } → z.loans ≡ []
-          → ((items : List Given) → HasGiven items now.flows y.taken → HasGiven items later.flows z.taken) → StreamStands later z → later.stopped ≡ true
+          → ((items : List GivenItem) → HasGiven items now.flows y.taken → HasGiven items later.flows z.taken) → StreamStands later z → later.stopped ≡ true
           → m.tally ≡ record k { stopped = stop.Write } → m.out ≡ [] → m.uncarried ≡ u.uncarried → (later.ended ≡ true → m.pressed ≡ true)
           → losses_now.faults ≤ faults.faults → Rose losses_now.faults faults.faults → faults.appended ≡ raised_by losses_now.appended done
           → ForwardStands first losses m later [] end faults z

@@ -6,7 +6,7 @@ use Rattle.board_face.specs.{Looks.{AppRose}, declared.views.app.{AppLook.TheVar
 use Rattle.board_face.specs.AppEvents.{abandoned}
 use Rattle.zc_poll.specs.{Standing.{Desk}, PourTurns.{ScrubsIfQuiet}, declared.to_shelf.PollTurn.{PollTurn, TheVariants.{Did, Idle, Ended}}}
 use Rattle.zc_poll.{specs.{declared.to_shelf.Rests.TheVariants.{Stream, RefillFull, NotQuiet, NoNotice}, Stops.{without_loan}}, proofs.Scrubbing.{scrubbed-desk}}
-use Rattle.zc_forward.specs.{Sending.{OutboxState, many_kept, most_out, of_one}, Tags.{Tags, TakesTag}, Turns.{CarriedItem, GaveDue, Scrubbed, ScrubsFirst, Stage, Told, TookStep, TurnDoes}}
+use Rattle.zc_forward.specs.{Sending.{OutboxState, many_kept, most_out, of_one}, Tags.{Tags, TakesTag}, Turns.{CarriedItem, GaveDue, Scrubbed, ScrubsFirst, Stage, NoticeCame, TookStep, TurnDoes}}
 
 -- a loan that is given up changes nothing of it
 pub quiet-aside : (aside : Option Place) (old mid new : AppView) → mid ≡ without_loan aside old → ScrubsIfQuiet mid new → ScrubsIfQuiet old new
@@ -29,7 +29,7 @@ carried-first was mid now first item = ⊎_elim
     first
 
 pub step-does : (was now : Stage) (ran : PollTurn) → was.work.tally.due ≡ None → TookStep was now ran → TurnDoes was now ran
-step-does was now Did due took = subst (λ d. MatchOption d (Told was now ⊎ TookStep was now Did) (GaveDue was now)) (sym due) (inr took)
+step-does was now Did due took = subst (λ d. MatchOption d (NoticeCame was now ⊎ TookStep was now Did) (GaveDue was now)) (sym due) (inr took)
 step-does was now (Idle (Stream why)) due took = (due, took)
 step-does was now (Idle RefillFull) due took = absurd took.does
 step-does was now (Idle NotQuiet) due took = absurd took.does

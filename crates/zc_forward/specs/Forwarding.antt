@@ -5,13 +5,13 @@ use Rattle.zr_kinds.specs.declared.behaviour.Stopped.TheVariants as stop
 use Rattle.zr_io.specs.Moved.{Rose, ShelfCounts, raised_by}
 use Rattle.board_face.specs.declared.views.app.AppView.{AppView}
 use Rattle.flow_queues.specs.Totals.{loan_entries}
-use Rattle.zc_poll.specs.{Standing.{Desk, StreamStands}, Items.{Given}, Pouring.{HasPoured}}
+use Rattle.zc_poll.specs.{Standing.{Desk, StreamStands}, Items.{GivenItem}, Pouring.{HasPoured}}
 use Rattle.zc_forward.specs.{Tags.{Tags}, Sending.{AreLoans, OutboxState, most_out, of_one, tags_of, many_out}}
 
 -- Between two turns. The carrier had got `first` and has `got` now; its counts were `losses` and are `losses_now`.
 pub record ForwardStands (first : ℕ → Option (List ℕ)) (losses : ShelfCounts) (w : OutboxState) (st : Desk) (tags : Tags) (got : ℕ → Option (List ℕ))
     (losses_now : ShelfCounts) (v : AppView) : Type 0 where
-  pub items : List Given
+  pub items : List GivenItem
   -- the item at which it was stopped: its flow, and how many of its bytes aren't counted
   pub torn : ℕ
   pub missing : ℕ

@@ -17,6 +17,6 @@ pub record IsLastTurn (first : ℕ → Option (List ℕ)) (losses : ShelfCounts)
   pub same : new.app ≡ app
 
 -- This is told at the end of what stands so, with what the carrier got and the face has seen by then.
-abbrev pub Tells : OutboxState → Desk → Tags → (ℕ → Option (List ℕ)) → ShelfCounts → AppView → Poured → Type 0
-Tells w st tags got losses_now v poured = (first : ℕ → Option (List ℕ)) (losses : ShelfCounts) → ForwardStands first losses w st tags got losses_now v
+abbrev pub TellsForwarded : OutboxState → Desk → Tags → (ℕ → Option (List ℕ)) → ShelfCounts → AppView → Poured → Type 0
+TellsForwarded w st tags got losses_now v poured = (first : ℕ → Option (List ℕ)) (losses : ShelfCounts) → ForwardStands first losses w st tags got losses_now v
     → (later : ℕ → Option (List ℕ)) × (counts : ShelfCounts) × (new : AppView) × IsLastTurn first losses later counts v.app new poured

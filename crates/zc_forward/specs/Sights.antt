@@ -4,8 +4,8 @@ use Rattle.zr_kinds.specs.declared.behaviour.Stopped.TheVariants as stop
 use Rattle.zr_io.specs.Moved.{ShelfCounts}
 use Rattle.futures.specs.declared.task.Poll.{Poll}
 use Rattle.board_face.specs.declared.views.app.{AppLook.{AppLook}, AppView.{AppView}}
-use Rattle.zc_poll.specs.{Standing.{Desk}, PourTurns.{IsTold, ScrubsIfQuiet}, declared.to_shelf.{Poured.{Poured}, PollTurn.{PollTurn}}}
-use Rattle.zc_forward.specs.{Carrying.{Carrying}, Sending.{OutboxState}, Forwarding.{ForwardStands}, Polls.{Tells}}
+use Rattle.zc_poll.specs.{Standing.{Desk}, PourTurns.{IsPourTurnTold, ScrubsIfQuiet}, declared.to_shelf.{Poured.{Poured}, PollTurn.{PollTurn}}}
+use Rattle.zc_forward.specs.{Carrying.{Carrying}, Sending.{OutboxState}, Forwarding.{ForwardStands}, Polls.{TellsForwarded}}
 use Rattle.zc_forward.specs.Turns.{ForwardGives, ForwardView, PollDoes, PollForwards, Stage, TurnDoes, stage_of}
 
 -- what is kept, the stream's desk, what is seen of the carrier, and the view
@@ -31,7 +31,7 @@ MayTurn at = (first : ℕ → Option (List ℕ)) × (losses : ShelfCounts) × St
 
 -- this is told at its end
 abbrev pub TellsAt : Sight → Poured → Type 0
-TellsAt at = Tells at.work at.desk at.carrier.tags at.carrier.got at.carrier.counts at.view
+TellsAt at = TellsForwarded at.work at.desk at.carrier.tags at.carrier.got at.carrier.counts at.view
 
 -- What a turn makes of it.
 pub record ForwardMakes (is_so : AppLook → Type 0) (was now : Sight) (ran : PollTurn) : Type 0 where
@@ -43,7 +43,7 @@ pub record ForwardMakes (is_so : AppLook → Type 0) (was now : Sight) (ran : Po
   -- One that was stopped and hadn't scrubbed has, where no tag is out and no loan is due, or it saw a refill slot in use.
   pub scrubs : was.work.tally.stopped ≢ stop.No → was.work.tally.due ≡ None → was.work.out ≡ [] → ScrubsIfQuiet was.view now.view
   -- The board says of the look on which it rests that it is so.
-  pub told : IsTold is_so ran
+  pub told : IsPourTurnTold is_so ran
 
 -- What a poll makes of it is what a turn makes.
 pub record PollMakes (is_so : AppLook → Type 0) (was now : Sight) (gave : Poll Poured) : Type 0 where

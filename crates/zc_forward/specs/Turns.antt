@@ -10,8 +10,8 @@ use Rattle.board_face.specs.declared.views.app.{AppLook.TheVariants.{RefillInUse
 use Rattle.flow_queues.specs.{Core.{Each, OnlyReads}, Ends.{HasLeft}, Returned.{HasReturned}, Counting.{TallyState}}
 use Rattle.zc_poll.specs.declared.{step.Lent.{Lent}, to_shelf.Rests.{Rests, TheVariants.{Stream, RefillFull, NotQuiet, NoNotice}}}
 use Rattle.zc_poll.specs.declared.{step.Step.{Step, TheVariants.{Waiting, Memory, Ended as stream_ended}}, to_shelf.{Poured.{Poured}, PollTurn.{PollTurn}}}
-use Rattle.zc_poll.specs.{declared.to_shelf.PollTurn.TheVariants.{Did, Idle, Ended}, Fresh.{has_left}, Standing.{Desk, stopped_with}, Steps.{OnlySteps, Scrubs, Steps, IsItem}}
-use Rattle.zc_poll.specs.{PourTurns.{GoesBack, IsTold, pour_end}, Stops.{without_loan}}
+use Rattle.zc_poll.specs.{declared.to_shelf.PollTurn.TheVariants.{Did, Idle, Ended}, Fresh.{has_left}, Standing.{Desk, stopped_with}, Steps.{OnlySteps, ScrubsOrWaits, Steps, IsItem}}
+use Rattle.zc_poll.specs.{PourTurns.{GoesBack, IsPourTurnTold, pour_end}, Stops.{without_loan}}
 use Rattle.zc_forward.specs.{declared.sent.Sent.{Sent}, GivenUp.{GaveAllUp}, Tags.{Pace, PaceGoes, Tags, TakesTag}, Sending.{OutboxState, is_held, is_urgent, most_out, many_kept}}
 use Rattle.zc_forward.specs.{Forwarding.{ForwardStands}, Asking.{AskedBy}}
 
@@ -30,13 +30,13 @@ abbrev pub with_due : OutboxState → Option Place → OutboxState
 with_due w due = record w { tally = record w.tally { due = due } }
 
 -- `Did`: the loan was given back. `Idle`: a refill slot was seen in use, and it is due.
-abbrev pub GivesBack : Place → OutboxState → OutboxState → AppView → AppView → PollTurn → Type 0
-GivesBack loan w z old new Did = (z ≡ w) × (new ≡ gave old loan)
-GivesBack loan w z old new (Idle why) = (why ≡ RefillFull) × (z ≡ with_due w (Some loan)) × AppOnlySaw RefillInUse old new × HasWrittenRingful old
-GivesBack loan w z old new (Ended poured) = ⊥
+abbrev pub GivesLoanBack : Place → OutboxState → OutboxState → AppView → AppView → PollTurn → Type 0
+GivesLoanBack loan w z old new Did = (z ≡ w) × (new ≡ gave old loan)
+GivesLoanBack loan w z old new (Idle why) = (why ≡ RefillFull) × (z ≡ with_due w (Some loan)) × AppOnlySaw RefillInUse old new × HasWrittenRingful old
+GivesLoanBack loan w z old new (Ended poured) = ⊥
 
 -- A notice came for the tag of a loan. The tag is out no longer, and the loan goes back; nothing else changed.
-pub record Told (was now : Stage) : Type 0 where
+pub record NoticeCame (was now : Stage) : Type 0 where
   pub sent : Sent
   pub at : ℕ
   pub is : slice_get was.work.out at ≡ Some sent
@@ -77,7 +77,7 @@ pub record Scrubbed (was now : Stage) : Type 0 where
   pub out : was.work.out ≡ []
   pub work : now.work ≡ record was.work { uncarried = None }
   pub done : Bool
-  pub scrubs : Scrubs was.desk now.desk (without_loan was.work.uncarried was.view) now.view done
+  pub scrubs : ScrubsOrWaits was.desk now.desk (without_loan was.work.uncarried was.view) now.view done
   pub tags : now.tags ≡ was.tags
   pub pace : now.pace ≡ was.pace
 
@@ -112,7 +112,7 @@ GaveDue was now loan = (now.work ≡ with_due was.work None) × (now.desk ≡ wa
 
 -- The loan that was due was given back. Or none was due, and a notice came or a step was taken.
 abbrev pub Does : Stage → Stage → Type 0
-Does was now = MatchOption was.work.tally.due (Told was now ⊎ TookStep was now Did) (GaveDue was now)
+Does was now = MatchOption was.work.tally.due (NoticeCame was now ⊎ TookStep was now Did) (GaveDue was now)
 
 -- The stream waits; or the carrier had no notice while no more loans may go out, or no note comes any more; or a refill slot was seen
 -- in use, that of the loan that is due, or any one as it was to leave.
@@ -139,7 +139,7 @@ pub record Asks {C : Type 0} (answers : Bool → C → C → Option ℕ → Type
   -- once
   pub pace : pace_at new ≡ pace_at asked
   pub goes : PaceGoes (pace_at old) (pace_at new)
-  pub rest : MatchOption told ((new ≡ asked) ⊎ CarriedItem was now) (λ tag. (new ≡ asked) × Told was now)
+  pub rest : MatchOption told ((new ≡ asked) ⊎ CarriedItem was now) (λ tag. (new ≡ asked) × NoticeCame was now)
 
 -- A carrier that keeps so many tags out was asked once, where no loan was due. So few were out that it had no notice, and the tags are
 -- those of before but for an item that was carried; or more were, and the one was told that went out first.
@@ -147,7 +147,7 @@ abbrev pub KeepsDelay : Stage → Stage → Type 0
 KeepsDelay was now = MatchOption was.work.tally.due
     (MatchBool (nat_le (length was.tags) (if is_urgent was.work then 0 else was.pace.delay))
     ((now.pace ≡ record was.pace { looks = raised was.pace.looks }) × ((now.tags ≡ was.tags) ⊎ CarriedItem was now))
-    ((now.pace ≡ was.pace) × Told was now × (first : ℕ × ℕ) × (was.tags ≡ first ∷ now.tags)))
+    ((now.pace ≡ was.pace) × NoticeCame was now × (first : ℕ × ℕ) × (was.tags ≡ first ∷ now.tags)))
     (λ loan. now.pace ≡ was.pace)
 
 abbrev pub TurnDoes : Stage → Stage → PollTurn → Type 0
@@ -182,4 +182,4 @@ PollForwards first losses w st tags got losses_now v Pending = ForwardStands fir
 
 abbrev pub PollDoes : (AppLook → Type 0) → Stage → Stage → Poll Poured → Type 0
 PollDoes is_so was now (Ready poured) = TurnDoes was now (Ended poured)
-PollDoes is_so was now Pending = TurnDoes was now Did ⊎ ((why : Rests) × TurnDoes was now (Idle why) × IsTold is_so (Idle why))
+PollDoes is_so was now Pending = TurnDoes was now Did ⊎ ((why : Rests) × TurnDoes was now (Idle why) × IsPourTurnTold is_so (Idle why))

@@ -1,7 +1,7 @@
 //! A loan is handed to a carrier, and loans are given up.
 ghost use Rattle.std.specs.{Prelude.{◌≡◌, ◌<◌, List, [], ◌∷◌, ◌++◌, length, nat_eq, None, Some}, Map.{lookup}};
 ghost use Rattle.zr_kinds.specs.declared.behaviour.Stopped.TheVariants.{Write};
-ghost use Rattle.zc_poll.specs.{Standing.{HoldsLoan, stopped_with}, Items.{Given, HasGiven}};
+ghost use Rattle.zc_poll.specs.{Standing.{HoldsLoan, stopped_with}, Items.{GivenItem, HasGiven}};
 ghost use Rattle.zc_forward.specs.{Carrying.{Cancels, Carries, carrying}, Seats.{DeskStays}, GivenUp.{GaveUp, Halts, OnlySent}};
 
 use crate::carrier::Carrier;
@@ -78,7 +78,7 @@ pub fn fail<F: AppFace, C: Carrier>(stream: &mut LoanStream<F>, carrier: &mut C,
     requires sent { OnlySent stream.old.desk (F.seen stream.old.face) work.old.out.items }
     ensures halts { Halts F.seen F.beside stream.old stream.new }
     ensures stopped { stream.new.desk ≡ stopped_with stream.old.desk stream.new.desk.flows }
-    ensures items { (items : List Given)
+    ensures items { (items : List GivenItem)
         → HasGiven items stream.old.desk.flows (F.seen stream.old.face).taken
         → HasGiven items stream.new.desk.flows (F.seen stream.new.face).taken }
     ensures work { (work.new.tally ≡ record work.old.tally { stopped = Write })

@@ -2,7 +2,7 @@
 ghost use Rattle.std.specs.Prelude.{◌≡◌, ℕ, List, [], Option, true, ⊤};
 ghost use Rattle.futures.specs.{Poll.{IfReady, OnPending}, Task.{Keeps}};
 ghost use Rattle.board_face.specs.AppEvents.{app_gist};
-ghost use Rattle.zc_poll.specs.{Fresh.{HasDoneNothing, new_desk}, Standing.{StreamStands}};
+ghost use Rattle.zc_poll.specs.{Fresh.{HasDoneNothing, new_stream_desk}, Standing.{StreamStands}};
 ghost use Rattle.zc_poll.specs.{Polls.{AsksAgain}, PourTurns.{pour_end}, Stops.{HasStopped}, declared.to_shelf.Poured.{Poured as Told}};
 ghost use Rattle.flow_queues.specs.Counting.{quit_by};
 ghost use Rattle.zc_forward.specs.{GivenUp.{Halts}, Seats.{SameSeat, streaming}, Carrying.{Cancels, carrying}, Sending.{new_outbox}, Turns.{Asks}};
@@ -40,7 +40,7 @@ impl<F, C> Model for Forward<F, C> {
 impl<F: AppFace, C: Carrier> Forward<F, C> {
     /// Nothing was handed out yet. Takes no memory.
     pub fn new(stream: LoanStream<F>, carrier: C) -> Forward<F, C>
-        requires fresh { (app : ℕ) × (stream.desk ≡ new_desk app)
+        requires fresh { (app : ℕ) × (stream.desk ≡ new_stream_desk app)
             × HasDoneNothing app (F.seen stream.face) }
         requires stands { StreamStands stream.desk (F.seen stream.face) }
         requires none { C.tags carrier ≡ [] }

@@ -3,8 +3,8 @@ ghost use Rattle.std.specs.Prelude.{◌≡◌, ◌≢◌, ℕ, List, [], Option,
 ghost use Rattle.zr_io.specs.Moved.{Rose, ShelfCounts};
 ghost use Rattle.board_face.specs.{AppEvents.{app_gist}, declared.views.app.AppView.{AppView}};
 ghost use Rattle.zr_kinds.specs.declared.behaviour.Stopped.TheVariants.{No};
-ghost use Rattle.zc_poll.specs.{Standing.{Desk, HoldsLoan}, Steps.{IsItem, OnlySteps}, PourTurns.{IsTold, ScrubsIfQuiet}};
-ghost use Rattle.zc_forward.specs.{Tags.{Pace, Tags, TakesTag}, Seats.{SameSeat}, OutboxOf.{outbox_of}, Handing.{CanHand, CanStep}, Forwarding.{ForwardStands, StandsSo}, Turns.{ForwardGives, GivesBack, CarriedItem, ScrubsFirst, StepDoes, Told, TurnDoes, stage_of, with_due}};
+ghost use Rattle.zc_poll.specs.{Standing.{Desk, HoldsLoan}, Steps.{IsItem, OnlySteps}, PourTurns.{IsPourTurnTold, ScrubsIfQuiet}};
+ghost use Rattle.zc_forward.specs.{Tags.{Pace, Tags, TakesTag}, Seats.{SameSeat}, OutboxOf.{outbox_of}, Handing.{CanHand, CanStep}, Forwarding.{ForwardStands, StandsSo}, Turns.{ForwardGives, GivesLoanBack, CarriedItem, ScrubsFirst, StepDoes, NoticeCame, TurnDoes, stage_of, with_due}};
 
 use crate::carrier::Carrier;
 use crate::carrying::{fail, send};
@@ -23,10 +23,11 @@ fn give_back<F: AppFace>(stream: &mut LoanStream<F>, work: &mut Outbox, loan: Lo
         tags got now (F.seen stream.old.face)
         → ForwardStands first losses (outbox_of work.new) stream.new.desk tags got now
         (F.seen stream.new.face) }
-    ensures back { GivesBack loan (outbox_of work.old) (outbox_of work.new) (F.seen stream.old.face)
+    ensures back { GivesLoanBack loan (outbox_of work.old) (outbox_of work.new)
+        (F.seen stream.old.face)
         (F.seen stream.new.face) result }
     ensures desk { stream.new.desk ≡ stream.old.desk }
-    ensures told { IsTold (λ look.
+    ensures told { IsPourTurnTold (λ look.
         F.tells look (app_gist (F.seen stream.new.face)) (F.beside stream.new.face)) result }
     ensures seat { SameSeat F.seen F.beside stream.old.face stream.new.face }
 {
@@ -54,7 +55,8 @@ fn take_notice<F: AppFace>(stream: &mut LoanStream<F>, work: &mut Outbox, tag: u
         → ForwardStands first losses (outbox_of work.new) stream.new.desk tags got now
         (F.seen stream.new.face) }
     ensures told { (was tags : Tags) (pace later : Pace) → TakesTag was tags (Some tag)
-        → Told (stage_of (outbox_of work.old) stream.old.desk was pace (F.seen stream.old.face))
+        → NoticeCame (stage_of (outbox_of work.old) stream.old.desk was pace
+        (F.seen stream.old.face))
         (stage_of (outbox_of work.new) stream.new.desk tags later (F.seen stream.new.face)) }
     ensures seat { SameSeat F.seen F.beside stream.old.face stream.new.face }
 {
@@ -81,7 +83,7 @@ fn leave<F: AppFace>(stream: &mut LoanStream<F>, work: &mut Outbox) -> PollTurn
         (F.seen stream.old.face))
         (stage_of (outbox_of work.new) stream.new.desk tags later (F.seen stream.new.face)) result }
     ensures scrubs { ScrubsIfQuiet (F.seen stream.old.face) (F.seen stream.new.face) }
-    ensures told { IsTold (λ look.
+    ensures told { IsPourTurnTold (λ look.
         F.tells look (app_gist (F.seen stream.new.face)) (F.beside stream.new.face)) result }
     ensures seat { SameSeat F.seen F.beside stream.old.face stream.new.face }
 {
@@ -178,7 +180,7 @@ fn step_once<F: AppFace, C: Carrier>(
         (F.seen stream.old.face))
         (stage_of (outbox_of work.new) stream.new.desk (C.tags carrier.new) (C.pace carrier.new)
         (F.seen stream.new.face)) }
-    ensures told { IsTold (λ look.
+    ensures told { IsPourTurnTold (λ look.
         F.tells look (app_gist (F.seen stream.new.face)) (F.beside stream.new.face)) result }
     ensures seat { SameSeat F.seen F.beside stream.old.face stream.new.face }
 {
@@ -265,7 +267,7 @@ fn take_step<F: AppFace, C: Carrier>(
         (F.seen stream.new.face)) }
     ensures scrubs { work.old.tally.stopped ≢ No → work.old.out.items ≡ []
         → ScrubsIfQuiet (F.seen stream.old.face) (F.seen stream.new.face) }
-    ensures told { IsTold (λ look.
+    ensures told { IsPourTurnTold (λ look.
         F.tells look (app_gist (F.seen stream.new.face)) (F.beside stream.new.face)) result }
     ensures seat { SameSeat F.seen F.beside stream.old.face stream.new.face }
 {
@@ -308,13 +310,14 @@ pub fn go_on<F: AppFace, C: Carrier>(
         (stage_of (outbox_of work.new) stream.new.desk (C.tags carrier.new) (C.pace carrier.new)
         (F.seen stream.new.face)))
         (λ tag. (carrier.new ≡ carrier.old)
-        × Told (stage_of (outbox_of work.old) stream.old.desk was pace (F.seen stream.old.face))
+        × NoticeCame (stage_of (outbox_of work.old) stream.old.desk was pace
+        (F.seen stream.old.face))
         (stage_of (outbox_of work.new) stream.new.desk (C.tags carrier.new) (C.pace carrier.new)
         (F.seen stream.new.face))) }
     ensures scrubs { told ≡ None → work.old.tally.stopped ≢ No → work.old.tally.due ≡ None
         → work.old.out.items ≡ []
         → ScrubsIfQuiet (F.seen stream.old.face) (F.seen stream.new.face) }
-    ensures told { IsTold (λ look.
+    ensures told { IsPourTurnTold (λ look.
         F.tells look (app_gist (F.seen stream.new.face)) (F.beside stream.new.face)) result }
     ensures seat { SameSeat F.seen F.beside stream.old.face stream.new.face }
 {

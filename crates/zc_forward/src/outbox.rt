@@ -1,6 +1,6 @@
 //! What forwarding keeps beside its stream and its carrier.
 ghost use Rattle.std.specs.{Prelude.{◌≡◌, ◌≤◌, ◌+◌, ◌==◌, length, vec_capacity, OnOk, IsSome}, Ordering.{nat_cmp}, BTreeMap.{get}};
-ghost use Rattle.flow_queues.specs.{Counting.{AddsTo, HasRoomForFlows}, TallyOf.{tally_of}};
+ghost use Rattle.flow_queues.specs.{Counting.{AddsTo, HasRoomForFlows}, TallyOf.{tally_state_of}};
 ghost use Rattle.zc_forward.specs.{OutboxOf.{outbox_of}, Sending.{is_urgent as urgent, most_out, many_kept}};
 
 use crate::sent::{MOST, Sent};
@@ -42,7 +42,7 @@ pub fn is_urgent(work: &Outbox) -> bool
 
 /// Asks for what one more loan of a flow takes.
 pub fn room_for(work: &mut Outbox, flow: u32) -> Result<(), AllocError>
-    requires room { HasRoomForFlows (tally_of work.old.tally) }
+    requires room { HasRoomForFlows (tally_state_of work.old.tally) }
     ensures same { work.new.tally
         ≡ record work.old.tally { counts = work.new.tally.counts; flows = work.new.tally.flows } }
     ensures beside { (work.new.out.items ≡ work.old.out.items)
@@ -50,7 +50,7 @@ pub fn room_for(work: &mut Outbox, flow: u32) -> Result<(), AllocError>
     ensures none { AddsTo flow 0 work.old.tally.counts.entries work.new.tally.counts.entries }
     ensures there { OnOk result (IsSome (get nat_cmp work.new.tally.counts flow)) }
     ensures fits { OnOk result (length work.new.out.items + 1 ≤ vec_capacity work.new.out) }
-    ensures room { HasRoomForFlows (tally_of work.new.tally) }
+    ensures room { HasRoomForFlows (tally_state_of work.new.tally) }
 {
     work.out.reserve(1)?;
     work.tally.make_room(flow)

@@ -4,9 +4,9 @@ use Rattle.std.{specs.Io.KnownBytes.{Keeps}, proofs.{lemmas.Bool.{cases_eq, eq-e
 use Rattle.zr_io.{specs.Moved.{Gained}, proofs.Moved.{Gained-then, Gained-nothing}}
 use Rattle.board_face.specs.declared.views.app.AppView.{AppView}
 use Rattle.flow_queues.specs.{declared.queues.Lending.{Lending}, Marks.{Mark, marks_from}, Core.{IsIn, lent_piece, marks_of_loan, AreReadAt, IsReadOf, total}}
-use Rattle.flow_queues.specs.{Totals.{capped, lent_len}, Shelves.{AreOfOneLoan, kept_loans}, Ends.{bytes_in, times}}
+use Rattle.flow_queues.specs.{Totals.{capped, lent_len}, Shelves.{AreOfOneLoan, kept_loans}, Ends.{bytes_written_of, times_written}}
 use Rattle.flow_queues.{proofs.{Entering.{marks-length, marks-take, marks-drop}, ReadLemmas.{read-append}, Tokens.{in-left}}, specs.Counting.{TallyState, AddsTo}}
-use Rattle.zc_poll.specs.{Standing.{Desk}, Items.{Given, HasGiven, marks_given}, Pouring.{IsPoured, HasPoured, given_len}}
+use Rattle.zc_poll.specs.{Standing.{Desk}, Items.{GivenItem, HasGiven, marks_given}, Pouring.{IsPoured, HasPoured, given_len}}
 use Rattle.zc_poll.proofs.{Marking.{given-push}, PouredOn.{SeesOn, read-on, poured-exact}, EntriesFirst.{first-more, first-same}, ItemPoured.{push-length, same-kept}}
 
 -- the marks of a flow up to so many of the item behind them
@@ -61,7 +61,8 @@ at-flow n flow bytes same = rw (let test : (n == flow) ≡ true = eq-eqb n flow 
 not-flow : (n flow bytes : ℕ) → n ≢ flow → (if n == flow then bytes else 0) ≡ 0
 not-flow n flow bytes other = rw (let test : (n == flow) ≡ false = ne_eqb n flow other in test) refl
 
-module _ (P : Type 0) (first kept later : ℕ → Option (List ℕ)) (u w : TallyState) (st : Desk) (v y : AppView) (items : List Given) (g : Given) (done : ℕ)
+module _ (P : Type 0) (first kept later : ℕ → Option (List ℕ)) (u w : TallyState) (st : Desk) (v y : AppView) (items : List GivenItem) (g : GivenItem)
+    (done : ℕ)
     (poured : HasPoured P first u st kept v (items ++ g ∷ []) g.flow (given_len g)) (none : P → ⊥) (on : SeesOn v y)
     (view : y ≡ record v { reads = y.reads }) (known : g.lending.note < length v.taken) (out : IsIn (lent_piece v.taken g.lending) v.loans)
     (counted : done ≤ given_len g)
@@ -76,10 +77,10 @@ module _ (P : Type 0) (first kept later : ℕ → Option (List ℕ)) (u w : Tall
   kept-same = same-kept v y (ap (λ (x : AppView). x.loans) view) (ap (λ (x : AppView). x.returned) view) (ap (λ (x : AppView). x.written) view)
 
   abbrev Now : ℕ → List ℕ → Type 0
-  Now n bytes = IsPoured ((done < given_len g) × (n ≡ g.flow)) y (marks_given n (items ++ g ∷ [])) (bytes_in n w.counts) bytes
+  Now n bytes = IsPoured ((done < given_len g) × (n ≡ g.flow)) y (marks_given n (items ++ g ∷ [])) (bytes_written_of n w.counts) bytes
 
   abbrev Was : ℕ → List ℕ → Type 0
-  Was n bytes = IsPoured (P × (n ≡ g.flow)) v (marks_given n (items ++ g ∷ [])) (bytes_in n u.counts) bytes
+  Was n bytes = IsPoured (P × (n ≡ g.flow)) v (marks_given n (items ++ g ∷ [])) (bytes_written_of n u.counts) bytes
 
   marks-are : marks_given g.flow (items ++ g ∷ []) ≡ marks_given g.flow items ++ marks_of_loan g.lending
   marks-are = given-push g.flow items g ∙ ap (λ ms. marks_given g.flow items ++ ms)
@@ -87,9 +88,9 @@ module _ (P : Type 0) (first kept later : ℕ → Option (List ℕ)) (u w : Tall
 
   here : Gained (first g.flow) (later g.flow) (Now g.flow)
   here =
-      let count : bytes_in g.flow w.counts ≡ bytes_in g.flow u.counts + done =
-      adds.counts g.flow ∙ ap (λ k. bytes_in g.flow u.counts + k) (at-flow g.flow g.flow done refl) in
-      let size : length (marks_given g.flow items) ≡ bytes_in g.flow u.counts = omega (
+      let count : bytes_written_of g.flow w.counts ≡ bytes_written_of g.flow u.counts + done =
+      adds.counts g.flow ∙ ap (λ k. bytes_written_of g.flow u.counts + k) (at-flow g.flow g.flow done refl) in
+      let size : length (marks_given g.flow items) ≡ bytes_written_of g.flow u.counts = omega (
         arith,
         poured.counts g.flow,
         at-flow g.flow g.flow (given_len g) refl,
@@ -98,21 +99,22 @@ module _ (P : Type 0) (first kept later : ℕ → Option (List ℕ)) (u w : Tall
       Gained-then (first g.flow) (kept g.flow) (later g.flow) (Was g.flow) (IsReadOf v.taken y.reads g.lending done (given_len g)) (Now g.flow)
       (λ bytes more is read.
       subst (λ k. IsPoured ((done < given_len g) × (g.flow ≡ g.flow)) y (marks_given g.flow (items ++ g ∷ [])) k (bytes ++ more)) (sym count)
-      (subst (λ ms. IsPoured ((done < given_len g) × (g.flow ≡ g.flow)) y ms (bytes_in g.flow u.counts + done) (bytes ++ more)) (sym marks-are)
-      (joined v y on taken-same kept-same g.lending known out (marks_given g.flow items) done (P × (g.flow ≡ g.flow)) (bytes_in g.flow u.counts) bytes more
-      (subst (λ ms. IsPoured (P × (g.flow ≡ g.flow)) v ms (bytes_in g.flow u.counts) bytes) marks-are is) (λ both. none both.0) size read
+      (subst (λ ms. IsPoured ((done < given_len g) × (g.flow ≡ g.flow)) y ms (bytes_written_of g.flow u.counts + done) (bytes ++ more)) (sym marks-are)
+      (joined v y on taken-same kept-same g.lending known out (marks_given g.flow items) done (P × (g.flow ≡ g.flow)) (bytes_written_of g.flow u.counts)
+      bytes more
+      (subst (λ ms. IsPoured (P × (g.flow ≡ g.flow)) v ms (bytes_written_of g.flow u.counts) bytes) marks-are is) (λ both. none both.0) size read
       ((done < given_len g) × (g.flow ≡ g.flow)) (λ part. (part, refl)))))
       (poured.shelved g.flow) gained
 
   there : (n : ℕ) → n ≢ g.flow → Gained (first n) (later n) (Now n)
   there n other =
-      let count : bytes_in n w.counts ≡ bytes_in n u.counts = omega (arith, adds.counts n, not-flow n g.flow done other) in
+      let count : bytes_written_of n w.counts ≡ bytes_written_of n u.counts = omega (arith, adds.counts n, not-flow n g.flow done other) in
       Gained-then (first n) (kept n) (later n) (Was n) (λ more. more ≡ []) (Now n)
       (λ bytes more is no.
       subst (λ ms. Now n (bytes ++ ms)) (sym no) (subst (Now n) (sym (append-nil bytes))
       (subst (λ k. IsPoured ((done < given_len g) × (n ≡ g.flow)) y (marks_given n (items ++ g ∷ [])) k bytes) (sym count)
       (poured-exact (P × (n ≡ g.flow)) ((done < given_len g) × (n ≡ g.flow)) v y on (λ both. other both.1) (marks_given n (items ++ g ∷ []))
-      (bytes_in n u.counts) bytes is))))
+      (bytes_written_of n u.counts) bytes is))))
       (poured.shelved n) (Gained-nothing (kept n) (later n) (λ more. more ≡ []) (others n other) refl)
 
   pub appended : HasPoured (done < given_len g) first w st later y (items ++ g ∷ []) g.flow (given_len g - done)
@@ -146,7 +148,7 @@ module _ (P : Type 0) (first kept later : ℕ → Option (List ℕ)) (u w : Tall
         ))
         (cases_eq n g.flow);
     once = λ n. ⊎_elim
-        (λ (is : n ≡ g.flow). subst (λ m. times m w.counts ≤ 1) (sym is) (adds.once (poured.once g.flow)))
+        (λ (is : n ≡ g.flow). subst (λ m. times_written m w.counts ≤ 1) (sym is) (adds.once (poured.once g.flow)))
         (λ (not : n ≢ g.flow). (let e = adds.others n not in omega (arith, e, poured.once n)))
         (cases_eq n g.flow);
     known = λ n some. ⊎_elim

@@ -3,7 +3,7 @@ use Rattle.std.proofs.Common.{◌≡◌, ℕ, ◌+◌, ◌≤◌, Bool, true, fa
 use Rattle.std.proofs.{Common.{append_assoc, append-nil, length-append, take_all}, lemmas.List.{take-append-le}}
 use Rattle.zr_kinds.specs.declared.ring.Rqe.{Rqe}
 use Rattle.board_face.specs.{AppEvents.{entry_of}, declared.views.app.{LentPiece.{LentPiece}, WrittenEntry.{WrittenEntry}, AppView.{AppView}}}
-use Rattle.flow_queues.specs.{Core.{total}, Entries.{Gives, AreBlocks, none, loan}, Totals.{lent_len, loan_entries, raw_entries}}
+use Rattle.flow_queues.specs.{Core.{total}, Entries.{GivesAll, AreBlocks, none, loan}, Totals.{lent_len, loan_entries, raw_entries}}
 use Rattle.flow_queues.proofs.{GivenBack.{gives-same, gives-gave, fresh_front}, Tokens.{total-append}}
 use Rattle.zc_poll.specs.Pouring.{GaveFirst}
 
@@ -29,7 +29,7 @@ first-gone v w more n written setting returned first =
     record {
       raw = ap (total (λ (e : WrittenEntry). if e.of_loan then 0 else 1)) written ∙ first.raw;
       entries = omega (arith, count, ap length returned, length-append v.returned more, first.entries);
-      given = subst (Gives w) (sym same) (gives-same v w (take (loan_entries v) v.returned) written setting first.given);
+      given = subst (GivesAll w) (sym same) (gives-same v w (take (loan_entries v) v.returned) written setting first.given);
       bytes = omega (arith, ap (total lent_len) same, first.bytes);
     }
 
@@ -52,7 +52,7 @@ first-gave v w l n written setting returned all counted first =
     record {
       raw = omega (arith, raws, first.raw);
       entries = omega (arith, many);
-      given = subst (Gives w) (sym whole) (gives-gave v w l written returned setting (subst (Gives v) before first.given));
+      given = subst (GivesAll w) (sym whole) (gives-gave v w l written returned setting (subst (GivesAll v) before first.given));
       bytes = omega (arith, ap (total lent_len) whole, ap (total lent_len) returned, total-append lent_len v.returned (l ∷ []), counted);
     }
 

@@ -4,8 +4,8 @@ use Rattle.std.proofs.lemmas.{Bool.{cases_eq, eq-eqb, ne_eqb}, List.{take-append
 use Rattle.zr_io.proofs.Moved.{Gained-weaker}
 use Rattle.board_face.specs.declared.views.app.{LentPiece.{LentPiece}, WrittenEntry.{WrittenEntry}, AppView.{AppView}}
 use Rattle.flow_queues.specs.{Marks.{Mark}, Core.{total, lent_piece, marks_of_loan, AreReadAt}, Totals.{capped, lent_len, loan_entries}, Shelves.{kept_loans}}
-use Rattle.flow_queues.{specs.{Ends.{bytes_in, times}, Counting.{TallyState, AddsTo, HasRoomForFlows, item_counted}, TallyOf.{tally_of}, declared.tally.LoanTally.{LoanTally}}, proofs.{Entering.{marks-length}, Tokens.{total-append, loan-some}}}
-use Rattle.zc_poll.specs.{declared.step.Lent.{Lent}, Standing.{Desk, StreamStands}, Items.{Given, HasGiven, marks_given}}
+use Rattle.flow_queues.{specs.{Ends.{bytes_written_of, times_written}, Counting.{TallyState, AddsTo, HasRoomForFlows, item_counted}, TallyOf.{tally_state_of}, declared.tally.LoanTally.{LoanTally}}, proofs.{Entering.{marks-length}, Tokens.{total-append, loan-some}}}
+use Rattle.zc_poll.specs.{declared.step.Lent.{Lent}, Standing.{Desk, StreamStands}, Items.{GivenItem, HasGiven, marks_given}}
 use Rattle.zc_poll.{specs.{Steps.{OnlySteps, IsItem, given_as}, Pouring.{GaveFirst, IsPoured, HasPoured, given_len}}, proofs.Marking.{given-push}}
 use Rattle.zc_poll.proofs.{PouredOn.{SeesOn, read-on, poured-within, poured-on, poured-exact}, EntriesFirst.{first-more, first-same}, Views.{total-one}}
 
@@ -26,13 +26,13 @@ same-kept v x loans returned written =
 
 -- ---- nothing was lent and nothing went
 
-module _ (P Q : Type 0) (first kept : ℕ → Option (List ℕ)) (u w : TallyState) (st now : Desk) (v x : AppView) (items : List Given) (torn missing : ℕ)
+module _ (P Q : Type 0) (first kept : ℕ → Option (List ℕ)) (u w : TallyState) (st now : Desk) (v x : AppView) (items : List GivenItem) (torn missing : ℕ)
     (poured : HasPoured P first u st kept v items torn missing) (work : SameCounts u w) (given : HasGiven items now.flows x.taken) (on : SeesOn v x)
     (many : length x.loans + length x.returned ≡ length v.loans + length v.returned)
     (lent : total lent_len x.loans + total lent_len x.returned ≡ total lent_len v.loans + total lent_len v.returned)
     (spares : x.spares ≡ v.spares) (back : GaveFirst x (total (λ f. f.1) u.counts)) where
-  pub moved-by : ((n : ℕ) → (bytes : List ℕ) → IsPoured (P × (n ≡ torn)) v (marks_given n items) (bytes_in n u.counts) bytes
-      → IsPoured (Q × (n ≡ torn)) x (marks_given n items) (bytes_in n u.counts) bytes)
+  pub moved-by : ((n : ℕ) → (bytes : List ℕ) → IsPoured (P × (n ≡ torn)) v (marks_given n items) (bytes_written_of n u.counts) bytes
+      → IsPoured (Q × (n ≡ torn)) x (marks_given n items) (bytes_written_of n u.counts) bytes)
       → HasPoured Q first w now kept x items torn missing
   moved-by each = record {
     given = given;
@@ -42,29 +42,29 @@ module _ (P Q : Type 0) (first kept : ℕ → Option (List ℕ)) (u w : TallySta
     copies = omega (arith, spares, poured.copies);
     back = subst (λ c. GaveFirst x (total (λ f. f.1) c)) (sym work.counts) back;
     sum = ap (λ c. total (λ f. f.1) c + missing) work.counts ∙ poured.sum;
-    counts = λ n. ap (λ c. bytes_in n c + (if n == torn then missing else 0)) work.counts ∙ poured.counts n;
-    once = λ n. subst (λ c. times n c ≤ 1) (sym work.counts) (poured.once n);
-    known = λ n some. poured.known n (subst (λ c. 0 < times n c) work.counts some);
+    counts = λ n. ap (λ c. bytes_written_of n c + (if n == torn then missing else 0)) work.counts ∙ poured.counts n;
+    once = λ n. subst (λ c. times_written n c ≤ 1) (sym work.counts) (poured.once n);
+    known = λ n some. poured.known n (subst (λ c. 0 < times_written n c) work.counts some);
     written = work.written ∙ poured.written ∙ ap (λ c. capped (total (λ f. f.1) c)) (sym work.counts);
     loans = work.loans ∙ poured.loans;
     copied = work.copied ∙ poured.copied ∙ ap capped (sym spares);
     room = omega (arith, poured.room, ap length work.counts, work.room);
     empty = work.flows ∙ poured.empty;
-    shelved = λ n. Gained-weaker (first n) (kept n) (IsPoured (P × (n ≡ torn)) v (marks_given n items) (bytes_in n u.counts))
-        (IsPoured (Q × (n ≡ torn)) x (marks_given n items) (bytes_in n w.counts))
-        (λ bytes is. subst (λ c. IsPoured (Q × (n ≡ torn)) x (marks_given n items) (bytes_in n c) bytes) (sym work.counts) (each n bytes is))
+    shelved = λ n. Gained-weaker (first n) (kept n) (IsPoured (P × (n ≡ torn)) v (marks_given n items) (bytes_written_of n u.counts))
+        (IsPoured (Q × (n ≡ torn)) x (marks_given n items) (bytes_written_of n w.counts))
+        (λ bytes is. subst (λ c. IsPoured (Q × (n ≡ torn)) x (marks_given n items) (bytes_written_of n c) bytes) (sym work.counts) (each n bytes is))
         (poured.shelved n);
   }
 
   -- the loans that no entry gave back are the same
   pub poured-moved : kept_loans x ≡ kept_loans v → (P → Q) → HasPoured Q first w now kept x items torn missing
   poured-moved same implies = moved-by (λ n bytes is. poured-on (P × (n ≡ torn)) (Q × (n ≡ torn)) v x on same (λ both. (implies both.0, both.1))
-      (marks_given n items) (bytes_in n u.counts) bytes is)
+      (marks_given n items) (bytes_written_of n u.counts) bytes is)
 
   -- all is counted
   pub poured-all : (P → ⊥) → HasPoured Q first w now kept x items torn missing
   poured-all none = moved-by (λ n bytes is. poured-exact (P × (n ≡ torn)) (Q × (n ≡ torn)) v x on (λ both. none both.0)
-      (marks_given n items) (bytes_in n u.counts) bytes is)
+      (marks_given n items) (bytes_written_of n u.counts) bytes is)
 
 -- ---- an item
 
@@ -84,7 +84,7 @@ longer P Q v x on none marks more count bytes is =
     }
 
 -- as many bytes more as the item has, in its flow
-pub push-length : (n : ℕ) (items : List Given) (g : Given)
+pub push-length : (n : ℕ) (items : List GivenItem) (g : GivenItem)
     → length (marks_given n (items ++ g ∷ [])) ≡ length (marks_given n items) + (if n == g.flow then given_len g else 0)
 push-length n items g = ap length (given-push n items g) ∙ length-append (marks_given n items) (if g.flow == n then marks_of_loan g.lending else [])
     ∙ ap (λ k. length (marks_given n items) + k) (⊎_elim
@@ -113,10 +113,10 @@ copied-on : (b : Bool) (copied spares later : ℕ) → copied ≡ capped spares 
 copied-on true copied spares later is more = omega (arith, is, more)
 copied-on false copied spares later is more = omega (arith, is, more)
 
-module _ (P Q : Type 0) (first kept : ℕ → Option (List ℕ)) (w : TallyState) (st now : Desk) (v x : AppView) (items : List Given) (torn missing : ℕ)
+module _ (P Q : Type 0) (first kept : ℕ → Option (List ℕ)) (w : TallyState) (st now : Desk) (v x : AppView) (items : List GivenItem) (torn missing : ℕ)
     (poured : HasPoured P first w st kept v items torn missing) (none : missing ≡ 0) (whole : P → ⊥) (lent : Lent) (item : IsItem st now v x lent)
     (only : OnlySteps v x) (stands : StreamStands now x) where
-  abbrev pub the_item : Given
+  abbrev pub the_item : GivenItem
   the_item = given_as lent item.lending
 
   returned-same : x.returned ≡ v.returned
@@ -153,10 +153,10 @@ module _ (P Q : Type 0) (first kept : ℕ → Option (List ℕ)) (w : TallyState
         copied = copied-on lent.copied w.copied v.spares x.spares poured.copied item.spares;
         room = poured.room;
         empty = poured.empty;
-        shelved = λ n. Gained-weaker (first n) (kept n) (IsPoured (P × (n ≡ torn)) v (marks_given n items) (bytes_in n w.counts))
-            (IsPoured (Q × (n ≡ lent.flow)) x (marks_given n (items ++ the_item ∷ [])) (bytes_in n w.counts))
-            (λ bytes is. subst (λ ms. IsPoured (Q × (n ≡ lent.flow)) x ms (bytes_in n w.counts) bytes) (sym (given-push n items the_item))
-            (longer (P × (n ≡ torn)) (Q × (n ≡ lent.flow)) v x on (λ both. whole both.0) (marks_given n items) _ (bytes_in n w.counts) bytes is))
+        shelved = λ n. Gained-weaker (first n) (kept n) (IsPoured (P × (n ≡ torn)) v (marks_given n items) (bytes_written_of n w.counts))
+            (IsPoured (Q × (n ≡ lent.flow)) x (marks_given n (items ++ the_item ∷ [])) (bytes_written_of n w.counts))
+            (λ bytes is. subst (λ ms. IsPoured (Q × (n ≡ lent.flow)) x ms (bytes_written_of n w.counts) bytes) (sym (given-push n items the_item))
+            (longer (P × (n ≡ torn)) (Q × (n ≡ lent.flow)) v x on (λ both. whole both.0) (marks_given n items) _ (bytes_written_of n w.counts) bytes is))
             (poured.shelved n);
       }
 
@@ -167,19 +167,20 @@ pub record Roomy (u w : TallyState) : Type 0 where
   pub room : length w.counts ≤ w.room
   pub empty : w.flows ≡ []
 
-pub is-roomy : (u v w : LoanTally) (copied : Bool) → tally_of v ≡ item_counted (tally_of u) copied → w ≡ record v { counts = w.counts; flows = w.flows }
-    → HasRoomForFlows (tally_of w) → Roomy (item_counted (tally_of u) copied) (tally_of w)
+pub is-roomy : (u v w : LoanTally) (copied : Bool) → tally_state_of v ≡ item_counted (tally_state_of u) copied
+    → w ≡ record v { counts = w.counts; flows = w.flows }
+    → HasRoomForFlows (tally_state_of w) → Roomy (item_counted (tally_state_of u) copied) (tally_state_of w)
 is-roomy u v w copied counted same roomy = record {
-  same = ap tally_of same ∙ ap (λ (t : TallyState). record t { counts = w.counts.entries; flows = w.flows.items; room = vec_capacity w.flows }) counted;
+  same = ap tally_state_of same ∙ ap (λ (t : TallyState). record t { counts = w.counts.entries; flows = w.flows.items; room = vec_capacity w.flows }) counted;
   room = roomy.room;
   empty = roomy.empty;
 }
 
-pub poured-roomy : (P : Type 0) (first kept : ℕ → Option (List ℕ)) (u w : TallyState) (st : Desk) (v : AppView) (items : List Given) (torn missing : ℕ)
+pub poured-roomy : (P : Type 0) (first kept : ℕ → Option (List ℕ)) (u w : TallyState) (st : Desk) (v : AppView) (items : List GivenItem) (torn missing : ℕ)
     → HasPoured P first u st kept v items torn missing → Roomy u w → (flow : ℕ) → AddsTo flow 0 u.counts w.counts
     → 0 < length (marks_given flow items) → HasPoured P first w st kept v items torn missing
 poured-roomy P first kept u w st v items torn missing poured roomy flow adds there =
-    let bytes : (n : ℕ) → bytes_in n w.counts ≡ bytes_in n u.counts = λ n. omega (arith, adds.counts n, none-at n flow 0 refl) in record {
+    let bytes : (n : ℕ) → bytes_written_of n w.counts ≡ bytes_written_of n u.counts = λ n. omega (arith, adds.counts n, none-at n flow 0 refl) in record {
       given = poured.given;
       many = poured.many;
       lent = poured.lent;
@@ -189,7 +190,7 @@ poured-roomy P first kept u w st v items torn missing poured roomy flow adds the
       sum = omega (arith, poured.sum, adds.sum);
       counts = λ n. omega (arith, bytes n, poured.counts n);
       once = λ n. ⊎_elim
-          (λ (here : n ≡ flow). subst (λ m. times m w.counts ≤ 1) (sym here) (adds.once (poured.once flow)))
+          (λ (here : n ≡ flow). subst (λ m. times_written m w.counts ≤ 1) (sym here) (adds.once (poured.once flow)))
           (λ (not : n ≢ flow). (let same = adds.others n not in omega (arith, same, poured.once n)))
           (cases_eq n flow);
       known = λ n some. ⊎_elim
@@ -201,7 +202,7 @@ poured-roomy P first kept u w st v items torn missing poured roomy flow adds the
       copied = ap (λ (y : TallyState). y.copied) roomy.same ∙ poured.copied;
       room = roomy.room;
       empty = roomy.empty;
-      shelved = λ n. Gained-weaker (first n) (kept n) (IsPoured (P × (n ≡ torn)) v (marks_given n items) (bytes_in n u.counts))
-          (IsPoured (P × (n ≡ torn)) v (marks_given n items) (bytes_in n w.counts))
+      shelved = λ n. Gained-weaker (first n) (kept n) (IsPoured (P × (n ≡ torn)) v (marks_given n items) (bytes_written_of n u.counts))
+          (IsPoured (P × (n ≡ torn)) v (marks_given n items) (bytes_written_of n w.counts))
           (λ bs is. subst (λ k. IsPoured (P × (n ≡ torn)) v (marks_given n items) k bs) (sym (bytes n)) is) (poured.shelved n);
     }

@@ -9,7 +9,8 @@ use Rattle.flow_queues.specs.Core.{total, Each, IsIn, LieApart, lent_piece, over
 use Rattle.flow_queues.{specs.Marks.{marks_from}, proofs.Reading.{read-there}}
 use Rattle.flow_queues.proofs.Tokens.{total-append, in-total, is_that_loan, that-loan, is-lent-there, is-given, TokenGiven}
 use Rattle.flow_queues.{proofs.Standing.{each-left, each-right, each-join}, specs.{Totals.{taken_len}, Shelves.{FlowEnds}}}
-use Rattle.zc_poll.{specs.{Standing.{Desk, Common, Going, IsWhole, StreamStands}, Fresh.{has_scrubbed, has_left}, Steps.{Scrubs}}, proofs.Views.{total-one}}
+use Rattle.zc_poll.specs.{Standing.{Desk, DeskCommon, IsGoing, IsWhole, StreamStands}, Fresh.{has_scrubbed, has_left}, Steps.{ScrubsOrWaits}}
+use Rattle.zc_poll.proofs.Views.{total-one}
 
 -- these are the loans that are out
 pub record AreLoansOut (taken : List TakenNote) (loans : List LentPiece) (out : List Lending) : Type 0 where
@@ -27,7 +28,7 @@ module _ (st : Desk) (old new : AppView) (view : new ≡ without_step old new) (
   taken-kept : old.taken ≡ new.taken
   taken-kept = sym (ap (λ (v : AppView). v.taken) view)
 
-  common-kept : Common st old → Common st new
+  common-kept : DeskCommon st old → DeskCommon st new
   common-kept common = record {
     here = ap (λ (v : AppView). v.left) view ∙ common.here;
     settled = ap (λ (v : AppView). v.settled) view ∙ common.settled;
@@ -42,7 +43,7 @@ module _ (st : Desk) (old new : AppView) (view : new ≡ without_step old new) (
     few = omega (arith, common.few, counts, ap (total taken_len) taken-kept);
   }
 
-  going-kept : Going st old → Going st new
+  going-kept : IsGoing st old → IsGoing st new
   going-kept going =
       let stands : Stands st.notes st.flows [] going.out old = going.stand.stands in
       let later = goes going.out (record { are = λ f. omega (arith, stands.tokens.loans f); known = stands.due_lent }) in
@@ -238,7 +239,7 @@ module _ (st : Desk) (v new : AppView) (stands : StreamStands st v) (done : Bool
   abbrev now : Desk
   now = record st { scrubbed = done }
 
-  pub scrubs-of : (result : Bool) → ScrubsOnce st.scrubbed done v new result → Scrubs st now v new result
+  pub scrubs-of : (result : Bool) → ScrubsOnce st.scrubbed done v new result → ScrubsOrWaits st now v new result
   scrubs-of true (is, scrubbed) = (ap (λ b. record st { scrubbed = b }) is, quiet-then st v new stands scrubbed)
   scrubs-of false (is, saw) = (ap (λ b. record st { scrubbed = b }) is, saw)
 

@@ -12,8 +12,8 @@ use Rattle.flow_queues.proofs.{Tokens.{total-append, in-contains, that-loan, is_
 use Rattle.flow_queues.proofs.{Standing.{At, split-at, each-right, each-changed, is_number, number-is, total-changed, many-same}, Releasing.{map-set, length-set-same}}
 use Rattle.flow_queues.proofs.{NotesStay.{note-there}, Resting.{rest-set}, Indexing.{index-set}, Fronts.{front-of-flow}, NoteTaken.{ends-of}}
 use Rattle.zc_poll.specs.declared.step.{Lent.{Lent}, Step.TheVariants.{Item, Waiting as waiting}, Waits.TheVariants.{ReserveHeld}}
-use Rattle.zc_poll.specs.{Standing.{Desk, Common, Going, StreamStands, all_read, queues_of}, Items.{Given, HasGiven, marks_given, IsAt}, Steps.{Stepped, counted_on}}
-use Rattle.zc_poll.proofs.{FlowsKept.{with_queues}, Marking.{IsGivenOf, given-push, items-released}, Views.{is-with}, Passing.{saw-stepped}}
+use Rattle.zc_poll.specs.{Standing.{Desk, DeskCommon, IsGoing, StreamStands, all_read, queues_of_desk}, Items.{GivenItem, HasGiven, marks_given, IsAt}, Steps.{Stepped}}
+use Rattle.zc_poll.{specs.Steps.{counted_on}, proofs.{FlowsKept.{with_queues}, Marking.{IsGivenOf, given-push, items-released}, Views.{is-with}, Passing.{saw-stepped}}}
 
 copied-is : (split b : Bool) (note at : ℕ) (bytes : List ℕ) → one_copy (if split then of_note note at else of_copy bytes) ≡ (if b then 1 else 0)
     → b ≡ not split
@@ -33,7 +33,7 @@ counting own loan = record own { bytes = counted_on own.bytes loan.loan.len }
 abbrev counted_in : QueueState → FlowQueue → Lending → QueueState
 counted_in mid own loan = record mid { flows = set mid.flows mid.active (counting own loan) }
 
-abbrev given_of : FlowQueue → Lending → Given
+abbrev given_of : FlowQueue → Lending → GivenItem
 given_of own loan = record { flow = own.number; lending = loan }
 
 -- it was lent, as a copy or not
@@ -101,7 +101,7 @@ module _ (taken : List TakenNote) (own : FlowQueue) (loan : Lending) (stands : F
         at = bytes-long;
       }
 
-  given-here : (items : List Given) → IsGivenOf items taken own → IsGivenOf (items ++ given_of own loan ∷ []) taken (counting own loan)
+  given-here : (items : List GivenItem) → IsGivenOf items taken own → IsGivenOf (items ++ given_of own loan ∷ []) taken (counting own loan)
   given-here items given =
       given-push own.number items (given_of own loan)
       ∙ ap (λ b. marks_given own.number items ++ (if b then marks_of_loan loan else [])) own-number
@@ -119,7 +119,7 @@ flow-other taken own loan f other stands =
       lent = sym (ap (λ b. (if b then marks_of_loan loan else []) ++ []) no) ∙ stands.lent;
     }
 
-given-other : (flow : ℕ) (items : List Given) (g : Given) → g.flow ≢ flow → marks_given flow (items ++ g ∷ []) ≡ marks_given flow items
+given-other : (flow : ℕ) (items : List GivenItem) (g : GivenItem) → g.flow ≢ flow → marks_given flow (items ++ g ∷ []) ≡ marks_given flow items
 given-other flow items g other =
     let no : (g.flow == flow) ≡ false = not-eqb g.flow flow other in
     given-push flow items g ∙ ap (λ b. marks_given flow items ++ (if b then marks_of_loan g.lending else [])) no ∙ append-nil (marks_given flow items)
@@ -178,10 +178,10 @@ module _ (mid : QueueState) (own : FlowQueue) (loan : Lending) (out : List Lendi
     bounded = record { spares = omega (arith, shorts-x, stand.bounded.spares); loans = omega (arith, shorts-x, stand.bounded.loans) };
   }
 
-  items-counted : (items : List Given) → HasGiven items mid.flows v.taken
+  items-counted : (items : List GivenItem) → HasGiven items mid.flows v.taken
       → (own.bytes ≡ length (marks_given own.number items)) × HasGiven (items ++ given_of own loan ∷ []) (counted_in mid own loan).flows v.taken
   items-counted items given =
-      let g : Given = given_of own loan in
+      let g : GivenItem = given_of own loan in
       let each : Each (IsGivenOf items v.taken) (there.before ++ own ∷ there.after) = subst (Each (IsGivenOf items v.taken)) there.is given.flows in
       let here : IsGivenOf items v.taken own = (each-right (IsGivenOf items v.taken) there.before (own ∷ there.after) each).0 in
       let one : many own.number (there.before ++ own ∷ there.after) ≡ 1 =
@@ -206,15 +206,15 @@ module _ (was : Desk) (old new : AppView) (stands : StreamStands was old) (more 
       let rested : came_to_rest old ≡ old = ap (λ b. record old { settled = b }) (sym stands.common.settled) in
       saw-stepped was now old new no_spare ReserveHeld stands more same (saw.event ∙ ap (λ (w : AppView). app_saw w no_spare) rested) saw.rose
 
-  module _ (on : was.stopped ≡ false) (mid : QueueState) (loan : Lending) (copied : Bool) (lends : LentAs (queues_of was) mid old new (loan, copied))
+  module _ (on : was.stopped ≡ false) (mid : QueueState) (loan : Lending) (copied : Bool) (lends : LentAs (queues_of_desk was) mid old new (loan, copied))
       (own : FlowQueue) (value : own ≡ get_or mid.flows mid.active own) (sound : IsSound own.queue) where
-    abbrev one : LentOne (queues_of was) mid old new loan
+    abbrev one : LentOne (queues_of_desk was) mid old new loan
     one = lends.0
 
     abbrev lent : LentNext old new one.own one.after loan
     lent = one.lent
 
-    going : Going was old
+    going : IsGoing was old
     going = stands.going on more
 
     within-now : mid.active < length mid.flows
@@ -246,9 +246,9 @@ module _ (was : Desk) (old new : AppView) (stands : StreamStands was old) (more 
     abbrev later : Desk
     later = with_queues was (counted_in mid own loan)
 
-    later-common : Common later new
+    later-common : DeskCommon later new
     later-common =
-        let common : Common was old = stands.common in
+        let common : DeskCommon was old = stands.common in
         record {
           here = ap (λ (v : AppView). v.left) lent.view ∙ common.here;
           settled = ap (λ (v : AppView). v.settled) lent.view;

@@ -4,10 +4,10 @@ use Rattle.zr_kinds.specs.CopyingReceiver.{nothing_placed, values_from}
 use Rattle.board_face.specs.declared.views.app.TakenNote.{TakenNote}
 use Rattle.flow_queues.specs.{declared.queues.FlowQueue.{FlowQueue}, Marks.{Mark}, Flows.{FlowFacts, facts_of}, Shelves.{FlowEnds}}
 use Rattle.flow_queues.{specs.Core.{Each, many, own_notes, BeginAt, placed_of, received_notes, marks_of_loan}, proofs.Releasing.{each-facts, total-facts}}
-use Rattle.zc_poll.specs.Items.{Given, HasGiven, marks_given}
+use Rattle.zc_poll.specs.Items.{GivenItem, HasGiven, marks_given}
 
 -- these items are of the first marks of the flow
-abbrev pub IsGivenOf : List Given → List TakenNote → FlowQueue → Type 0
+abbrev pub IsGivenOf : List GivenItem → List TakenNote → FlowQueue → Type 0
 IsGivenOf items taken f = marks_given f.number items ≡ values_from (placed_of f taken).at f.bytes 0
 
 pub each-two : {A : Type 0} (P Q : A → Type 0) (xs : List A) → Each P xs → Each Q xs → Each (λ x. P x × Q x) xs
@@ -23,7 +23,7 @@ found-facts taken f g same found =
     let moved : P (facts_of g) = subst P (sym same) (found.begun, found.below) in
     record { begun = moved.0; below = moved.1 }
 
-given-facts : (items : List Given) (taken : List TakenNote) (f g : FlowQueue) → facts_of g ≡ facts_of f → IsGivenOf items taken f
+given-facts : (items : List GivenItem) (taken : List TakenNote) (f g : FlowQueue) → facts_of g ≡ facts_of f → IsGivenOf items taken f
     → IsGivenOf items taken g
 given-facts items taken f g same given =
     let P : FlowFacts → Type 0 = λ x. marks_given x.number items
@@ -37,7 +37,7 @@ module _ (was now : List FlowQueue) (taken : List TakenNote) (facts : map facts_
   pub found-released : Each (FlowEnds taken) was → Each (FlowEnds taken) now
   found-released found = each-facts (FlowEnds taken) (FlowEnds taken) (found-facts taken) was now facts found
 
-  pub items-released : (items : List Given) → HasGiven items was taken → HasGiven items now taken
+  pub items-released : (items : List GivenItem) → HasGiven items was taken → HasGiven items now taken
   items-released items given = record {
     flows = each-facts (IsGivenOf items taken) (IsGivenOf items taken) (given-facts items taken) was now facts given.flows;
     others = λ n none. given.others n (sym (many-released n) ∙ none);
@@ -45,7 +45,7 @@ module _ (was now : List FlowQueue) (taken : List TakenNote) (facts : map facts_
 
 -- ---- one item more
 
-pub given-push : (flow : ℕ) (items : List Given) (g : Given)
+pub given-push : (flow : ℕ) (items : List GivenItem) (g : GivenItem)
     → marks_given flow (items ++ g ∷ []) ≡ marks_given flow items ++ (if g.flow == flow then marks_of_loan g.lending else [])
 given-push flow [] g = append-nil (if g.flow == flow then marks_of_loan g.lending else [])
 given-push flow (h ∷ items) g =

@@ -4,12 +4,12 @@ use Rattle.board_face.specs.declared.views.app.{TakenNote.{TakenNote}, AppView.{
 use Rattle.flow_queues.specs.{declared.{queues.{FlowQueue.{FlowQueue}}, noting.Taken.{Taken, TheVariants.{Did, NoNote, Ended, Memory}}}, Marks.{Mark}}
 use Rattle.flow_queues.specs.{Core.{total, Each, many, LieApart}, Totals.{taken_len}, Shelves.{FlowEnds}, Kept.{QueueState, QueuesStand, marks_done}, Noting.{TakesNote, PassesNote}}
 use Rattle.flow_queues.proofs.{Tokens.{total-append}, Standing.{each-map}, Done.{done-grown, done-of, done-none, each-done, ends-note}}
-use Rattle.zc_poll.specs.{Standing.{Desk, Common, Going, StreamStands, all_read, queues_of}, Items.{Given, HasGiven, marks_given}, Steps.{Unlent, Passed, LooksFor}}
-use Rattle.zc_poll.proofs.{FlowsKept.{with_queues}, Views.{only-noted}}
+use Rattle.zc_poll.specs.{Standing.{Desk, DeskCommon, IsGoing, StreamStands, all_read, queues_of_desk}, Items.{GivenItem, HasGiven, marks_given}, Steps.{Unlent}}
+use Rattle.zc_poll.{specs.Steps.{PassedNotes, LooksForNote}, proofs.{FlowsKept.{with_queues}, Views.{only-noted}}}
 
 -- the bytes that are done with are those that were, so the same items were given
 given-stay : (was now : List FlowQueue) (old new : List TakenNote) → ((n : ℕ) → marks_done n now new ≡ marks_done n was old)
-    → ((n : ℕ) → many n was ≤ 1) → ((n : ℕ) → many n now ≤ 1) → Each (FlowEnds new) now → (items : List Given) → HasGiven items was old
+    → ((n : ℕ) → many n was ≤ 1) → ((n : ℕ) → many n now ≤ 1) → Each (FlowEnds new) now → (items : List GivenItem) → HasGiven items was old
     → HasGiven items now new
 given-stay was now old new done few later ends items given = record {
   flows = each-map (FlowEnds new) _ now (λ f is _. all f.number ∙ done-of new f now is (later f.number)) ends;
@@ -35,9 +35,9 @@ module _ (was : Desk) (q : QueueState) (old new : AppView) (t : TakenNote) (stan
     items = given-stay was.flows q.flows old.taken new.taken done stands.common.distinct distinct ends;
   }
 
-  common-in : Common (with_queues was q) new
+  common-in : DeskCommon (with_queues was q) new
   common-in =
-      let common : Common was old = stands.common in
+      let common : DeskCommon was old = stands.common in
       record {
         here = ap (λ (v : AppView). v.left) view ∙ common.here;
         settled = ap (λ (v : AppView). v.settled) view ∙ common.settled;
@@ -60,7 +60,7 @@ module _ (was : Desk) (q : QueueState) (old new : AppView) (t : TakenNote) (stan
         );
       }
 
-  passed-in : (was.stopped ≡ false → Going (with_queues was q) new) → (was.stopped ≡ true → new.helds ≡ []) → Passed 1 was (with_queues was q) old new
+  passed-in : (was.stopped ≡ false → IsGoing (with_queues was q) new) → (was.stopped ≡ true → new.helds ≡ []) → PassedNotes 1 was (with_queues was q) old new
   passed-in going released = record {
     stands = record {
       common = common-in;
@@ -79,15 +79,15 @@ module _ (was : Desk) (q : QueueState) (old new : AppView) (t : TakenNote) (stan
 
 module _ (was : Desk) (old new : AppView) (stands : StreamStands was old) (more : was.ended ≡ false) where
   -- it enters the queues
-  pub looks-on : was.stopped ≡ false → (q : QueueState) (result : Taken) → TakesNote (queues_of was) q old new result
-      → LooksFor was (with_queues was q) old new result
+  pub looks-on : was.stopped ≡ false → (q : QueueState) (result : Taken) → TakesNote (queues_of_desk was) q old new result
+      → LooksForNote was (with_queues was q) old new result
   looks-on on q Did takes =
-      let going : Going was old = stands.going on more in
+      let going : IsGoing was old = stands.going on more in
       let stand : QueuesStand q (all_read going.out) new = takes.stands (all_read going.out) going.stand in
       passed-in was q old new takes.noted.note stands more takes.noted.view stand.stands.tokens.apart takes.noted.done takes.noted.sound.ends
       takes.noted.sound.distinct (λ _. record { out = going.out; stand = stand }) (λ (is : was.stopped ≡ true). absurd (cc))
   looks-on on q Memory noted =
-      let going : Going was old = stands.going on more in
+      let going : IsGoing was old = stands.going on more in
       let tokens = noted.tokens (all_read going.out) going.stand in
       record {
         common = common-in was q old new noted.note stands more noted.view tokens.apart noted.done noted.sound.ends noted.sound.distinct;
@@ -101,13 +101,13 @@ module _ (was : Desk) (old new : AppView) (stands : StreamStands was old) (more 
   looks-on on q Ended takes = (ap (with_queues was) takes.0, takes.1)
 
   -- it goes past them
-  pub looks-past : was.stopped ≡ true → (result : Taken) → PassesNote old new result → LooksFor was was old new result
+  pub looks-past : was.stopped ≡ true → (result : Taken) → PassesNote old new result → LooksForNote was was old new result
   looks-past stopped Did (t, is) =
       let none : new.helds ≡ old.helds = ap (λ (v : AppView). v.helds) is in
       let view : new ≡ record old { taken = old.taken ++ t ∷ []; helds = new.helds } = is
       ∙ ap (λ hs. record old { taken = old.taken ++ t ∷ []; helds = hs }) (sym none) in
       let taken : new.taken ≡ old.taken ++ t ∷ [] = ap (λ (v : AppView). v.taken) is in
-      passed-in was (queues_of was) old new t stands more view
+      passed-in was (queues_of_desk was) old new t stands more view
       (subst LieApart (sym is) (record { once = stands.common.apart.once; some = stands.common.apart.some }))
       (λ n. ap (marks_done n was.flows) taken ∙ done-grown n old.taken t was.flows stands.common.found)
       (subst (λ ts. Each (FlowEnds ts) was.flows) (sym taken) (each-map (FlowEnds old.taken) (FlowEnds (old.taken ++ t ∷ [])) was.flows

@@ -3,11 +3,12 @@ use Rattle.std.proofs.Common.{◌≡◌, ℕ, ◌+◌, false, refl, sym, ap, sub
 use Rattle.board_face.specs.{AppEvents.{app_saw}, declared.views.app.{AppLook.{AppLook, TheVariants.{NoNote as no_note, NoSpare as no_spare}}, AppView.{AppView}}}
 use Rattle.flow_queues.specs.Core.{total}
 use Rattle.zc_poll.specs.declared.step.{Step.{Step, TheVariants.{Item, Waiting, Memory, Ended}}, Waits.{Waits, TheVariants.{NoNote, ReserveHeld, Enough}}}
-use Rattle.zc_poll.specs.{Standing.{Desk, StreamStands}, Items.{HasGiven}, Steps.{Unlent, Steps, WaitsFor, Passed, Stepped, IsShort}}
+use Rattle.zc_poll.specs.{Standing.{Desk, StreamStands}, Items.{HasGiven}, Steps.{Unlent, Steps, WaitsFor, PassedNotes, Stepped, TookOneAtMost}}
 use Rattle.zc_poll.proofs.{Views.{only-then, only-saw, rose-then}, Keeping.{saw-stands}, Released.{unlent-then}}
 
 -- more of them were taken
-pub passed-then : (m n k : ℕ) (was mid now : Desk) (u v w : AppView) → k ≡ m + n → Passed m was mid u v → Passed n mid now v w → Passed k was now u w
+pub passed-then : (m n k : ℕ) (was mid now : Desk) (u v w : AppView) → k ≡ m + n → PassedNotes m was mid u v → PassedNotes n mid now v w
+    → PassedNotes k was now u w
 passed-then m n k was mid now u v w count first second = record {
   stands = second.stands;
   only = only-then u v w first.only second.only;
@@ -18,14 +19,14 @@ passed-then m n k was mid now u v w count first second = record {
 }
 
 -- nothing changed since
-pub passed-still : (k : ℕ) (was mid now : Desk) (u v w : AppView) → now ≡ mid → w ≡ v → Passed k was mid u v → Passed k was now u w
-passed-still k was mid now u v w desk view passed = subst (λ (d : Desk). Passed k was d u w) (sym desk) (subst (λ (x : AppView). Passed k was mid u x) (sym view) passed)
+pub passed-still : (k : ℕ) (was mid now : Desk) (u v w : AppView) → now ≡ mid → w ≡ v → PassedNotes k was mid u v → PassedNotes k was now u w
+passed-still k was mid now u v w desk view passed = subst (λ (d : Desk). PassedNotes k was d u w) (sym desk) (subst (λ (x : AppView). PassedNotes k was mid u x) (sym view) passed)
 
-module _ (n : ℕ) (was mid now : Desk) (u v w : AppView) (passed : Passed n was mid u v) where
+module _ (n : ℕ) (was mid now : Desk) (u v w : AppView) (passed : PassedNotes n was mid u v) where
   unlent-both : Unlent mid now v w → Unlent was now u w
   unlent-both second = unlent-then was mid now u v w passed.unlent second
 
-  steps-then : (step : Step) → IsShort step → Steps mid now v w step → Steps was now u w step
+  steps-then : (step : Step) → TookOneAtMost step → Steps mid now v w step → Steps was now u w step
   steps-then (Item lent) short item = record {
     lending = item.lending;
     loan = item.loan;
@@ -51,7 +52,7 @@ module _ (n : ℕ) (was mid now : Desk) (u v w : AppView) (passed : Passed n was
   steps-then Ended short (unlent, stopped, ended) = (unlent-both unlent, stopped ∙ passed.stopped, ended)
 
   -- what came then came of the step
-  pub stepped-then : (step : Step) → IsShort step → Stepped mid now v w step → Stepped was now u w step
+  pub stepped-then : (step : Step) → TookOneAtMost step → Stepped mid now v w step → Stepped was now u w step
   stepped-then step short stepped = record {
     stands = stepped.stands;
     only = only-then u v w passed.only stepped.only;

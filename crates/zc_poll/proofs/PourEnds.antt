@@ -7,7 +7,8 @@ use Rattle.zr_io.{specs.Moved.{Gained, ShelfCounts}, proofs.Moved.{Gained-weaker
 use Rattle.board_face.specs.{AppEvents.{reserve_of}, declared.views.app.AppView.{AppView}}
 use Rattle.flow_queues.specs.{Marks.{Mark, FramesStandTogether, marks_of}, Core.{total, Each, IsIn, own_notes, BeginAt, AreReadAt}}
 use Rattle.flow_queues.specs.{Totals.{Quits, capped, lent_len, loan_entries}, Shelves.{FlowEnds, AreOfOneLoan}, Streams.{IsFront}}
-use Rattle.flow_queues.specs.{Ends.{AppEnd, HasLeft, IsCounted, IsTorn, bytes_in, times}, Entries.{AreBlocks, WasLive, lies_in}, Returned.{AreKeptBack, HasReturned}}
+use Rattle.flow_queues.specs.{Ends.{AppEnd, HasLeft, IsCounted, IsTorn, bytes_written_of, times_written}, Entries.{AreBlocks, WasLive, lies_in}, Returned.{AreKeptBack}}
+use Rattle.flow_queues.specs.Returned.{HasReturned}
 use Rattle.flow_queues.{proofs.{Fronts.{pick}, Tokens.{in-total}, Shown.{shown-total, shown-times, shown-bytes, shown-each}}, specs.Counting.{TallyState, with_bytes}}
 use Rattle.zc_poll.specs.{Fresh.{has_left}, Standing.{Desk}, Items.{marks_given}, Pouring.{IsPoured, OnlyDue, PourStands, given_len}}
 use Rattle.zc_poll.proofs.{PouredOn.{poured-within}, EntriesFirst.{loans-alone}, LoanGone.{drop-all}, Pours.{no-write}}
@@ -30,13 +31,14 @@ module _ (first kept : ℕ → Option (List ℕ)) (losses losses_now : ShelfCoun
   none-out = subst (λ d. OnlyDue d v.loans) due before.due
 
   weaker : (n : ℕ) (Q : List ℕ → Type 0)
-      → ((bytes : List ℕ) → IsPoured ((w.stopped ≡ stop.Write) × (n ≡ before.torn)) v (marks_given n before.items) (bytes_in n w.counts) bytes → Q bytes)
+      → ((bytes : List ℕ) → IsPoured ((w.stopped ≡ stop.Write) × (n ≡ before.torn)) v (marks_given n before.items) (bytes_written_of n w.counts) bytes
+      → Q bytes)
       → Gained (first n) (kept n) Q
   weaker n Q implies = Gained-weaker (first n) (kept n)
-      (IsPoured ((w.stopped ≡ stop.Write) × (n ≡ before.torn)) v (marks_given n before.items) (bytes_in n w.counts)) Q implies (before.poured.shelved n)
+      (IsPoured ((w.stopped ≡ stop.Write) × (n ≡ before.torn)) v (marks_given n before.items) (bytes_written_of n w.counts)) Q implies (before.poured.shelved n)
 
   -- a flow that is told has a note
-  has-note : (n : ℕ) → 0 < times n w.counts → own_notes n v.taken ≢ []
+  has-note : (n : ℕ) → 0 < times_written n w.counts → own_notes n v.taken ≢ []
   has-note n some = pick n st.flows (FlowEnds v.taken) (own_notes n v.taken ≢ []) before.stands.common.found
       (λ none. absurd (omega (arith, before.poured.known n some, ap length (before.poured.given.others n none))))
       (λ f is ends. (λ empty. subst (BeginAt f.queue.base) (ap (λ m. own_notes m v.taken) is ∙ empty) ends.begun))
@@ -52,7 +54,7 @@ module _ (first kept : ℕ → Option (List ℕ)) (losses losses_now : ShelfCoun
   all-counted going = omega (arith, before.poured.sum, before.whole going, lens)
 
   front : (n : ℕ) → FramesStandTogether v.taken → (bytes : List ℕ)
-      → IsPoured ((w.stopped ≡ stop.Write) × (n ≡ before.torn)) v (marks_given n before.items) (bytes_in n w.counts) bytes
+      → IsPoured ((w.stopped ≡ stop.Write) × (n ≡ before.torn)) v (marks_given n before.items) (bytes_written_of n w.counts) bytes
       → IsFront v.taken v.reads (marks_of n v.taken) bytes
   front n whole bytes is =
       let (rest, parts) = items-front st.flows v.taken before.items before.stands.common.found before.poured.given whole n in
@@ -65,7 +67,7 @@ module _ (first kept : ℕ → Option (List ℕ)) (losses losses_now : ShelfCoun
       }
 
   all : (n : ℕ) → w.stopped ≡ stop.No → FramesStandTogether v.taken → (bytes : List ℕ)
-      → IsPoured ((w.stopped ≡ stop.Write) × (n ≡ before.torn)) v (marks_given n before.items) (bytes_in n w.counts) bytes
+      → IsPoured ((w.stopped ≡ stop.Write) × (n ≡ before.torn)) v (marks_given n before.items) (bytes_written_of n w.counts) bytes
       → AreReadAt v.taken v.reads (marks_of n v.taken) bytes
   all n going whole bytes is =
       let marks : List Mark = marks_given n before.items in
@@ -76,12 +78,12 @@ module _ (first kept : ℕ → Option (List ℕ)) (losses losses_now : ShelfCoun
       subst (λ ms. AreReadAt v.taken v.reads ms bytes) (take_all (length bytes) marks long ∙ sym same) is.are
 
   torn : (n : ℕ) → FramesStandTogether v.taken → (bytes : List ℕ)
-      → IsPoured ((w.stopped ≡ stop.Write) × (n ≡ before.torn)) v (marks_given n before.items) (bytes_in n w.counts) bytes
-      → IsTorn (has_left v) before.torn n (bytes_in n w.counts) bytes
+      → IsPoured ((w.stopped ≡ stop.Write) × (n ≡ before.torn)) v (marks_given n before.items) (bytes_written_of n w.counts) bytes
+      → IsTorn (has_left v) before.torn n (bytes_written_of n w.counts) bytes
   torn n whole bytes is =
       let (rest, parts) = items-front st.flows v.taken before.items before.stands.common.found before.poured.given whole n in
       let marks : List Mark = marks_given n before.items in
-      let count : ℕ = bytes_in n w.counts in
+      let count : ℕ = bytes_written_of n w.counts in
       record {
         exact = λ away. is.exact (λ both. away both.1);
         at_once = is.at_once;
@@ -92,7 +94,7 @@ module _ (first kept : ℕ → Option (List ℕ)) (losses losses_now : ShelfCoun
             (subst (λ ls. AreOfOneLoan v.taken (ls ++ drop (loan_entries v) v.returned) (drop count (take (length bytes) marks))) none-out (is.beyond less));
       }
 
-  told : (n : ℕ) → bytes_in n (with_bytes w.counts) ≡ bytes_in n w.counts
+  told : (n : ℕ) → bytes_written_of n (with_bytes w.counts) ≡ bytes_written_of n w.counts
   told n = shown-bytes n w.counts (before.poured.once n)
 
   pub left-pours : (how : Behaviour) → how.quit ≡ None → HasLeft how first kept losses losses_now (has_left v) (work_end w)
@@ -111,12 +113,13 @@ module _ (first kept : ℕ → Option (List ℕ)) (losses losses_now : ShelfCoun
     once = λ n. omega (arith, shown-times n w.counts, before.poured.once n);
     fronts = λ whole n. weaker n (IsFront v.taken v.reads (marks_of n v.taken)) (front n whole);
     whole = λ going whole n. weaker n (AreReadAt v.taken v.reads (marks_of n v.taken)) (all n going whole);
-    counted = λ n. subst (λ count. Gained (first n) (kept n) (IsCounted w.stopped count)) (sym (told n)) (weaker n (IsCounted w.stopped (bytes_in n w.counts))
+    counted = λ n. subst (λ count. Gained (first n) (kept n) (IsCounted w.stopped count)) (sym (told n))
+        (weaker n (IsCounted w.stopped (bytes_written_of n w.counts))
         (λ bytes is. record { counted = λ not. is.exact (λ both. not both.0); at_least = is.at_least }));
     torn = λ write whole. record {
       torn = before.torn;
       each = λ n. subst (λ count. Gained (first n) (kept n) (IsTorn (has_left v) before.torn n count)) (sym (told n))
-          (weaker n (IsTorn (has_left v) before.torn n (bytes_in n w.counts)) (torn n whole));
+          (weaker n (IsTorn (has_left v) before.torn n (bytes_written_of n w.counts)) (torn n whole));
     };
     quits = subst (λ q. Quits q w.written w.stopped) (sym quit) before.no_quit;
     later = before.later;

@@ -4,14 +4,14 @@ use Rattle.zr_kinds.specs.declared.behaviour.Stopped.TheVariants as stop
 use Rattle.zr_io.{specs.Moved.{ShelfCounts}, proofs.Moved.{Gained-nothing}}
 use Rattle.board_face.specs.declared.views.app.{WrittenEntry.{WrittenEntry}, AppView.{AppView}}
 use Rattle.flow_queues.specs.{Core.{total}, Totals.{capped, lent_len, loan_entries}, Counting.{new_tally}}
-use Rattle.zc_poll.specs.{Fresh.{HasDoneNothing, new_desk}, Standing.{StreamStands}, Pouring.{IsPoured, HasPoured, PourStands}}
+use Rattle.zc_poll.specs.{Fresh.{HasDoneNothing, new_stream_desk}, Standing.{StreamStands}, Pouring.{IsPoured, HasPoured, PourStands}}
 use Rattle.zc_poll.proofs.{EntriesFirst.{first-none}, ItemPoured.{none-at}}
 
-module _ (kept : ℕ → Option (List ℕ)) (losses : ShelfCounts) (room app : ℕ) (v : AppView) (fresh : HasDoneNothing app v) (stands : StreamStands (new_desk app) v) where
+module _ (kept : ℕ → Option (List ℕ)) (losses : ShelfCounts) (room app : ℕ) (v : AppView) (fresh : HasDoneNothing app v) (stands : StreamStands (new_stream_desk app) v) where
   no-entry : loan_entries v ≡ 0
   no-entry = ap (total (λ (e : WrittenEntry). if e.of_loan then 1 else 0)) fresh.written
 
-  new-poured : (P : Type 0) → HasPoured P kept (new_tally room) (new_desk app) kept v [] 0 0
+  new-poured : (P : Type 0) → HasPoured P kept (new_tally room) (new_stream_desk app) kept v [] 0 0
   new-poured P = record {
     given = record { flows = tt; others = λ n none. refl };
     many = omega (arith, ap length fresh.loans, ap length fresh.returned);
@@ -37,7 +37,7 @@ module _ (kept : ℕ → Option (List ℕ)) (losses : ShelfCounts) (room app : �
     });
   }
 
-  pub new-pours : PourStands kept losses (new_tally room) (new_desk app) kept losses v
+  pub new-pours : PourStands kept losses (new_tally room) (new_stream_desk app) kept losses v
   new-pours = record {
     items = [];
     torn = 0;

@@ -6,7 +6,7 @@ use Rattle.board_face.specs.{AppCalls.{HasLoan}, AppEvents.{app_saw, entry_of, g
 use Rattle.flow_queues.specs.{Core.{OnlyReads, total}, Totals.{lent_len, loan_entries}, Counting.{TallyState}}
 use Rattle.zc_poll.specs.{Standing.{Desk, StreamStands}, Items.{HasGiven}, declared.{step.Lent.{Lent}, to_shelf.PollTurn.{PollTurn}}}
 use Rattle.zc_poll.specs.declared.to_shelf.{PollTurn.TheVariants.{Did, Idle, Ended}, Rests.TheVariants.{Stream, RefillFull, NotQuiet, NoNotice}}
-use Rattle.zc_poll.specs.{Steps.{OnlySteps, Unlent, IsItem}, Pouring.{HasPoured, OnlyDue, PourStands}, PourTurns.{GoesBack, HadItem, IsRead, PourStage, TurnDoes, pour_stage}}
+use Rattle.zc_poll.specs.{Steps.{OnlySteps, Unlent, IsItem}, Pouring.{HasPoured, OnlyDue, PourStands}, PourTurns.{GoesBack, HadItem, IsRead, PourStage, PourTurnDoes, pour_stage}}
 use Rattle.zc_poll.proofs.{ItemPoured.{SameCounts, poured-moved, poured-all, same-kept}, EntriesFirst.{first-gave, first-same}}
 use Rattle.zc_poll.proofs.{LoanGone.{gone-loans, gone-returned, gone-many, gone-lent, gave-entries}, Pours.{is-no, no-write}}
 use Rattle.zr_io.specs.Moved.{ShelfCounts, raised_by}
@@ -174,7 +174,7 @@ only-reads-none v = record { view = refl; more = []; are = sym (append-nil v.rea
 pub due-out : (v : AppView) (loan : Place) → OnlyDue (Some loan) v.loans → HasLoan v loan
 due-out v loan (piece, one, place) = rw one (0, omega arith, place)
 
-by-turn : (st : Desk) (y : AppView) (now : PourStage) (loan : Place) (ran : PollTurn) → TurnDoes (pour_stage (Some loan) st y) now ran
+by-turn : (st : Desk) (y : AppView) (now : PourStage) (loan : Place) (ran : PollTurn) → PourTurnDoes (pour_stage (Some loan) st y) now ran
     → GoesBack loan now.due y now.view
 by-turn st y now loan Did does = subst (λ (n : PourStage). GoesBack loan n.due y n.view) (sym does) refl
 by-turn st y now loan (Idle RefillFull) does = subst (λ due. GoesBack loan due y now.view) (sym does.1) (refl, does.3, does.4)
@@ -185,7 +185,7 @@ by-turn st y now loan (Ended poured) does = (let none : Some loan ≡ None = doe
 
 -- the loan that was written was given back, or a refill slot was seen in use
 pub tried : (was now : PourStage) (mid kept : Desk) (x y : AppView) (lent : Lent) (loan : Place) (ran : PollTurn) → IsItem was.desk mid was.view x lent
-    → OnlySteps was.view x → IsRead lent.loan mid kept x y (Some loan) → now.desk ≡ kept → TurnDoes (pour_stage (Some loan) kept y) now ran
+    → OnlySteps was.view x → IsRead lent.loan mid kept x y (Some loan) → now.desk ≡ kept → PourTurnDoes (pour_stage (Some loan) kept y) now ran
     → HadItem was now
 tried was now mid kept x y lent loan ran item only (same, desk, reads) still does = record {
   desk = mid;

@@ -6,8 +6,8 @@ use Rattle.zr_kinds.specs.declared.behaviour.Stopped.TheVariants as stop
 use Rattle.zr_io.{specs.Moved.{Gained, Rose, ShelfCounts, raised_by}, proofs.Moved.{Rose-earlier}}
 use Rattle.board_face.specs.{AppEvents.{abandoned}, declared.views.app.{LentPiece.{LentPiece}, TakenNote.{TakenNote}, AppView.{AppView}}}
 use Rattle.flow_queues.specs.{declared.queues.Lending.{Lending}, Core.{total, IsIn, LieApart, lent_piece, OnlyReads, IsReadOf}, Totals.{lent_len, loan_entries}}
-use Rattle.flow_queues.{specs.{Shelves.{kept_loans}, Ends.{bytes_in}, Counting.{TallyState, AddsTo, item_counted}}, proofs.Tokens.{loan-some}}
-use Rattle.zc_poll.specs.{declared.step.Lent.{Lent}, Standing.{Desk, StreamStands}, Items.{Given, HasGiven, marks_given}}
+use Rattle.flow_queues.{specs.{Shelves.{kept_loans}, Ends.{bytes_written_of}, Counting.{TallyState, AddsTo, item_counted}}, proofs.Tokens.{loan-some}}
+use Rattle.zc_poll.specs.{declared.step.Lent.{Lent}, Standing.{Desk, StreamStands}, Items.{GivenItem, HasGiven, marks_given}}
 use Rattle.zc_poll.{specs.{Steps.{OnlySteps, IsItem, given_as}, Pouring.{HasPoured, OnlyDue, PourStands}}, proofs.{Views.{total-one}, PouredOn.{sees-still}}}
 use Rattle.zc_poll.proofs.{EntriesFirst.{first-gone}, ItemPoured.{Roomy, poured-moved, poured-roomy, item-poured, push-length}, Appended.{appended, at-flow}}
 use Rattle.zc_poll.proofs.LoanGone.{one-loan, gone-loans, gone-returned, gone-many, gone-lent, gone-kept}
@@ -30,7 +30,7 @@ known-at (x ∷ taken) (suc k) t is = omega (arith, known-at taken k t is)
 -- ---- the loan is given up
 
 module _ (P : Type 0) (first kept : ℕ → Option (List ℕ)) (losses losses_now : ShelfCounts) (u w : TallyState) (why : Stopped) (st now : Desk) (y z : AppView)
-    (items : List Given) (torn missing : ℕ) (poured : HasPoured P first u st kept y items torn missing) (implies : P → why ≡ stop.Write)
+    (items : List GivenItem) (torn missing : ℕ) (poured : HasPoured P first u st kept y items torn missing) (implies : P → why ≡ stop.Write)
     (some : why ≢ stop.No) (other : why ≢ stop.Quit) (due : u.due ≡ None) (apart : LieApart y) (p : LentPiece) (one : y.loans ≡ p ∷ []) (loan : Place)
     (place : p.place ≡ loan) (all : loan_entries y ≡ length y.returned) (view : z ≡ record (abandoned y loan) { helds = [] })
     (given : HasGiven items now.flows z.taken) (stands : StreamStands now z) (stopped : now.stopped ≡ true) (later : losses.faults ≤ losses_now.faults)
@@ -97,7 +97,7 @@ module _ (first kept : ℕ → Option (List ℕ)) (losses losses_now : ShelfCoun
   abbrev piece : LentPiece
   piece = lent_piece x.taken item.lending
 
-  abbrev all_items : List Given
+  abbrev all_items : List GivenItem
   all_items = before.items ++ given_as lent item.lending ∷ []
 
   one : x.loans ≡ piece ∷ []
@@ -126,7 +126,7 @@ module _ (first kept : ℕ → Option (List ℕ)) (losses losses_now : ShelfCoun
 
     -- there was no memory to count
     pub wants : (z : AppView) (later : Desk) (k : TallyState) → z ≡ record (abandoned x lent.loan) { helds = [] }
-        → ((items : List Given) → HasGiven items now.flows x.taken → HasGiven items later.flows z.taken) → StreamStands later z → later.stopped ≡ true
+        → ((items : List GivenItem) → HasGiven items now.flows x.taken → HasGiven items later.flows z.taken) → StreamStands later z → later.stopped ≡ true
         → k ≡ record w { stopped = stop.Memory } → PourStands first losses k later kept losses_now z
     wants z later k view goes on stopped work =
         given-up (u.stopped ≡ stop.Write) first kept losses losses_now w k stop.Memory now later x z all_items lent.flow item.lending.loan.len ready
@@ -139,7 +139,7 @@ module _ (first kept : ℕ → Option (List ℕ)) (losses losses_now : ShelfCoun
         (gained : (lending : Lending) → lending.loan ≡ lent.loan → lending.note < length x.taken → IsIn (lent_piece x.taken lending) x.loans
         → Gained (kept lent.flow) (after lent.flow) (IsReadOf x.taken y.reads lending done lent.loan.len))
         (others : (n : ℕ) → n ≢ lent.flow → Keeps (kept n) (after n)) (same : k ≡ record w { counts = k.counts; written = min (w.written + done) (2 ^ 64 - 1) })
-        (fits : bytes_in lent.flow w.counts + done < 2 ^ 64 → AddsTo lent.flow done w.counts k.counts)
+        (fits : bytes_written_of lent.flow w.counts + done < 2 ^ 64 → AddsTo lent.flow done w.counts k.counts)
         (many : length k.counts ≡ length w.counts) (apart : LieApart y) (took : faults.appended ≡ raised_by losses_now.appended done) where
       len_is : item.lending.loan.len ≡ lent.loan.len
       len_is = ap (λ (q : Place). q.len) item.loan
@@ -147,7 +147,7 @@ module _ (first kept : ℕ → Option (List ℕ)) (losses losses_now : ShelfCoun
       note-known : item.lending.note < length x.taken
       note-known = known-at x.taken item.lending.note item.note item.is
 
-      few : bytes_in lent.flow w.counts + done < 2 ^ 64
+      few : bytes_written_of lent.flow w.counts + done < 2 ^ 64
       few = omega (
         arith,
         ready.counts lent.flow,
@@ -183,7 +183,7 @@ module _ (first kept : ℕ → Option (List ℕ)) (losses losses_now : ShelfCoun
 
       -- the shelf failed
       pub fails : (z : AppView) (later : Desk) (m : TallyState) → z ≡ record (abandoned y lent.loan) { helds = [] }
-          → ((items : List Given) → HasGiven items now.flows y.taken → HasGiven items later.flows z.taken) → StreamStands later z → later.stopped ≡ true
+          → ((items : List GivenItem) → HasGiven items now.flows y.taken → HasGiven items later.flows z.taken) → StreamStands later z → later.stopped ≡ true
           → m ≡ record k { stopped = stop.Write } → losses_now.faults ≤ faults.faults → Rose losses_now.faults faults.faults → PourStands first losses m later after faults z
       fails z later m view goes on stopped work grows rose =
           given-up (done < item.lending.loan.len) first after losses faults k m stop.Write now later y z all_items lent.flow (item.lending.loan.len - done) written

@@ -5,14 +5,14 @@ use Rattle.board_face.specs.{declared.views.app.{TakenNote.{TakenNote}, AppView.
 use Rattle.flow_queues.specs.{declared.queues.FlowQueue.{FlowQueue}, Core.{total, Each, LieApart, own_notes, placed_of, received_notes, FlowStands, marks_of_waiting}}
 use Rattle.flow_queues.{specs.{Flows.{FlowFacts, facts_of, IsAtRest}, Totals.{taken_len}, Shelves.{FlowEnds}}, proofs.{Releasing.{each-facts}, Placing.{values-length}}}
 use Rattle.tcp_reorder.proofs.Holding.{next_missing-held}
-use Rattle.zc_poll.specs.{Standing.{Desk, Common, Going, IsWhole, StreamStands, CanStop, MayRelease, IsStopped, NoneInOrder}, Items.{HasGiven}}
+use Rattle.zc_poll.specs.{Standing.{Desk, DeskCommon, IsGoing, IsWhole, StreamStands, CanStop, MayRelease, IsStopped, NoneInOrder}, Items.{HasGiven}}
 use Rattle.zc_poll.specs.{Steps.{Unlent, Stepped, Wants}, declared.step.Step.TheVariants.{Memory, Ended}}
 use Rattle.zc_poll.proofs.{Marking.{many-released, found-released, items-released}, Views.{only-then, only-released, only-ended}}
 
 -- what stands may be given up
 pub may-release : (st : Desk) (v : AppView) → StreamStands st v → MayRelease st v
 may-release st v stands = record {
-  going = λ on more. (let going : Going st v = stands.going on more in record { apart = stands.common.apart; helds = going.stand.stands.tokens.helds });
+  going = λ on more. (let going : IsGoing st v = stands.going on more in record { apart = stands.common.apart; helds = going.stand.stands.tokens.helds });
   released = stands.released;
 }
 
@@ -29,7 +29,7 @@ module _ (was now : Desk) (old new : AppView) (app : now.app ≡ was.app) (scrub
   taken-same : old.taken ≡ new.taken
   taken-same = sym (ap (λ (v : AppView). v.taken) view)
 
-  pub common-released : Common was old → Common now new
+  pub common-released : DeskCommon was old → DeskCommon now new
   common-released common = record {
     here = ap (λ (v : AppView). v.left) view ∙ common.here;
     settled = ap (λ (v : AppView). v.settled) view ∙ common.settled;
@@ -104,7 +104,7 @@ module _ (was now : Desk) (old new : AppView) (stop : IsStopped was now old new)
         (items-released was.flows now.flows old.taken stop.facts items given);
   }
 
-  pub stopped-stands : Common was old → StreamStands now new
+  pub stopped-stands : DeskCommon was old → StreamStands now new
   stopped-stands common = record {
     common = common-released was now old new stopped-app (ap (λ (d : Desk). d.scrubbed) stop.same) (λ _. stopped-is) (ap (λ (v : AppView). v.ended) stop.view ∙ common.ended ∙ sym stopped-ended) stopped-view
         stop.facts common;
@@ -135,7 +135,7 @@ all-popped taken f stands =
     omega (arith, none, stands.counted)
 
 -- and what is in order of it is all that it received
-whole-of : (was : Desk) (v : AppView) → Going was v → Each IsAtRest was.flows → IsWhole was v
+whole-of : (was : Desk) (v : AppView) → IsGoing was v → Each IsAtRest was.flows → IsWhole was v
 whole-of was v going rest = record { flows = each was.flows going.stand.stands.flows rest; known = going.stand.stands.known }
   where
     each : (fs : List FlowQueue) → Each (FlowStands v.taken []) fs → Each IsAtRest fs → Each (λ f. f.bytes ≡ next_missing (placed_of f v.taken)) fs

@@ -5,8 +5,8 @@ use Rattle.zr_kinds.specs.declared.place.Place.{Place}
 use Rattle.zr_kinds.specs.declared.behaviour.Stopped.TheVariants as stop
 use Rattle.board_face.specs.{Looks.{AppRose}, declared.views.app.{AppLook.TheVariants.{NotQuiet as not_quiet}, AppView.{AppView}}}
 use Rattle.flow_queues.specs.{Core.{total}, Counting.{TallyState}}
-use Rattle.zc_poll.specs.{Standing.{Desk, StreamStands}, Items.{HasGiven}, Steps.{OnlySteps, Scrubs}}
-use Rattle.zc_poll.specs.{Pouring.{PourStands}, PourTurns.{PourStage, ScrubsFirst, ScrubsIfQuiet, TookStep, TurnDoes, pour_stage}}
+use Rattle.zc_poll.specs.{Standing.{Desk, StreamStands}, Items.{HasGiven}, Steps.{OnlySteps, ScrubsOrWaits}}
+use Rattle.zc_poll.specs.{Pouring.{PourStands}, PourTurns.{PourStage, PourScrubsFirst, ScrubsIfQuiet, TookPourStep, PourTurnDoes, pour_stage}}
 use Rattle.zc_poll.specs.declared.to_shelf.{PollTurn.{PollTurn, TheVariants.{Did, Idle, Ended}}, Rests.TheVariants.{Stream, RefillFull, NotQuiet, NoNotice}}
 use Rattle.zc_poll.proofs.{EntriesFirst.{first-same}, ItemPoured.{poured-moved}, PourTurns.{same-counts}}
 use Rattle.zr_io.specs.Moved.{ShelfCounts}
@@ -15,11 +15,11 @@ use Rattle.zr_io.specs.Moved.{ShelfCounts}
 abbrev pub with_quiet : AppView → AppView → AppView
 with_quiet v x = record v { quiet = x.quiet; scrubbed = x.scrubbed; looks = x.looks }
 
-pub scrubbed-view : (was now : Desk) (old new : AppView) (done : Bool) → Scrubs was now old new done → new ≡ with_quiet old new
+pub scrubbed-view : (was now : Desk) (old new : AppView) (done : Bool) → ScrubsOrWaits was now old new done → new ≡ with_quiet old new
 scrubbed-view was now old new true (desk, view) = subst (λ (k : AppView). k ≡ with_quiet old k) (sym view) refl
 scrubbed-view was now old new false (desk, saw) = subst (λ (k : AppView). k ≡ with_quiet old k) (sym saw.event) refl
 
-pub scrubbed-desk : (was now : Desk) (old new : AppView) (done : Bool) → Scrubs was now old new done → now ≡ record was { scrubbed = now.scrubbed }
+pub scrubbed-desk : (was now : Desk) (old new : AppView) (done : Bool) → ScrubsOrWaits was now old new done → now ≡ record was { scrubbed = now.scrubbed }
 scrubbed-desk was now old new true (desk, view) = subst (λ (d : Desk). d ≡ record was { scrubbed = d.scrubbed }) (sym desk) refl
 scrubbed-desk was now old new false (desk, saw) = subst (λ (d : Desk). d ≡ record was { scrubbed = d.scrubbed }) (sym desk) refl
 
@@ -59,16 +59,16 @@ module _ (first kept : ℕ → Option (List ℕ)) (losses losses_now : ShelfCoun
   })
 
 -- and it is what comes before a step
-pub scrubs-first : (due : Option Place) (was now : Desk) (old new : AppView) (done : Bool) → was.stopped ≡ true → Scrubs was now old new done
-    → ScrubsFirst (pour_stage due was old) (pour_stage due now new)
+pub scrubs-first : (due : Option Place) (was now : Desk) (old new : AppView) (done : Bool) → was.stopped ≡ true → ScrubsOrWaits was now old new done
+    → PourScrubsFirst (pour_stage due was old) (pour_stage due now new)
 scrubs-first due was now old new done stopped scrubs = (
   refl,
-  subst (λ b. MatchBool b ((d : Bool) × Scrubs was now old new d) ((now ≡ was) × (new ≡ old))) (sym stopped) (done, scrubs),
+  subst (λ b. MatchBool b ((d : Bool) × ScrubsOrWaits was now old new d) ((now ≡ was) × (new ≡ old))) (sym stopped) (done, scrubs),
 )
 
 -- ---- it scrubbed if each refill slot was free
 
-pub scrubs-quiet : (was now : Desk) (old new : AppView) (done : Bool) → Scrubs was now old new done → ScrubsIfQuiet old new
+pub scrubs-quiet : (was now : Desk) (old new : AppView) (done : Bool) → ScrubsOrWaits was now old new done → ScrubsIfQuiet old new
 scrubs-quiet was now old new true (desk, view) = λ _. inl (ap (λ (v : AppView). v.scrubbed) view)
 scrubs-quiet was now old new false (desk, saw) = λ _. inr (saw.rose, ap (λ (v : AppView). v.quiet) saw.event)
 
@@ -82,8 +82,8 @@ scrubs-then old mid new scrubs only = λ no. ⊎_elim
 
 -- ---- a turn that took a step
 
-pub step-does : (desk : Desk) (old : AppView) (now : PourStage) (ran : PollTurn) → TookStep (pour_stage None desk old) now ran
-    → TurnDoes (pour_stage None desk old) now ran
+pub step-does : (desk : Desk) (old : AppView) (now : PourStage) (ran : PollTurn) → TookPourStep (pour_stage None desk old) now ran
+    → PourTurnDoes (pour_stage None desk old) now ran
 step-does desk old now Did took = took
 step-does desk old now (Idle (Stream why)) took = (refl, took)
 step-does desk old now (Idle RefillFull) took = absurd took.does

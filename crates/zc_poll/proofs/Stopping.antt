@@ -6,8 +6,8 @@ use Rattle.zr_kinds.specs.declared.behaviour.Stopped.TheVariants as stop
 use Rattle.zr_io.{specs.Moved.{Gained}, proofs.Moved.{Gained-weaker}}
 use Rattle.board_face.specs.{AppCalls.{HasLoan}, declared.views.app.{LentPiece.{LentPiece}, Reading.{Reading}, TakenNote.{TakenNote}, AppView.{AppView}}}
 use Rattle.flow_queues.specs.{Marks.{Mark, FramesStandTogether, marks_of}, Core.{Each, LieApart}, Totals.{capped}, Shelves.{FlowEnds}, Streams.{HasFronts, IsFront}}
-use Rattle.flow_queues.{specs.{Ends.{IsCounted, bytes_in}, Counting.{TallyState, with_bytes, quit_by}}, proofs.Shown.{shown-total, shown-bytes}}
-use Rattle.zc_poll.specs.{Standing.{Desk}, Items.{Given, marks_given}, Pouring.{HasPoured, IsPoured, OnlyDue}, Stops.{HasStopped, without_loan}}
+use Rattle.flow_queues.{specs.{Ends.{IsCounted, bytes_written_of}, Counting.{TallyState, with_bytes, quit_by}}, proofs.Shown.{shown-total, shown-bytes}}
+use Rattle.zc_poll.specs.{Standing.{Desk}, Items.{GivenItem, marks_given}, Pouring.{HasPoured, IsPoured, OnlyDue}, Stops.{HasStopped, without_loan}}
 use Rattle.zc_poll.proofs.{LoanGone.{gone-loans, gone-many}, Whole.{items-front}}
 
 pub quit-some : (s : Stopped) → quit_by s ≢ stop.No
@@ -56,13 +56,13 @@ none-then due v y z gone given released = ap (λ (x : AppView). x.loans) (then-r
 
 -- ---- what was written
 
-module _ (P : Type 0) (first kept : ℕ → Option (List ℕ)) (w : TallyState) (st : Desk) (v : AppView) (items : List Given) (torn missing : ℕ)
+module _ (P : Type 0) (first kept : ℕ → Option (List ℕ)) (w : TallyState) (st : Desk) (v : AppView) (items : List GivenItem) (torn missing : ℕ)
     (poured : HasPoured P first w st kept v items torn missing) (found : Each (FlowEnds v.taken) st.flows) where
   fronts-of : FramesStandTogether v.taken → HasFronts first kept v
   fronts-of whole n =
       let marks : List Mark = marks_given n items in
       let (rest, parts) = items-front st.flows v.taken items found poured.given whole n in
-      Gained-weaker (first n) (kept n) (IsPoured (P × (n ≡ torn)) v marks (bytes_in n w.counts)) (IsFront v.taken v.reads (marks_of n v.taken))
+      Gained-weaker (first n) (kept n) (IsPoured (P × (n ≡ torn)) v marks (bytes_written_of n w.counts)) (IsFront v.taken v.reads (marks_of n v.taken))
       (λ bytes is. record {
         read = take (length bytes) marks;
         rest = drop (length bytes) marks ++ rest;
@@ -78,9 +78,10 @@ module _ (P : Type 0) (first kept : ℕ → Option (List ℕ)) (w : TallyState) 
         (subst (λ (rs : List Reading). Gained (first n) (kept n) (IsFront v.taken rs (marks_of n v.taken))) (sym gone.reads)
         (fronts-of (subst FramesStandTogether gone.taken whole) n))
 
-    counted-then : (n : ℕ) → Gained (first n) (kept n) (IsCounted why (bytes_in n (with_bytes w.counts)))
+    counted-then : (n : ℕ) → Gained (first n) (kept n) (IsCounted why (bytes_written_of n (with_bytes w.counts)))
     counted-then n = subst (λ count. Gained (first n) (kept n) (IsCounted why count)) (sym (shown-bytes n w.counts (poured.once n)))
-        (Gained-weaker (first n) (kept n) (IsPoured (P × (n ≡ torn)) v (marks_given n items) (bytes_in n w.counts)) (IsCounted why (bytes_in n w.counts))
+        (Gained-weaker (first n) (kept n) (IsPoured (P × (n ≡ torn)) v (marks_given n items) (bytes_written_of n w.counts))
+        (IsCounted why (bytes_written_of n w.counts))
         (λ bytes is. record { counted = λ not. is.exact (λ both. not (failed both.0)); at_least = is.at_least }) (poured.shelved n))
 
     pub stopped-pours : HasStopped first kept z (record { written = w.written; loans = w.loans; copied = w.copied; stopped = why; flows = with_bytes w.counts })

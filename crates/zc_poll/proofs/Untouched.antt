@@ -2,7 +2,7 @@
 use Rattle.std.proofs.Common.{◌≡◌, ℕ, [], length, refl, sym, ap, subst, arith, true, false}
 use Rattle.board_face.specs.declared.views.app.AppView.{AppView}
 use Rattle.flow_queues.specs.Core.{total, LieApart, own_notes, has_at, is_odd, held_len}
-use Rattle.zc_poll.specs.{Standing.{Desk, StreamStands}, Fresh.{HasDoneNothing, new_desk}}
+use Rattle.zc_poll.specs.{Standing.{Desk, StreamStands}, Fresh.{HasDoneNothing, new_stream_desk}}
 
 module _ (app : ℕ) (v : AppView) (new : HasDoneNothing app v) where
   apart : LieApart v
@@ -11,7 +11,7 @@ module _ (app : ℕ) (v : AppView) (new : HasDoneNothing app v) where
     some = omega (arith, ap (total (λ h. is_odd v.setting.layout h.place)) new.helds, ap (total (λ l. is_odd v.setting.layout l.place)) new.loans);
   }
 
-  new-stands : StreamStands (new_desk app) v
+  new-stands : StreamStands (new_stream_desk app) v
   new-stands = record {
     common = record {
       here = new.here;
@@ -52,5 +52,5 @@ module _ (app : ℕ) (v : AppView) (new : HasDoneNothing app v) where
     whole = λ is _. absurd (cc);
   }
 
-  pub stands-at-first : (st : Desk) → st ≡ new_desk app → StreamStands st v
+  pub stands-at-first : (st : Desk) → st ≡ new_stream_desk app → StreamStands st v
   stands-at-first st e = subst (λ (d : Desk). StreamStands d v) (sym e) new-stands

@@ -4,7 +4,7 @@ use Rattle.zr_io.specs.Moved.{ShelfCounts}
 use Rattle.board_face.specs.declared.views.app.AppView.{AppView}
 use Rattle.flow_queues.specs.{Core.{total}, Counting.{TallyState}}
 use Rattle.zc_poll.specs.declared.step.{Step.TheVariants.{Waiting}, Waits.{Waits}}
-use Rattle.zc_poll.specs.{Standing.{Desk}, Steps.{OnlySteps, Steps}, Pouring.{PourStands}, Polls.{Answer, GivesNext, IsLastTurn, Tells, Yields}}
+use Rattle.zc_poll.specs.{Standing.{Desk}, Steps.{OnlySteps, Steps}, Pouring.{PourStands}, Polls.{Answer, GivesNext, IsLastPourTurn, TellsPoured, Yields}}
 use Rattle.zc_poll.{specs.declared.to_shelf.Poured.{Poured}, proofs.{Views.{only-then}, Released.{unlent-then}}}
 
 module _ (was mid : Desk) (old view : AppView) (why : Waits) (only : OnlySteps old view) (waited : Steps was mid old view (Waiting why)) where
@@ -47,7 +47,7 @@ module _ (was mid : Desk) (old view : AppView) (why : Waits) (only : OnlySteps o
 
 pub tells-then : (u w : TallyState) (was now : Desk) (kept later : ℕ → Option (List ℕ)) (losses counts : ShelfCounts) (v z : AppView) (x : Poured)
     → ((first : ℕ → Option (List ℕ)) (n : ShelfCounts) → PourStands first n u was kept losses v → PourStands first n w now later counts z) → z.app ≡ v.app
-    → Tells w now later counts z x → Tells u was kept losses v x
+    → TellsPoured w now later counts z x → TellsPoured u was kept losses v x
 tells-then u w was now kept later losses counts v z x goes same tells = λ first n stands.
     let (last, count, new, told) = tells first n (goes first n stands) in
-    (last, count, new, subst (λ app. IsLastTurn first n last count app new x) same told)
+    (last, count, new, subst (λ app. IsLastPourTurn first n last count app new x) same told)

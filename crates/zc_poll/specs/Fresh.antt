@@ -18,8 +18,8 @@ pub record HasDoneNothing (app : ℕ) (v : AppView) : Type 0 where
   pub written : v.written ≡ []
   pub spares : v.spares ≡ 0
 
-abbrev pub new_desk : ℕ → Desk
-new_desk app = record { app = app; notes = 0; flows = []; index = []; active = 0; stopped = false; ended = false; scrubbed = false }
+abbrev pub new_stream_desk : ℕ → Desk
+new_stream_desk app = record { app = app; notes = 0; flows = []; index = []; active = 0; stopped = false; ended = false; scrubbed = false }
 
 -- its slots were seen free, and its user counts scrubbed
 abbrev pub has_scrubbed : AppView → AppView

@@ -5,7 +5,7 @@ use Rattle.futures.specs.{Poll.{OnPending}, Task.{Covers, Keeps}, declared.task.
 use Rattle.board_face.specs.declared.views.app.AppView.{AppView}
 use Rattle.zc_poll.specs.{Standing.{Desk}, Steps.{OnlySteps, PollGives}, declared.step.Lent.{Lent}}
 use Rattle.flow_queues.specs.Counting.{TallyState}
-use Rattle.zc_poll.specs.{Pouring.{PourStands}, PourTurns.{PourGives, PourStage, TurnDoes}, declared.to_shelf.{Poured.{Poured}, PollTurn.TheVariants.{Ended}}}
+use Rattle.zc_poll.specs.{Pouring.{PourStands}, PourTurns.{PourGives, PourStage, PourTurnDoes}, declared.to_shelf.{Poured.{Poured}, PollTurn.TheVariants.{Ended}}}
 
 -- a poll that is pending asks for another, whatever its sources do, and the task keeps what it had asked for
 pub record AsksAgain {A : Type 0} (old new : Context) (result : Poll A) : Type 0 where
@@ -28,18 +28,18 @@ Yields was old [] last = (now : Desk) × (new : AppView) × GivesNext was now ol
 Yields was old (x ∷ xs) last = (now : Desk) × (new : AppView) × GivesNext was now old new (Some x) × Yields now new xs last
 
 -- It is what a last turn gives and does, which left at this view. The shelf has `kept` then, and its counts are these.
-pub record IsLastTurn (first : ℕ → Option (List ℕ)) (losses : ShelfCounts) (kept : ℕ → Option (List ℕ)) (losses_now : ShelfCounts) (app : ℕ) (new : AppView)
+pub record IsLastPourTurn (first : ℕ → Option (List ℕ)) (losses : ShelfCounts) (kept : ℕ → Option (List ℕ)) (losses_now : ShelfCounts) (app : ℕ) (new : AppView)
     (poured : Poured) : Type 0 where
   pub was : PourStage
   pub now : PourStage
   pub seen : now.view ≡ new
   pub tally : TallyState
   pub gives : PourGives first losses tally now.desk kept losses_now new (Ended poured)
-  pub does : TurnDoes was now (Ended poured)
+  pub does : PourTurnDoes was now (Ended poured)
   pub left : new.left ≡ true
   pub same : new.app ≡ app
 
 -- This is told at the end of what stands so, with what the shelf has and the face has seen by then.
-abbrev pub Tells : TallyState → Desk → (ℕ → Option (List ℕ)) → ShelfCounts → AppView → Poured → Type 0
-Tells w st kept losses_now v poured = (first : ℕ → Option (List ℕ)) (losses : ShelfCounts) → PourStands first losses w st kept losses_now v
-    → (later : ℕ → Option (List ℕ)) × (counts : ShelfCounts) × (new : AppView) × IsLastTurn first losses later counts v.app new poured
+abbrev pub TellsPoured : TallyState → Desk → (ℕ → Option (List ℕ)) → ShelfCounts → AppView → Poured → Type 0
+TellsPoured w st kept losses_now v poured = (first : ℕ → Option (List ℕ)) (losses : ShelfCounts) → PourStands first losses w st kept losses_now v
+    → (later : ℕ → Option (List ℕ)) × (counts : ShelfCounts) × (new : AppView) × IsLastPourTurn first losses later counts v.app new poured

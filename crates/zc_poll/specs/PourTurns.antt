@@ -12,7 +12,7 @@ use Rattle.flow_queues.specs.{Core.{Each, OnlyReads}, Ends.{AppEnd, HasLeft}, Re
 use Rattle.zc_poll.specs.declared.step.Lent.{Lent}
 use Rattle.zc_poll.specs.declared.{step.Step.{Step, TheVariants.{Waiting, Memory, Ended as stream_ended}}, to_shelf.{Poured.{Poured}, PollTurn.{PollTurn}}}
 use Rattle.zc_poll.specs.declared.to_shelf.{PollTurn.TheVariants.{Did, Idle, Ended}, Rests.{Rests, TheVariants.{Stream, RefillFull, NotQuiet, NoNotice}}}
-use Rattle.zc_poll.specs.{Fresh.{has_left}, Standing.{Desk, stopped_with}, Steps.{OnlySteps, Steps, IsItem, IsSoWaiting, Scrubs}, Pouring.{PourStands}}
+use Rattle.zc_poll.specs.{Fresh.{has_left}, Standing.{Desk, stopped_with}, Steps.{OnlySteps, Steps, IsItem, IsSoWaiting, ScrubsOrWaits}, Pouring.{PourStands}}
 
 -- what a turn looks at: the loan that is due, the stream's desk, and the view
 pub record PourStage : Type 0 where
@@ -47,40 +47,40 @@ pub record HadItem (was now : PourStage) : Type 0 where
       ⊎ ((now.desk ≡ stopped_with desk now.desk.flows) × (now.due ≡ None) × (now.view ≡ record (abandoned read lent.loan) { helds = [] }))
 
 -- Where it was stopped its user counts are scrubbed, or a refill slot was seen in use. Else nothing is done.
-abbrev pub ScrubsFirst : PourStage → PourStage → Type 0
-ScrubsFirst was now = (now.due ≡ was.due) × MatchBool was.desk.stopped
-    ((done : Bool) × Scrubs was.desk now.desk was.view now.view done)
+abbrev pub PourScrubsFirst : PourStage → PourStage → Type 0
+PourScrubsFirst was now = (now.due ≡ was.due) × MatchBool was.desk.stopped
+    ((done : Bool) × ScrubsOrWaits was.desk now.desk was.view now.view done)
     ((now.desk ≡ was.desk) × (now.view ≡ was.view))
 
 -- one step of the stream gave this, and what is due stays
-abbrev pub OnlyStep : PourStage → PourStage → Step → Type 0
-OnlyStep was now step = (now.due ≡ was.due) × OnlySteps was.view now.view × Steps was.desk now.desk was.view now.view step
+abbrev pub OnlyPourStep : PourStage → PourStage → Step → Type 0
+OnlyPourStep was now step = (now.due ≡ was.due) × OnlySteps was.view now.view × Steps was.desk now.desk was.view now.view step
 
 -- The stream gave an item, had no memory, or was told for the first time that no note comes any more; or it waits.
-abbrev pub StepDoes : PourStage → PourStage → PollTurn → Type 0
-StepDoes was now Did = (was.desk.ended ≡ false) × (HadItem was now ⊎ (OnlyStep was now Memory ⊎ OnlyStep was now stream_ended))
-StepDoes was now (Idle (Stream why)) = OnlyStep was now (Waiting why)
-StepDoes was now other = ⊥
+abbrev pub PourStepDoes : PourStage → PourStage → PollTurn → Type 0
+PourStepDoes was now Did = (was.desk.ended ≡ false) × (HadItem was now ⊎ (OnlyPourStep was now Memory ⊎ OnlyPourStep was now stream_ended))
+PourStepDoes was now (Idle (Stream why)) = OnlyPourStep was now (Waiting why)
+PourStepDoes was now other = ⊥
 
 -- so it took a step, once it had scrubbed where it should
-pub record TookStep (was now : PourStage) (ran : PollTurn) : Type 0 where
+pub record TookPourStep (was now : PourStage) (ran : PollTurn) : Type 0 where
   pub stage : PourStage
-  pub first : ScrubsFirst was stage
-  pub does : StepDoes stage now ran
+  pub first : PourScrubsFirst was stage
+  pub does : PourStepDoes stage now ran
 
 -- the loan that was due was given back, or a step was taken
-abbrev pub Does : PourStage → PourStage → Type 0
-Does was now = MatchOption was.due (TookStep was now Did) (λ loan. now ≡ pour_stage None was.desk (gave was.view loan))
+abbrev pub PourDoes : PourStage → PourStage → Type 0
+PourDoes was now = MatchOption was.due (TookPourStep was now Did) (λ loan. now ≡ pour_stage None was.desk (gave was.view loan))
 
 -- The stream waits, or a refill slot was seen in use: that of the loan that is due, for which a ringful of entries was written, or
 -- any one as it was to leave, for which one was written.
-abbrev pub Idles : Rests → PourStage → PourStage → Type 0
-Idles (Stream why) was now = (was.due ≡ None) × TookStep was now (Idle (Stream why))
-Idles RefillFull was now = (was.due ≢ None) × (now.due ≡ was.due) × (now.desk ≡ was.desk) × AppOnlySaw RefillInUse was.view now.view
+abbrev pub PourIdles : Rests → PourStage → PourStage → Type 0
+PourIdles (Stream why) was now = (was.due ≡ None) × TookPourStep was now (Idle (Stream why))
+PourIdles RefillFull was now = (was.due ≢ None) × (now.due ≡ was.due) × (now.desk ≡ was.desk) × AppOnlySaw RefillInUse was.view now.view
     × HasWrittenRingful was.view
-Idles NotQuiet was now = (was.due ≡ None) × (now.due ≡ None) × (now.desk ≡ was.desk) × (was.desk.ended ≡ true)
+PourIdles NotQuiet was now = (was.due ≡ None) × (now.due ≡ None) × (now.desk ≡ was.desk) × (was.desk.ended ≡ true)
     × AppOnlySaw not_quiet was.view now.view × HasWritten was.view
-Idles NoNotice was now = ⊥
+PourIdles NoNotice was now = ⊥
 
 -- so it is of the look on which it rests
 abbrev pub IsSoOf : (AppLook → Type 0) → Rests → Type 0
@@ -89,15 +89,15 @@ IsSoOf is_so RefillFull = is_so RefillInUse
 IsSoOf is_so NotQuiet = is_so not_quiet
 IsSoOf is_so NoNotice = Unit {0}
 
-abbrev pub IsTold : (AppLook → Type 0) → PollTurn → Type 0
-IsTold is_so (Idle why) = IsSoOf is_so why
-IsTold is_so Did = Unit {0}
-IsTold is_so (Ended poured) = Unit {0}
+abbrev pub IsPourTurnTold : (AppLook → Type 0) → PollTurn → Type 0
+IsPourTurnTold is_so (Idle why) = IsSoOf is_so why
+IsPourTurnTold is_so Did = Unit {0}
+IsPourTurnTold is_so (Ended poured) = Unit {0}
 
-abbrev pub TurnDoes : PourStage → PourStage → PollTurn → Type 0
-TurnDoes was now Did = Does was now
-TurnDoes was now (Idle why) = Idles why was now
-TurnDoes was now (Ended poured) = (was.due ≡ None) × (was.desk.ended ≡ true) × (now.view ≡ has_left was.view)
+abbrev pub PourTurnDoes : PourStage → PourStage → PollTurn → Type 0
+PourTurnDoes was now Did = PourDoes was now
+PourTurnDoes was now (Idle why) = PourIdles why was now
+PourTurnDoes was now (Ended poured) = (was.due ≡ None) × (was.desk.ended ≡ true) × (now.view ≡ has_left was.view)
     × ((poured.stopped ≡ stop.No) ↔ (was.desk.stopped ≡ false)) × IsStrictlySortedBy nat_cmp (keys_of poured.flows.items)
     × Each (λ f. 0 < f.1) poured.flows.items
 
@@ -135,6 +135,6 @@ abbrev pub PollPours : (ℕ → Option (List ℕ)) → ShelfCounts → TallyStat
 PollPours first losses w st kept losses_now v (Ready poured) = PourGives first losses w st kept losses_now v (Ended poured)
 PollPours first losses w st kept losses_now v Pending = PourStands first losses w st kept losses_now v
 
-abbrev pub PollDoes : (AppLook → Type 0) → PourStage → PourStage → Poll Poured → Type 0
-PollDoes is_so was now (Ready poured) = TurnDoes was now (Ended poured)
-PollDoes is_so was now Pending = TurnDoes was now Did ⊎ ((why : Rests) × TurnDoes was now (Idle why) × IsTold is_so (Idle why))
+abbrev pub PourPollDoes : (AppLook → Type 0) → PourStage → PourStage → Poll Poured → Type 0
+PourPollDoes is_so was now (Ready poured) = PourTurnDoes was now (Ended poured)
+PourPollDoes is_so was now Pending = PourTurnDoes was now Did ⊎ ((why : Rests) × PourTurnDoes was now (Idle why) × IsPourTurnTold is_so (Idle why))

@@ -7,11 +7,11 @@ use Rattle.board_face.specs.declared.views.app.{LentPiece.{LentPiece}, AppView.{
 use Rattle.std.specs.Io.KnownBytes.{Keeps}
 use Rattle.flow_queues.specs.declared.queues.Lending.{Lending}
 use Rattle.flow_queues.specs.{Marks.{Mark}, Core.{total, AreReadAt, IsIn, IsReadOf, lent_piece, most_at_once}, Totals.{capped, lent_len, loan_entries, raw_entries}}
-use Rattle.flow_queues.specs.{Shelves.{AreOfOneLoan, kept_loans}, Entries.{Gives}, Ends.{bytes_in, times}, Counting.{TallyState}}
-use Rattle.zc_poll.specs.{Standing.{Desk, StreamStands}, Items.{Given, HasGiven, marks_given}}
+use Rattle.flow_queues.specs.{Shelves.{AreOfOneLoan, kept_loans}, Entries.{GivesAll}, Ends.{bytes_written_of, times_written}, Counting.{TallyState}}
+use Rattle.zc_poll.specs.{Standing.{Desk, StreamStands}, Items.{GivenItem, HasGiven, marks_given}}
 
 -- how many bytes an item has
-abbrev pub given_len : Given → ℕ
+abbrev pub given_len : GivenItem → ℕ
 given_len g = g.lending.loan.len
 
 -- Of a flow whose items have these marks so many bytes are counted, and its shelf gained these: those at the first of the marks.
@@ -28,13 +28,13 @@ pub record IsPoured (FailedHere : Type 0) (v : AppView) (marks : List Mark) (cou
 pub record GaveFirst (v : AppView) (most : ℕ) : Type 0 where
   pub raw : raw_entries v ≡ 0
   pub entries : loan_entries v ≤ length v.returned
-  pub given : Gives v (take (loan_entries v) v.returned)
+  pub given : GivesAll v (take (loan_entries v) v.returned)
   pub bytes : total lent_len (take (loan_entries v) v.returned) ≤ most
 
 -- These items were given, one loan each, and all of their bytes are counted but for so many of one flow. The shelf had `first`
 -- before and has `kept` now; it gained more than is counted only where it failed.
 pub record HasPoured (Failed : Type 0) (first : ℕ → Option (List ℕ)) (w : TallyState) (st : Desk) (kept : ℕ → Option (List ℕ)) (v : AppView)
-    (items : List Given) (torn missing : ℕ) : Type 0 where
+    (items : List GivenItem) (torn missing : ℕ) : Type 0 where
   pub given : HasGiven items st.flows v.taken
   pub many : length v.loans + length v.returned ≡ length items
   pub lent : total lent_len v.loans + total lent_len v.returned ≡ total given_len items
@@ -43,15 +43,15 @@ pub record HasPoured (Failed : Type 0) (first : ℕ → Option (List ℕ)) (w : 
   -- those that entries gave back are counted whole
   pub back : GaveFirst v (total (λ f. f.1) w.counts)
   pub sum : total (λ f. f.1) w.counts + missing ≡ total given_len items
-  pub counts : (n : ℕ) → bytes_in n w.counts + (if n == torn then missing else 0) ≡ length (marks_given n items)
-  pub once : (n : ℕ) → times n w.counts ≤ 1
-  pub known : (n : ℕ) → 0 < times n w.counts → 0 < length (marks_given n items)
+  pub counts : (n : ℕ) → bytes_written_of n w.counts + (if n == torn then missing else 0) ≡ length (marks_given n items)
+  pub once : (n : ℕ) → times_written n w.counts ≤ 1
+  pub known : (n : ℕ) → 0 < times_written n w.counts → 0 < length (marks_given n items)
   pub written : w.written ≡ capped (total (λ f. f.1) w.counts)
   pub loans : w.loans ≡ capped (length items)
   pub copied : w.copied ≡ capped v.spares
   pub room : length w.counts ≤ w.room
   pub empty : w.flows ≡ []
-  pub shelved : (n : ℕ) → Gained (first n) (kept n) (IsPoured (Failed × (n ≡ torn)) v (marks_given n items) (bytes_in n w.counts))
+  pub shelved : (n : ℕ) → Gained (first n) (kept n) (IsPoured (Failed × (n ≡ torn)) v (marks_given n items) (bytes_written_of n w.counts))
 
 -- The shelf gained the first bytes of a loan for a flow, as they were read, at least as many as are counted. No other flow gained any.
 pub record GainsLoan (old new : AppView) (loan : Place) (flow count : ℕ) (kept kept_now : ℕ → Option (List ℕ)) : Type 0 where
@@ -74,7 +74,7 @@ OnlyDue due loans = MatchOption due (loans ≡ []) (λ place. (piece : LentPiece
 -- Between two turns. The shelf's counts were `losses` and are `losses_now`.
 pub record PourStands (first : ℕ → Option (List ℕ)) (losses : ShelfCounts) (w : TallyState) (st : Desk) (kept : ℕ → Option (List ℕ)) (losses_now : ShelfCounts)
     (v : AppView) : Type 0 where
-  pub items : List Given
+  pub items : List GivenItem
   -- the item at which it was stopped: its flow, and how many of its bytes aren't counted
   pub torn : ℕ
   pub missing : ℕ

@@ -23,18 +23,18 @@ pub record Desk : Type 0 where
   pub scrubbed : Bool
 
 -- what it keeps of its flows
-abbrev pub queues_of : Desk → QueueState
-queues_of st = record { notes = st.notes; flows = st.flows; index = st.index; active = st.active }
+abbrev pub queues_of_desk : Desk → QueueState
+queues_of_desk st = record { notes = st.notes; flows = st.flows; index = st.index; active = st.active }
 
 -- each loan that is out was read
 abbrev pub all_read : List Lending → LoansOut
 all_read out = record { unread = []; read = out }
 
 -- notes enter the queues, and pieces are lent
-pub record Going (st : Desk) (v : AppView) : Type 0 where
+pub record IsGoing (st : Desk) (v : AppView) : Type 0 where
   -- the loans that are out
   pub out : List Lending
-  pub stand : QueuesStand (queues_of st) (all_read out) v
+  pub stand : QueuesStand (queues_of_desk st) (all_read out) v
 
 -- all that is in order of each flow's notes was given
 pub record IsWhole (st : Desk) (v : AppView) : Type 0 where
@@ -43,7 +43,7 @@ pub record IsWhole (st : Desk) (v : AppView) : Type 0 where
   pub known : (number : ℕ) → many number st.flows ≡ 0 → own_notes number v.taken ≡ []
 
 -- whatever it does
-pub record Common (st : Desk) (v : AppView) : Type 0 where
+pub record DeskCommon (st : Desk) (v : AppView) : Type 0 where
   pub here : v.left ≡ false
   -- no raw entry is on its way, since none was pushed
   pub settled : v.settled ≡ true
@@ -61,8 +61,8 @@ pub record Common (st : Desk) (v : AppView) : Type 0 where
 
 -- between two steps
 pub record StreamStands (st : Desk) (v : AppView) : Type 0 where
-  pub common : Common st v
-  pub going : st.stopped ≡ false → st.ended ≡ false → Going st v
+  pub common : DeskCommon st v
+  pub going : st.stopped ≡ false → st.ended ≡ false → IsGoing st v
   -- it has no piece once it was stopped, or no note comes any more
   pub released : (st.stopped ≡ true) ⊎ (st.ended ≡ true) → v.helds ≡ []
   pub whole : st.ended ≡ true → st.stopped ≡ false → IsWhole st v

@@ -9,7 +9,7 @@ use Rattle.board_face.specs.declared.views.app.{TakenNote.{TakenNote}, AppView.{
 use Rattle.flow_queues.specs.{declared.queues.Lending.{Lending}, Marks.{FramesStandTogether, marks_from, marks_of}, Core.{total, AreReadAt, IsIn, lent_piece, marks_of_loan}}
 use Rattle.zc_poll.specs.declared.step.{Lent.{Lent}, Waits.{Waits, TheVariants.{NoNote, ReserveHeld, Enough}}, Step.{Step, TheVariants.{Item, Waiting, Memory, Ended}}}
 use Rattle.flow_queues.specs.declared.noting.Taken.{Taken, TheVariants.{Did as took_one, NoNote as saw_none, Ended as told_end, Memory as had_no_memory}}
-use Rattle.zc_poll.specs.{Standing.{Desk, Common, StreamStands, NoneInOrder, CanStop}, Items.{Given, HasGiven, marks_given, IsAt}, Fresh.{has_scrubbed}}
+use Rattle.zc_poll.specs.{Standing.{Desk, DeskCommon, StreamStands, NoneInOrder, CanStop}, Items.{GivenItem, HasGiven, marks_given, IsAt}, Fresh.{has_scrubbed}}
 
 -- a count of bytes, with so many more: it stays at 2^64 - 1
 abbrev pub counted_on : ℕ → ℕ → ℕ
@@ -35,10 +35,10 @@ pub record OnlySteps (old new : AppView) : Type 0 where
 pub record Unlent (was now : Desk) (old new : AppView) : Type 0 where
   pub loans : new.loans ≡ old.loans
   pub spares : new.spares ≡ old.spares
-  pub items : (items : List Given) → HasGiven items was.flows old.taken → HasGiven items now.flows new.taken
+  pub items : (items : List GivenItem) → HasGiven items was.flows old.taken → HasGiven items now.flows new.taken
 
 -- the item that it is, of a loan
-abbrev pub given_as : Lent → Lending → Given
+abbrev pub given_as : Lent → Lending → GivenItem
 given_as lent lending = record { flow = lent.flow; lending = lending }
 
 -- One loan was lent, which is this item.
@@ -59,7 +59,7 @@ pub record IsItem (was now : Desk) (old new : AppView) (lent : Lent) : Type 0 wh
   -- they stand there among those of the flow
   pub place : FramesStandTogether new.taken → IsAt (marks_of lent.flow new.taken) lent.position (marks_of_loan lending)
   -- as many came before in the flow's items
-  pub items : (items : List Given) → HasGiven items was.flows old.taken
+  pub items : (items : List GivenItem) → HasGiven items was.flows old.taken
       → (lent.position ≡ length (marks_given lent.flow items)) × HasGiven (items ++ given_as lent lending ∷ []) now.flows new.taken
   pub going : (was.stopped ≡ false) × (now.stopped ≡ false)
   pub more : now.ended ≡ false
@@ -106,7 +106,7 @@ pub record ReadsLoan (old new : AppView) (loan : Place) (from : ℕ) (bytes : Li
 -- ---- parts of a step
 
 -- so many notes were taken, and nothing was lent
-pub record Passed (count : ℕ) (was now : Desk) (old new : AppView) : Type 0 where
+pub record PassedNotes (count : ℕ) (was now : Desk) (old new : AppView) : Type 0 where
   pub stands : StreamStands now new
   pub only : OnlySteps old new
   pub unlent : Unlent was now old new
@@ -120,35 +120,35 @@ pub record Stepped (was now : Desk) (old new : AppView) (step : Step) : Type 0 w
   pub steps : Steps was now old new step
 
 -- no more than one note was taken for it
-abbrev pub IsShort : Step → Type 0
-IsShort (Waiting Enough) = ⊥
-IsShort step = Unit {0}
+abbrev pub TookOneAtMost : Step → Type 0
+TookOneAtMost (Waiting Enough) = ⊥
+TookOneAtMost step = Unit {0}
 
 -- what was next was lent, or nothing is in order
-abbrev pub Offers : Desk → Desk → AppView → AppView → Option Step → Type 0
-Offers was now old new None = (now ≡ was) × (new ≡ old) × NoneInOrder was
-Offers was now old new (Some step) = Stepped was now old new step × IsShort step
+abbrev pub LendsWhatIsNext : Desk → Desk → AppView → AppView → Option Step → Type 0
+LendsWhatIsNext was now old new None = (now ≡ was) × (new ≡ old) × NoneInOrder was
+LendsWhatIsNext was now old new (Some step) = Stepped was now old new step × TookOneAtMost step
 
 abbrev pub Takes : Desk → Desk → AppView → AppView → Option Step → Type 0
-Takes was now old new None = Passed 1 was now old new
-Takes was now old new (Some step) = Stepped was now old new step × IsShort step
+Takes was now old new None = PassedNotes 1 was now old new
+Takes was now old new (Some step) = Stepped was now old new step × TookOneAtMost step
 
 -- A note was taken, and there was no memory for it.
 pub record Wants (was now : Desk) (old new : AppView) : Type 0 where
-  pub common : Common now new
+  pub common : DeskCommon now new
   pub can : CanStop now new
   pub only : OnlySteps old new
   pub unlent : Unlent was now old new
   pub going : (was.stopped ≡ false) × (now.stopped ≡ false)
   pub more : now.ended ≡ false
 
-abbrev pub LooksFor : Desk → Desk → AppView → AppView → Taken → Type 0
-LooksFor was now old new took_one = Passed 1 was now old new
-LooksFor was now old new saw_none = (now ≡ was) × AppOnlySaw no_note old new
-LooksFor was now old new told_end = (now ≡ was) × ToldEnd old new
-LooksFor was now old new had_no_memory = Wants was now old new
+abbrev pub LooksForNote : Desk → Desk → AppView → AppView → Taken → Type 0
+LooksForNote was now old new took_one = PassedNotes 1 was now old new
+LooksForNote was now old new saw_none = (now ≡ was) × AppOnlySaw no_note old new
+LooksForNote was now old new told_end = (now ≡ was) × ToldEnd old new
+LooksForNote was now old new had_no_memory = Wants was now old new
 
 -- The user counts are scrubbed: they were before, or each refill slot was seen free. Or one was in use.
-abbrev pub Scrubs : Desk → Desk → AppView → AppView → Bool → Type 0
-Scrubs was now old new true = (now ≡ record was { scrubbed = true }) × (new ≡ has_scrubbed old)
-Scrubs was now old new false = (now ≡ was) × AppOnlySaw not_quiet old new
+abbrev pub ScrubsOrWaits : Desk → Desk → AppView → AppView → Bool → Type 0
+ScrubsOrWaits was now old new true = (now ≡ record was { scrubbed = true }) × (new ≡ has_scrubbed old)
+ScrubsOrWaits was now old new false = (now ≡ was) × AppOnlySaw not_quiet old new

@@ -4,7 +4,7 @@ use Rattle.zr_kinds.specs.declared.place.Place.{Place}
 use Rattle.zr_kinds.specs.declared.behaviour.Stopped.TheVariants as stop
 use Rattle.zr_io.specs.Moved.{Gained}
 use Rattle.board_face.specs.{AppEvents.{abandoned}, declared.views.app.AppView.{AppView}}
-use Rattle.flow_queues.specs.{Marks.{FramesStandTogether}, Core.{total}, Totals.{capped}, Streams.{HasFronts}, Ends.{AppEnd, IsCounted, bytes_in}}
+use Rattle.flow_queues.specs.{Marks.{FramesStandTogether}, Core.{total}, Totals.{capped}, Streams.{HasFronts}, Ends.{AppEnd, IsCounted, bytes_written_of}}
 use Rattle.zc_poll.specs.Standing.{Desk, StreamStands}
 
 -- it is stopped, and no loan is out
@@ -24,11 +24,11 @@ pub record HasStopped (first kept : ℕ → Option (List ℕ)) (v : AppView) (en
   pub copied : end.copied ≡ capped v.spares
   pub written : end.written ≡ capped (total (λ f. f.1) end.flows)
   pub fronts : FramesStandTogether v.taken → HasFronts first kept v
-  pub counted : (number : ℕ) → Gained (first number) (kept number) (IsCounted end.stopped (bytes_in number end.flows))
+  pub counted : (number : ℕ) → Gained (first number) (kept number) (IsCounted end.stopped (bytes_written_of number end.flows))
   pub some : end.stopped ≢ stop.No
 
 -- A stopped stream lent nothing, and no loan went in any way.
-pub record Passes (old new : AppView) : Type 0 where
+pub record LentNothing (old new : AppView) : Type 0 where
   pub loans : new.loans ≡ []
   pub returned : new.returned ≡ old.returned
   pub written : new.written ≡ old.written
@@ -36,4 +36,4 @@ pub record Passes (old new : AppView) : Type 0 where
 
 -- and it scrubbed and left
 abbrev pub HasGone : AppView → AppView → Type 0
-HasGone old new = Passes old new × (new.scrubbed ≡ true) × (new.left ≡ true)
+HasGone old new = LentNothing old new × (new.scrubbed ≡ true) × (new.left ≡ true)

@@ -1,7 +1,7 @@
 //! A stream that was stopped leaves its board.
 ghost use Rattle.std.specs.Prelude.{◌≡◌, [], true, Some, IfSome, IsSomeAnd, MatchBool, ⊤};
 ghost use Rattle.futures.specs.{Poll.{IfReady, OnPending}, Task.{Covers, Keeps}};
-ghost use Rattle.zc_poll.specs.{Standing.{StreamStands}, Stops.{HasGone, IsStill, Passes}};
+ghost use Rattle.zc_poll.specs.{Standing.{StreamStands}, Stops.{HasGone, IsStill, LentNothing}};
 
 use crate::step::Step;
 use crate::stream::LoanStream;
@@ -36,7 +36,7 @@ impl<F: AppFace> LoanStream<F> {
 fn pass<F: AppFace>(stream: &mut LoanStream<F>)
     requires still { IsStill stream.old.desk (F.seen stream.old.face) }
     ensures still { IsStill stream.new.desk (F.seen stream.new.face) }
-    ensures passes { Passes (F.seen stream.old.face) (F.seen stream.new.face) }
+    ensures passes { LentNothing (F.seen stream.old.face) (F.seen stream.new.face) }
     ensures beside { F.beside stream.new.face ≡ F.beside stream.old.face }
 {
     match stream.step() {
@@ -53,7 +53,7 @@ fn leave_soon<F: AppFace>(stream: &mut LoanStream<F>) -> bool
     ensures left { MatchBool result
         (((F.seen stream.new.face).scrubbed ≡ true) × ((F.seen stream.new.face).left ≡ true))
         (IsStill stream.new.desk (F.seen stream.new.face)) }
-    ensures passes { Passes (F.seen stream.old.face) (F.seen stream.new.face) }
+    ensures passes { LentNothing (F.seen stream.old.face) (F.seen stream.new.face) }
     ensures beside { F.beside stream.new.face ≡ F.beside stream.old.face }
 {
     if stream.has_ended() {

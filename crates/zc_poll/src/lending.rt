@@ -2,7 +2,7 @@
 ghost use Rattle.std.specs.Prelude.{◌≡◌, false, IfSome};
 ghost use Rattle.tcp_reorder.specs.Queue.{IsSound};
 ghost use Rattle.board_face.specs.AppEvents.{app_gist};
-ghost use Rattle.zc_poll.specs.{Standing.{StreamStands}, Steps.{IsStepTold, Offers, counted_on}, DeskOf.{desk_of}};
+ghost use Rattle.zc_poll.specs.{Standing.{StreamStands}, Steps.{IsStepTold, LendsWhatIsNext, counted_on}, DeskOf.{desk_of}};
 
 use crate::state::StreamState;
 use crate::step::{Lent, Step, Waits};
@@ -36,7 +36,8 @@ fn item(own: &mut FlowQueue, lending: Lending, copied: bool) -> Lent
 pub fn offer<F: AppFace>(face: &mut F, st: &mut StreamState) -> Option<Step>
     requires stands { StreamStands (desk_of st.old) (F.seen face.old) }
     requires more { st.old.ended ≡ false }
-    ensures offers { Offers (desk_of st.old) (desk_of st.new) (F.seen face.old) (F.seen face.new)
+    ensures offers { LendsWhatIsNext (desk_of st.old) (desk_of st.new) (F.seen face.old)
+        (F.seen face.new)
         result }
     ensures told { IfSome result (IsStepTold (λ look.
         F.tells look (app_gist (F.seen face.new)) (F.beside face.new))) }

@@ -2,8 +2,8 @@
 ghost use Rattle.std.specs.Prelude.{◌≡◌, ℕ, List, [], Option, None};
 ghost use Rattle.zr_io.specs.Moved.{ShelfCounts};
 ghost use Rattle.board_face.specs.{AppEvents.{abandoned}, declared.views.app.AppView.{AppView}};
-ghost use Rattle.flow_queues.specs.{Core.{OnlyReads}, Counting.{HasRoomForFlows}, TallyOf.{tally_of}};
-ghost use Rattle.zc_poll.specs.{Standing.{Desk, StreamStands, HoldsLoan, StaysAt, stopped_with}, Items.{Given, HasGiven}, Steps.{IsItem, OnlySteps}, Pouring.{CountsAppends, GainsLoan, PourStands}, PourTurns.{IsRead}};
+ghost use Rattle.flow_queues.specs.{Core.{OnlyReads}, Counting.{HasRoomForFlows}, TallyOf.{tally_state_of}};
+ghost use Rattle.zc_poll.specs.{Standing.{Desk, StreamStands, HoldsLoan, StaysAt, stopped_with}, Items.{GivenItem, HasGiven}, Steps.{IsItem, OnlySteps}, Pouring.{CountsAppends, GainsLoan, PourStands}, PourTurns.{IsRead}};
 
 use crate::step::Lent;
 use crate::stream::LoanStream;
@@ -50,7 +50,7 @@ fn give_up<F: AppFace>(stream: &mut LoanStream<F>, work: &mut LoanTally, loan: L
     ensures stopped { stream.new.desk ≡ stopped_with stream.old.desk stream.new.desk.flows }
     ensures view { F.seen stream.new.face
         ≡ record (abandoned (F.seen stream.old.face) loan) { helds = [] } }
-    ensures items { (items : List Given)
+    ensures items { (items : List GivenItem)
         → HasGiven items stream.old.desk.flows (F.seen stream.old.face).taken
         → HasGiven items stream.new.desk.flows (F.seen stream.new.face).taken }
     ensures work { work.new ≡ record work.old { stopped = why } }
@@ -71,12 +71,14 @@ pub fn pour<F: AppFace, T: Shelf>(
 ) -> Option<Loan>
     requires holds { HoldsLoan stream.old.desk (F.seen stream.old.face) lent.loan }
     requires none { work.old.due ≡ None }
-    requires room { HasRoomForFlows (tally_of work.old) }
+    requires room { HasRoomForFlows (tally_state_of work.old) }
     ensures pours { (first : ℕ → Option (List ℕ)) (losses : ShelfCounts) (st : Desk) (v : AppView)
-        → PourStands first losses (tally_of work.old) st (T.kept shelf.old) (T.counts shelf.old) v
+        → PourStands first losses (tally_state_of work.old) st (T.kept shelf.old)
+        (T.counts shelf.old) v
         → IsItem st stream.old.desk v (F.seen stream.old.face) lent
         → OnlySteps v (F.seen stream.old.face)
-        → PourStands first losses (record (tally_of work.new) { due = result }) stream.new.desk
+        → PourStands first losses (record (tally_state_of work.new) { due = result })
+        stream.new.desk
         (T.kept shelf.new) (T.counts shelf.new)
         (F.seen stream.new.face) }
     ensures read { IsRead lent.loan stream.old.desk stream.new.desk (F.seen stream.old.face)

@@ -2,7 +2,7 @@ ghost use Rattle.std.specs.Prelude.{◌≡◌, ◌+◌, ◌≤◌, [], List, len
 ghost use Rattle.futures.specs.{Poll.{IfReady, OnPending}, Runs.{After, Within}, declared.task.Poll.TheVariants.{Ready}};
 ghost use Rattle.board_face.specs.{Looks.{AppTold}, NotNow.{HasWrittenRingful}, AppCalls.{AppOnlySaw, HasLoan}, AppEvents.{app_gist, gave, abandoned}, declared.views.app.AppLook.TheVariants.{RefillInUse, NotQuiet}};
 ghost use Rattle.flow_queues.specs.Leaving.{IsHeldUp};
-ghost use Rattle.zc_poll.specs.{Standing.{StreamStands, HoldsLoan, StaysAt, MayClose, stopped_with}, Items.{Given, HasGiven}, Steps.{Stepped, OnlySteps, PollGives, ReadsLoan, Scrubs, IsStepTold}, Fresh.{HasDoneNothing, new_desk, has_left}, Polls.{AsksAgain, Yields}, Stops.{IsStill, without_loan}, declared.step.Step.TheVariants.{Ended}};
+ghost use Rattle.zc_poll.specs.{Standing.{StreamStands, HoldsLoan, StaysAt, MayClose, stopped_with}, Items.{GivenItem, HasGiven}, Steps.{Stepped, OnlySteps, PollGives, ReadsLoan, ScrubsOrWaits, IsStepTold}, Fresh.{HasDoneNothing, new_stream_desk, has_left}, Polls.{AsksAgain, Yields}, Stops.{IsStill, without_loan}, declared.step.Step.TheVariants.{Ended}};
 
 use crate::lending::offer;
 use crate::state::{StreamState, stop};
@@ -34,7 +34,7 @@ impl<F: AppFace> LoanStream<F> {
     /// A stream of this application's loans, of which none was given yet. Takes no memory.
     pub fn new(alloc: Global, face: F, app: u32) -> LoanStream<F>
         requires { HasDoneNothing app (F.seen face) }
-        ensures stream { result ≡ record { face = face; desk = new_desk app } }
+        ensures stream { result ≡ record { face = face; desk = new_stream_desk app } }
         ensures stands { StreamStands result.desk (F.seen result.face) }
         ensures items { HasGiven [] result.desk.flows (F.seen result.face).taken }
     {
@@ -139,7 +139,7 @@ impl<F: AppFace> LoanStream<F> {
         ensures stands { StreamStands self.new.desk (F.seen self.new.face) }
         ensures stopped { self.new.desk ≡ stopped_with self.old.desk self.new.desk.flows }
         ensures view { F.seen self.new.face ≡ record (F.seen self.old.face) { helds = [] } }
-        ensures items { (items : List Given)
+        ensures items { (items : List GivenItem)
             → HasGiven items self.old.desk.flows (F.seen self.old.face).taken
             → HasGiven items self.new.desk.flows (F.seen self.new.face).taken }
         ensures beside { F.beside self.new.face ≡ F.beside self.old.face }
@@ -152,7 +152,7 @@ impl<F: AppFace> LoanStream<F> {
     pub fn scrub(&mut self) -> bool
         requires still { IsStill self.old.desk (F.seen self.old.face) }
         ensures stands { StreamStands self.new.desk (F.seen self.new.face) }
-        ensures scrubs { Scrubs self.old.desk self.new.desk (F.seen self.old.face)
+        ensures scrubs { ScrubsOrWaits self.old.desk self.new.desk (F.seen self.old.face)
             (F.seen self.new.face) result }
         ensures held { result ≡ false
             → IsHeldUp (λ look. F.tells look (app_gist (F.seen self.old.face))

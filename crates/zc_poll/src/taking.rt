@@ -1,7 +1,7 @@
 //! A note is taken: into the queue of its flow, or past it where the stream is stopped.
 ghost use Rattle.std.specs.Prelude.{◌≡◌, IfSome};
 ghost use Rattle.board_face.specs.{AppEvents.{app_gist}, declared.views.app.AppLook.TheVariants.{NoNote as no_note}};
-ghost use Rattle.zc_poll.specs.{Standing.{MayLook}, Steps.{IsStepTold, Takes, LooksFor}, DeskOf.{desk_of}};
+ghost use Rattle.zc_poll.specs.{Standing.{MayLook}, Steps.{IsStepTold, Takes, LooksForNote}, DeskOf.{desk_of}};
 
 use crate::state::{StreamState, release, stop};
 use crate::step::{Step, Waits};
@@ -11,7 +11,8 @@ use flow_queues::{Taken, pass_note, take_note};
 /// Looks for a note, which enters the queue of its flow, or goes past it where the stream is stopped.
 fn look<F: AppFace>(face: &mut F, st: &mut StreamState) -> Taken
     requires may { MayLook (desk_of st.old) (F.seen face.old) }
-    ensures looks { LooksFor (desk_of st.old) (desk_of st.new) (F.seen face.old) (F.seen face.new)
+    ensures looks { LooksForNote (desk_of st.old) (desk_of st.new) (F.seen face.old)
+        (F.seen face.new)
         result }
     ensures told { result ≡ Taken.NoNote
         → F.tells no_note (app_gist (F.seen face.new)) (F.beside face.new) }

@@ -1,10 +1,10 @@
 //! The items of a stream are written to a shelf, one turn after another.
 ghost use Rattle.std.specs.{Prelude.{◌≡◌, ◌≢◌, ◌<◌, ℕ, List, [], Option, Some, None, true, false, ⊤}, Ordering.{nat_cmp}, Map.{keys_of}, List.Sorted.{IsStrictlySortedBy}};
 ghost use Rattle.board_face.specs.{AppEvents.{app_gist}, declared.views.app.AppView.{AppView}};
-ghost use Rattle.flow_queues.specs.{Core.{Each}, Counting.{HasRoomForFlows, new_tally, quit_by}, TallyOf.{tally_of}};
+ghost use Rattle.flow_queues.specs.{Core.{Each}, Counting.{HasRoomForFlows, new_tally, quit_by}, TallyOf.{tally_state_of}};
 ghost use Rattle.zr_kinds.specs.declared.{behaviour.Stopped.TheVariants.{No}, place.Place.{Place}};
-ghost use Rattle.zc_poll.specs.{Standing.{Desk, StreamStands, HoldsLoan, MayClose}, Fresh.{HasDoneNothing, new_desk}, Pouring.{CanTurn, PourStands}, PourTurns.{HadItem, IsTold, PourGives, PourStage, ScrubsFirst, ScrubsIfQuiet, StepDoes, TurnDoes, PollPours, PollDoes, pour_stage}, Steps.{IsItem, OnlySteps}};
-ghost use Rattle.zc_poll.specs.{Polls.{AsksAgain, Tells}, PourTurns.{TellsCounts, pour_end}, Stops.{HasStopped, IsStill, without_loan}, declared.to_shelf.Poured.{Poured as Told}};
+ghost use Rattle.zc_poll.specs.{Standing.{Desk, StreamStands, HoldsLoan, MayClose}, Fresh.{HasDoneNothing, new_stream_desk}, Pouring.{CanTurn, PourStands}, PourTurns.{HadItem, IsPourTurnTold, PourGives, PourStage, PourScrubsFirst, ScrubsIfQuiet, PourStepDoes, PourTurnDoes, PollPours, PourPollDoes, pour_stage}, Steps.{IsItem, OnlySteps}};
+ghost use Rattle.zc_poll.specs.{Polls.{AsksAgain, TellsPoured}, PourTurns.{TellsCounts, pour_end}, Stops.{HasStopped, IsStill, without_loan}, declared.to_shelf.Poured.{Poured as Told}};
 ghost use Rattle.futures.specs.Poll.{IfReady, OnPending};
 ghost use Rattle.zr_io.specs.Moved.{ShelfCounts};
 
@@ -36,8 +36,8 @@ pub struct Poured {
 impl Poured {
     /// What a tally says once nothing comes any more.
     pub fn of_tally(tally: &mut LoanTally, alloc: Global) -> Poured
-        requires room { HasRoomForFlows (tally_of tally.old) }
-        ensures tells { TellsCounts (tally_of tally.old) result }
+        requires room { HasRoomForFlows (tally_state_of tally.old) }
+        ensures tells { TellsCounts (tally_state_of tally.old) result }
         ensures some { Each (λ f. 0 < f.1) result.flows.items }
         ensures ascending { IsStrictlySortedBy nat_cmp (keys_of result.flows.items) }
         ensures due { tally.new.due ≡ tally.old.due }
@@ -79,14 +79,15 @@ fn give_back<F: AppFace>(stream: &mut LoanStream<F>, work: &mut LoanTally, loan:
     requires holds { HoldsLoan stream.old.desk (F.seen stream.old.face) loan }
     requires due { work.old.due ≡ None }
     ensures gives { (first kept : ℕ → Option (List ℕ)) (losses now : ShelfCounts)
-        → PourStands first losses (record (tally_of work.old) { due = Some loan }) stream.old.desk
+        → PourStands first losses (record (tally_state_of work.old) { due = Some loan })
+        stream.old.desk
         kept now (F.seen stream.old.face)
-        → PourStands first losses (tally_of work.new) stream.new.desk kept now
+        → PourStands first losses (tally_state_of work.new) stream.new.desk kept now
         (F.seen stream.new.face) }
     ensures desk { stream.new.desk ≡ stream.old.desk }
-    ensures does { TurnDoes (pour_stage (Some loan) stream.old.desk (F.seen stream.old.face))
+    ensures does { PourTurnDoes (pour_stage (Some loan) stream.old.desk (F.seen stream.old.face))
         (pour_stage work.new.due stream.new.desk (F.seen stream.new.face)) result }
-    ensures told { IsTold (λ look.
+    ensures told { IsPourTurnTold (λ look.
         F.tells look (app_gist (F.seen stream.new.face)) (F.beside stream.new.face)) result }
     ensures same { (F.seen stream.new.face).app ≡ (F.seen stream.old.face).app }
     ensures beside { F.beside stream.new.face ≡ F.beside stream.old.face }
@@ -104,20 +105,20 @@ fn give_back<F: AppFace>(stream: &mut LoanStream<F>, work: &mut LoanTally, loan:
 fn close<F: AppFace>(stream: &mut LoanStream<F>, work: &mut LoanTally) -> PollTurn
     requires may { MayClose stream.old.desk (F.seen stream.old.face) }
     requires due { work.old.due ≡ None }
-    requires room { HasRoomForFlows (tally_of work.old) }
+    requires room { HasRoomForFlows (tally_state_of work.old) }
     ensures gives { (first kept : ℕ → Option (List ℕ)) (losses now : ShelfCounts)
-        → PourStands first losses (tally_of work.old) stream.old.desk kept now
+        → PourStands first losses (tally_state_of work.old) stream.old.desk kept now
         (F.seen stream.old.face)
-        → PourGives first losses (tally_of work.new) stream.new.desk kept now
+        → PourGives first losses (tally_state_of work.new) stream.new.desk kept now
         (F.seen stream.new.face) result }
     ensures does { (first kept : ℕ → Option (List ℕ)) (losses now : ShelfCounts)
-        → PourStands first losses (tally_of work.old) stream.old.desk kept now
+        → PourStands first losses (tally_state_of work.old) stream.old.desk kept now
         (F.seen stream.old.face)
-        → TurnDoes (pour_stage None stream.old.desk (F.seen stream.old.face))
+        → PourTurnDoes (pour_stage None stream.old.desk (F.seen stream.old.face))
         (pour_stage None stream.new.desk (F.seen stream.new.face)) result }
     ensures due { work.new.due ≡ None }
     ensures scrubs { ScrubsIfQuiet (F.seen stream.old.face) (F.seen stream.new.face) }
-    ensures told { IsTold (λ look.
+    ensures told { IsPourTurnTold (λ look.
         F.tells look (app_gist (F.seen stream.new.face)) (F.beside stream.new.face)) result }
     ensures same { (F.seen stream.new.face).app ≡ (F.seen stream.old.face).app }
     ensures beside { F.beside stream.new.face ≡ F.beside stream.old.face }
@@ -138,12 +139,13 @@ fn pour_item<F: AppFace, T: Shelf>(
 )
     requires holds { HoldsLoan stream.old.desk (F.seen stream.old.face) lent.loan }
     requires none { work.old.due ≡ None }
-    requires room { HasRoomForFlows (tally_of work.old) }
+    requires room { HasRoomForFlows (tally_state_of work.old) }
     ensures pours { (first : ℕ → Option (List ℕ)) (losses : ShelfCounts) (st : Desk) (v : AppView)
-        → PourStands first losses (tally_of work.old) st (T.kept shelf.old) (T.counts shelf.old) v
+        → PourStands first losses (tally_state_of work.old) st (T.kept shelf.old)
+        (T.counts shelf.old) v
         → IsItem st stream.old.desk v (F.seen stream.old.face) lent
         → OnlySteps v (F.seen stream.old.face)
-        → PourStands first losses (tally_of work.new) stream.new.desk (T.kept shelf.new)
+        → PourStands first losses (tally_state_of work.new) stream.new.desk (T.kept shelf.new)
         (T.counts shelf.new) (F.seen stream.new.face) }
     ensures had { (was : PourStage)
         → IsItem was.desk stream.old.desk was.view (F.seen stream.old.face) lent
@@ -166,18 +168,18 @@ fn take_step<F: AppFace, T: Shelf>(
     requires stands { StreamStands stream.old.desk (F.seen stream.old.face) }
     requires more { stream.old.desk.ended ≡ false }
     requires none { work.old.due ≡ None }
-    requires room { HasRoomForFlows (tally_of work.old) }
+    requires room { HasRoomForFlows (tally_state_of work.old) }
     ensures gives { (first : ℕ → Option (List ℕ)) (losses : ShelfCounts)
-        → PourStands first losses (tally_of work.old) stream.old.desk (T.kept shelf.old)
+        → PourStands first losses (tally_state_of work.old) stream.old.desk (T.kept shelf.old)
         (T.counts shelf.old) (F.seen stream.old.face)
-        → PourGives first losses (tally_of work.new) stream.new.desk (T.kept shelf.new)
+        → PourGives first losses (tally_state_of work.new) stream.new.desk (T.kept shelf.new)
         (T.counts shelf.new)
         (F.seen stream.new.face) result }
-    ensures does { StepDoes (pour_stage None stream.old.desk (F.seen stream.old.face))
+    ensures does { PourStepDoes (pour_stage None stream.old.desk (F.seen stream.old.face))
         (pour_stage work.new.due stream.new.desk (F.seen stream.new.face)) result }
     ensures only { stream.old.desk.stopped ≡ true
         → OnlySteps (F.seen stream.old.face) (F.seen stream.new.face) }
-    ensures told { IsTold (λ look.
+    ensures told { IsPourTurnTold (λ look.
         F.tells look (app_gist (F.seen stream.new.face)) (F.beside stream.new.face)) result }
     ensures same { (F.seen stream.new.face).app ≡ (F.seen stream.old.face).app }
     ensures beside { F.beside stream.new.face ≡ F.beside stream.old.face }
@@ -199,16 +201,16 @@ fn take_step<F: AppFace, T: Shelf>(
 /// Scrubs where the stream was stopped, unless a refill slot is in use.
 fn scrub_stopped<F: AppFace>(stream: &mut LoanStream<F>, work: &LoanTally)
     requires stands { (first kept : ℕ → Option (List ℕ)) × (losses now : ShelfCounts)
-        × PourStands first losses (tally_of work.now) stream.old.desk kept now
+        × PourStands first losses (tally_state_of work.now) stream.old.desk kept now
         (F.seen stream.old.face) }
     ensures stands { StreamStands stream.new.desk (F.seen stream.new.face) }
     ensures gives { (first kept : ℕ → Option (List ℕ)) (losses now : ShelfCounts)
-        → PourStands first losses (tally_of work.now) stream.old.desk kept now
+        → PourStands first losses (tally_state_of work.now) stream.old.desk kept now
         (F.seen stream.old.face)
-        → PourStands first losses (tally_of work.now) stream.new.desk kept now
+        → PourStands first losses (tally_state_of work.now) stream.new.desk kept now
         (F.seen stream.new.face) }
     ensures first { (due : Option Place)
-        → ScrubsFirst (pour_stage due stream.old.desk (F.seen stream.old.face))
+        → PourScrubsFirst (pour_stage due stream.old.desk (F.seen stream.old.face))
         (pour_stage due stream.new.desk (F.seen stream.new.face)) }
     ensures scrubs { work.now.stopped ≢ No
         → ScrubsIfQuiet (F.seen stream.old.face) (F.seen stream.new.face) }
@@ -229,21 +231,21 @@ fn go_on<F: AppFace, T: Shelf>(
     shelf: &mut T,
     work: &mut LoanTally,
 ) -> PollTurn
-    requires stands { CanTurn (tally_of work.old) stream.old.desk (T.kept shelf.old)
+    requires stands { CanTurn (tally_state_of work.old) stream.old.desk (T.kept shelf.old)
         (T.counts shelf.old) (F.seen stream.old.face) }
     requires more { stream.old.desk.ended ≡ false }
     requires none { work.old.due ≡ None }
     ensures gives { (first : ℕ → Option (List ℕ)) (losses : ShelfCounts)
-        → PourStands first losses (tally_of work.old) stream.old.desk (T.kept shelf.old)
+        → PourStands first losses (tally_state_of work.old) stream.old.desk (T.kept shelf.old)
         (T.counts shelf.old) (F.seen stream.old.face)
-        → PourGives first losses (tally_of work.new) stream.new.desk (T.kept shelf.new)
+        → PourGives first losses (tally_state_of work.new) stream.new.desk (T.kept shelf.new)
         (T.counts shelf.new)
         (F.seen stream.new.face) result }
-    ensures does { TurnDoes (pour_stage None stream.old.desk (F.seen stream.old.face))
+    ensures does { PourTurnDoes (pour_stage None stream.old.desk (F.seen stream.old.face))
         (pour_stage work.new.due stream.new.desk (F.seen stream.new.face)) result }
     ensures scrubs { work.old.stopped ≢ No
         → ScrubsIfQuiet (F.seen stream.old.face) (F.seen stream.new.face) }
-    ensures told { IsTold (λ look.
+    ensures told { IsPourTurnTold (λ look.
         F.tells look (app_gist (F.seen stream.new.face)) (F.beside stream.new.face)) result }
     ensures same { (F.seen stream.new.face).app ≡ (F.seen stream.old.face).app }
     ensures beside { F.beside stream.new.face ≡ F.beside stream.old.face }
@@ -258,19 +260,19 @@ fn take_turn<F: AppFace, T: Shelf>(
     shelf: &mut T,
     work: &mut LoanTally,
 ) -> PollTurn
-    requires stands { CanTurn (tally_of work.old) stream.old.desk (T.kept shelf.old)
+    requires stands { CanTurn (tally_state_of work.old) stream.old.desk (T.kept shelf.old)
         (T.counts shelf.old) (F.seen stream.old.face) }
     ensures gives { (first : ℕ → Option (List ℕ)) (losses : ShelfCounts)
-        → PourStands first losses (tally_of work.old) stream.old.desk (T.kept shelf.old)
+        → PourStands first losses (tally_state_of work.old) stream.old.desk (T.kept shelf.old)
         (T.counts shelf.old) (F.seen stream.old.face)
-        → PourGives first losses (tally_of work.new) stream.new.desk (T.kept shelf.new)
+        → PourGives first losses (tally_state_of work.new) stream.new.desk (T.kept shelf.new)
         (T.counts shelf.new)
         (F.seen stream.new.face) result }
-    ensures does { TurnDoes (pour_stage work.old.due stream.old.desk (F.seen stream.old.face))
+    ensures does { PourTurnDoes (pour_stage work.old.due stream.old.desk (F.seen stream.old.face))
         (pour_stage work.new.due stream.new.desk (F.seen stream.new.face)) result }
     ensures scrubs { work.old.stopped ≢ No
         → ScrubsIfQuiet (F.seen stream.old.face) (F.seen stream.new.face) }
-    ensures told { IsTold (λ look.
+    ensures told { IsPourTurnTold (λ look.
         F.tells look (app_gist (F.seen stream.new.face)) (F.beside stream.new.face)) result }
     ensures same { (F.seen stream.new.face).app ≡ (F.seen stream.old.face).app }
     ensures beside { F.beside stream.new.face ≡ F.beside stream.old.face }
@@ -294,17 +296,17 @@ pub struct ToShelf<F, T> {
 
 impl<F, T> Model for ToShelf<F, T> {
     ghost use Rattle.zc_poll.specs.PourTurns.{PourView};
-    ghost use Rattle.flow_queues.specs.TallyOf.{tally_of};
+    ghost use Rattle.flow_queues.specs.TallyOf.{tally_state_of};
 
     ghost Value = { PourView F T };
 
-    ghost view = { λ s. record { face = s.stream.face; desk = s.stream.desk; shelf = s.shelf; tally = tally_of s.work } };
+    ghost view = { λ s. record { face = s.stream.face; desk = s.stream.desk; shelf = s.shelf; tally = tally_state_of s.work } };
 }
 
 impl<F: AppFace, T: Shelf> ToShelf<F, T> {
     /// Nothing is written yet. Takes no memory.
     pub fn new(stream: LoanStream<F>, shelf: T) -> ToShelf<F, T>
-        requires fresh { (app : ℕ) × (stream.desk ≡ new_desk app)
+        requires fresh { (app : ℕ) × (stream.desk ≡ new_stream_desk app)
             × HasDoneNothing app (F.seen stream.face) }
         requires stands { StreamStands stream.desk (F.seen stream.face) }
         ensures parts { (result.face ≡ stream.face) × (result.shelf ≡ shelf)
@@ -335,13 +337,14 @@ impl<F: AppFace, T: Shelf> ToShelf<F, T> {
             (T.counts self.new.shelf)
             (F.seen self.new.face) result }
         // Why it did something, waited, or ended.
-        ensures does { TurnDoes (pour_stage self.old.tally.due self.old.desk (F.seen self.old.face))
+        ensures does { PourTurnDoes (pour_stage self.old.tally.due self.old.desk
+            (F.seen self.old.face))
             (pour_stage self.new.tally.due self.new.desk (F.seen self.new.face)) result }
         // One that was stopped and hadn't scrubbed has, or it saw a refill slot in use.
         ensures scrubs { self.old.tally.stopped ≢ No
             → ScrubsIfQuiet (F.seen self.old.face) (F.seen self.new.face) }
         // The board says of the look on which it rests that it is so.
-        ensures told { IsTold (λ look.
+        ensures told { IsPourTurnTold (λ look.
             F.tells look (app_gist (F.seen self.new.face)) (F.beside self.new.face)) result }
         // The same application at the same board.
         ensures same { (F.seen self.new.face).app ≡ (F.seen self.old.face).app }
@@ -402,18 +405,22 @@ impl<F: AppFace + Drop, T: Shelf + Drop> Future for ToShelf<F, T> {
     ghost needs = { λ _ _. ⊤ };
 
     /// What a last turn gives and does.
-    ghost gives = { λ s. Tells s.tally s.desk (T.kept s.shelf) (T.counts s.shelf) (F.seen s.face) };
+    ghost gives = { λ s. TellsPoured s.tally s.desk (T.kept s.shelf) (T.counts s.shelf)
+        (F.seen s.face) };
 
     fn poll(&mut self, cx: &mut Context<'_>) -> Poll<Poured>
         requires { CanTurn self.old.tally self.old.desk (T.kept self.old.shelf)
             (T.counts self.old.shelf) (F.seen self.old.face) }
         ensures value { IfReady result
-            (Tells self.old.tally self.old.desk (T.kept self.old.shelf) (T.counts self.old.shelf)
+            (TellsPoured self.old.tally self.old.desk (T.kept self.old.shelf)
+            (T.counts self.old.shelf)
             (F.seen self.old.face)) }
         ensures same { OnPending result ((x : Told)
-            → Tells self.new.tally self.new.desk (T.kept self.new.shelf) (T.counts self.new.shelf)
+            → TellsPoured self.new.tally self.new.desk (T.kept self.new.shelf)
+            (T.counts self.new.shelf)
             (F.seen self.new.face) x
-            → Tells self.old.tally self.old.desk (T.kept self.old.shelf) (T.counts self.old.shelf)
+            → TellsPoured self.old.tally self.old.desk (T.kept self.old.shelf)
+            (T.counts self.old.shelf)
             (F.seen self.old.face) x) }
         ensures again { OnPending result (CanTurn self.new.tally self.new.desk
             (T.kept self.new.shelf) (T.counts self.new.shelf) (F.seen self.new.face)) }
@@ -425,7 +432,7 @@ impl<F: AppFace + Drop, T: Shelf + Drop> Future for ToShelf<F, T> {
             → PollPours first losses self.new.tally self.new.desk (T.kept self.new.shelf)
             (T.counts self.new.shelf)
             (F.seen self.new.face) result }
-        ensures does { PollDoes (λ look.
+        ensures does { PourPollDoes (λ look.
             F.tells look (app_gist (F.seen self.new.face)) (F.beside self.new.face))
             (pour_stage self.old.tally.due self.old.desk (F.seen self.old.face))
             (pour_stage self.new.tally.due self.new.desk (F.seen self.new.face)) result }

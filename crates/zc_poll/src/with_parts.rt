@@ -1,7 +1,7 @@
 //! What is poured, with the face and the shelf.
 ghost use Rattle.std.specs.Prelude.{◌≡◌, ℕ, true, List, Option, Some, IfSome, IsSomeAnd, MatchOption, ⊤};
 ghost use Rattle.zr_io.specs.Moved.{ShelfCounts};
-ghost use Rattle.zc_poll.specs.{Pouring.{CanTurn, PourStands}, Polls.{IsLastTurn}};
+ghost use Rattle.zc_poll.specs.{Pouring.{CanTurn, PourStands}, Polls.{IsLastPourTurn}};
 
 use crate::to_shelf::{PollTurn, Poured, ToShelf};
 use board_face::AppFace;
@@ -34,7 +34,7 @@ fn take_turn<F: AppFace, T: Shelf>(work: &mut ToShelf<F, T>) -> Option<Poured>
         → MatchOption result
         (PourStands first losses work.new.tally work.new.desk (T.kept work.new.shelf)
         (T.counts work.new.shelf) (F.seen work.new.face))
-        (λ poured. IsLastTurn first losses (T.kept work.new.shelf) (T.counts work.new.shelf)
+        (λ poured. IsLastPourTurn first losses (T.kept work.new.shelf) (T.counts work.new.shelf)
         (F.seen work.old.face).app (F.seen work.new.face) poured) }
     ensures left { IfSome result (λ _. (F.seen work.new.face).left ≡ true) }
     ensures same { (F.seen work.new.face).app ≡ (F.seen work.old.face).app }
@@ -61,7 +61,7 @@ impl<F: AppFace + Drop, T: Shelf + Drop> Future for WithParts<F, T> {
         × ((first : ℕ → Option (List ℕ)) (losses : ShelfCounts)
         → PourStands first losses work.tally work.desk (T.kept work.shelf) (T.counts work.shelf)
         (F.seen work.face)
-        → IsLastTurn first losses (T.kept came.2) (T.counts came.2) (F.seen work.face).app
+        → IsLastPourTurn first losses (T.kept came.2) (T.counts came.2) (F.seen work.face).app
         (F.seen came.1) came.0)) };
 
     fn poll(&mut self, cx: &mut Context<'_>) -> Poll<(Poured, F, T)> {

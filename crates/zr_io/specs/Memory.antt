@@ -49,8 +49,8 @@ abbrev pub room_of : Rack → ℕ → ℕ
 room_of rack flow = if nat_lt flow (length rack.flows) then rack.room else 0
 
 -- the flows with some more bytes of one flow
-abbrev pub flows_with : Rack → ℕ → List ℕ → List (List ℕ)
-flows_with rack flow bytes = slice_set rack.flows flow (kept_of rack flow ++ bytes)
+abbrev pub rack_with : Rack → ℕ → List ℕ → List (List ℕ)
+rack_with rack flow bytes = slice_set rack.flows flow (kept_of rack flow ++ bytes)
 
 -- a reader or a writer of the system: its bytes where it tells them, and how often it failed
 pub record Stream : Type 0 where

@@ -1,6 +1,6 @@
 //! A shelf over memory.
 ghost use Rattle.std.specs.{Prelude.{◌≡◌, ℕ, ◌<◌, ◌+◌, ◌-◌, ◌++◌, ◌≢◌, ◌⊎◌, ◌↔◌, [], Some, length, replicate, nat_lt, slice_index_or, slice_set, IsErr, IsOk, IsSome, IfOk, MatchResult, if◌then◌else◌}, Io.KnownBytes.{Keeps}};
-ghost use Rattle.zr_io.specs.{Moved.{AddsPiece, CountsPiece, HasCause, raised_by}, Memory.{raised, next_entry, front_out, kept_of, room_of, flows_with}, Reserved.{AreReserved, bytes_of}};
+ghost use Rattle.zr_io.specs.{Moved.{AddsPiece, CountsPiece, HasCause, raised_by}, Memory.{raised, next_entry, front_out, kept_of, room_of, rack_with}, Reserved.{AreReserved, bytes_of}};
 
 use crate::calls::{entry_for, raise, receive};
 use crate::traits::{Failed, Shelf};
@@ -94,12 +94,12 @@ impl Shelf for MemShelf {
             ⊎ IsSome (next_entry self.old.fails self.old.calls) }
         ensures after { let calls = raised self.old.calls in MatchResult result
             (λ _. self.new ≡ record self.old {
-              flows = flows_with self.old flow piece.now;
+              flows = rack_with self.old flow piece.now;
               calls = calls;
               appended = raised_by self.old.appended (length piece.now);
             })
             (λ _. self.new ≡ record self.old {
-              flows = flows_with self.old flow
+              flows = rack_with self.old flow
                   (front_out (room_of self.old flow - length (kept_of self.old flow))
                   (next_entry self.old.fails self.old.calls) piece.now);
               calls = calls;

@@ -3,7 +3,8 @@
 use Rattle.std.proofs.Common.{◌≡◌, ℕ, zero, suc, ◌+◌, ◌-◌, ◌^◌, ◌≤◌, List, [], ◌∷◌, ◌++◌, length, nat_lt}
 use Rattle.std.proofs.Common.{if◌then◌else◌, Bool, true, false, Option, Some, None, refl, sym, ap, ◌∙◌, ◌⊎◌, ⊎_elim, inl, inr, arith, add-zero}
 use Rattle.std.proofs.lemmas.Bool.{le-ltb, cond_both, Decides.{nat_tests}}
-use Rattle.zr_kinds.specs.CopyingReceiver.{Placed, missing_within, next_missing, lead, accepts, value_at, brought, first_of, filled, received, values_from, front_of}
+use Rattle.zr_kinds.specs.CopyingReceiver.{Placed, missing_within, next_missing, lead, accepts, value_at, brought, first_of, filled_by_values, received, values_from}
+use Rattle.zr_kinds.specs.CopyingReceiver.{front_of}
 
 -- the placed values are those of the list, and no other
 pub record IsInOrder {A : Type 0} (placed : Placed A) (out : List A) : Type 0 where
@@ -65,7 +66,7 @@ pub first_of-nothing : {A : Type 0} (value : Option A) → first_of value None �
 first_of-nothing None = refl
 first_of-nothing (Some value) = refl
 
-filled-nothing : {A : Type 0} {placed : Placed A} {out : List A} (from : ℕ) → IsInOrder placed out → IsInOrder (filled placed from []) out
+filled-nothing : {A : Type 0} {placed : Placed A} {out : List A} (from : ℕ) → IsInOrder placed out → IsInOrder (filled_by_values placed from []) out
 filled-nothing {placed = placed} {out = out} from in_order = record {
   at = λ p. ap (first_of (placed.at p)) (brought-nothing from p) ∙ first_of-nothing (placed.at p) ∙ in_order.at p;
   top = (let top : length out ≤ placed.top = in_order.top in omega arith);
@@ -75,7 +76,7 @@ filled-nothing {placed = placed} {out = out} from in_order = record {
 pub received-nothing : {A : Type 0} {placed : Placed A} {out : List A} (base s : ℕ) → IsInOrder placed out → IsInOrder (received base placed s []) out
 unfolding received
 received-nothing {A = A} {placed = placed} {out = out} base s in_order =
-    cond_both (accepts base (next_missing placed) s 0) (filled placed (next_missing placed + lead base (next_missing placed) s) []) placed
+    cond_both (accepts base (next_missing placed) s 0) (filled_by_values placed (next_missing placed + lead base (next_missing placed) s) []) placed
     (λ kept. IsInOrder kept out) (λ _. filled-nothing _ in_order) (λ _. in_order)
 
 -- ---- in any order

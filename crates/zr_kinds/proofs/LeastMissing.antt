@@ -1,7 +1,7 @@
 -- The proof that `next_missing` is the least position where none stands: from the top on none ever does.
 use Rattle.std.proofs.Common.{◌≡◌, ℕ, zero, suc, ◌+◌, ◌-◌, ◌^◌, ◌<◌, ◌≤◌, List, [], ◌∷◌, length, nat_lt, Option, Some, None}
 use Rattle.std.proofs.{Common.{IsSome, is_some, refl, sym, ap, ◌∙◌, ⊎_elim, arith, add-zero}, lemmas.Bool.{cond_both, cases_eq, cases_order, both_ways}}
-use Rattle.zr_kinds.specs.CopyingReceiver.{Placed, nothing_placed, missing_within, next_missing, lead, accepts, value_at, brought, filled, received}
+use Rattle.zr_kinds.specs.CopyingReceiver.{Placed, nothing_placed, missing_within, next_missing, lead, accepts, value_at, brought, filled_by_values, received}
 use Rattle.zr_kinds.{specs.ReceiverLaws.{received_in_turn, IsLeastMissing, NextMissingIsLeast}, proofs.InOrder.{cases_Option}}
 
 -- from the top on none stands
@@ -21,7 +21,7 @@ brought-past values from p past =
 pub IsBounded-nothing : {A : Type 0} → IsBounded {A = A} nothing_placed
 IsBounded-nothing = record { past = λ p past. refl }
 
-IsBounded-filled : {A : Type 0} (placed : Placed A) (from : ℕ) (values : List A) → IsBounded placed → IsBounded (filled placed from values)
+IsBounded-filled : {A : Type 0} (placed : Placed A) (from : ℕ) (values : List A) → IsBounded placed → IsBounded (filled_by_values placed from values)
 IsBounded-filled placed from values bounded = record { past = λ p past. rw (bounded.past p (omega arith)) (brought-past values from p (omega arith)) }
 
 pub IsBounded-received : {A : Type 0} (base : ℕ) (placed : Placed A) (s : ℕ) (values : List A) → IsBounded placed
@@ -29,7 +29,7 @@ pub IsBounded-received : {A : Type 0} (base : ℕ) (placed : Placed A) (s : ℕ)
 unfolding received
 IsBounded-received base placed s values bounded =
     let from : ℕ = next_missing placed + lead base (next_missing placed) s in
-    cond_both (accepts base (next_missing placed) s (length values)) (filled placed from values) placed IsBounded
+    cond_both (accepts base (next_missing placed) s (length values)) (filled_by_values placed from values) placed IsBounded
     (λ _. IsBounded-filled placed from values bounded) (λ _. bounded)
 
 pub IsBounded-in_turn : {A : Type 0} (base : ℕ) (placed : Placed A) (pieces : List (ℕ × List A)) → IsBounded placed

@@ -1,8 +1,8 @@
 -- The copying receiver looks at no value: if each value is mapped, what it has is mapped.
 use Rattle.std.proofs.Common.{◌≡◌, ℕ, zero, suc, ◌+◌, ◌-◌, ◌^◌, List, [], ◌∷◌, length, map, Bool, true, false, nat_lt}
 use Rattle.std.proofs.{Common.{if◌then◌else◌, Option, Some, None, is_some, option_map, refl, sym, ap, ◌∙◌, ⊎_elim}, lemmas.List.{length-map}}
-use Rattle.zr_kinds.specs.CopyingReceiver.{Placed, nothing_placed, next_missing, lead, accepts, value_at, brought, first_of, filled, received, values_from, front_of}
-use Rattle.zr_kinds.{specs.ReceiverLaws.{received_in_turn, mapped_pieces, IsMapped, LooksAtNoValue}, proofs.InOrder.{cases_Option}}
+use Rattle.zr_kinds.specs.CopyingReceiver.{Placed, nothing_placed, next_missing, lead, accepts, value_at, brought, first_of, filled_by_values, received, values_from}
+use Rattle.zr_kinds.{specs.{CopyingReceiver.{front_of}, ReceiverLaws.{received_in_turn, mapped_pieces, IsMapped, LooksAtNoValue}}, proofs.InOrder.{cases_Option}}
 use Rattle.zr_kinds.proofs.LeastMissing.{IsBounded, IsBounded-nothing, IsBounded-received, next_missing-least, same_least}
 
 module _ {A B : Type 0} (f : A → B) where
@@ -40,14 +40,14 @@ module _ {A B : Type 0} (f : A → B) where
       (λ p. sym (ap is_some (is.at p) ∙ is_some-map (placed.at p))))
 
   filled-at : (placed : Placed A) (mapped : Placed B) (from : ℕ) (values : List A) → MapsPlaced placed mapped → (p : ℕ)
-      → (filled mapped from (map f values)).at p ≡ option_map f ((filled placed from values).at p)
+      → (filled_by_values mapped from (map f values)).at p ≡ option_map f ((filled_by_values placed from values).at p)
   filled-at placed mapped from values is p =
       ap (λ value. first_of value (brought (map f values) from p)) (is.at p) ∙ ap (first_of (option_map f (placed.at p))) (brought-map values from p)
       ∙ first_of-map (placed.at p) (brought values from p)
 
   received_if : (is_in into : Bool) (placed : Placed A) (mapped : Placed B) (from : ℕ) (values : List A) → into ≡ is_in → MapsPlaced placed mapped
-      → (p : ℕ) → (if into then filled mapped from (map f values) else mapped).at p
-      ≡ option_map f ((if is_in then filled placed from values else placed).at p)
+      → (p : ℕ) → (if into then filled_by_values mapped from (map f values) else mapped).at p
+      ≡ option_map f ((if is_in then filled_by_values placed from values else placed).at p)
   received_if true into placed mapped from values same is p = rw same (filled-at placed mapped from values is p)
   received_if false into placed mapped from values same is p = rw same (is.at p)
 

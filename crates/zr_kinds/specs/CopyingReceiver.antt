@@ -46,8 +46,8 @@ abbrev pub first_of : {A : Type 0} → Option A → Option A → Option A
 first_of None later = later
 first_of (Some value) later = Some value
 
-abbrev pub filled : {A : Type 0} → Placed A → ℕ → List A → Placed A
-filled placed from values = record {
+abbrev pub filled_by_values : {A : Type 0} → Placed A → ℕ → List A → Placed A
+filled_by_values placed from values = record {
   at = λ position. first_of (placed.at position) (brought values from position);
   top = max placed.top
       (from + length values - 2 ^ 31);
@@ -57,7 +57,7 @@ filled placed from values = record {
 unfoldable pub received : {A : Type 0} → ℕ → Placed A → ℕ → List A → Placed A
 received base placed s values =
     if accepts base (next_missing placed) s (length values)
-    then filled placed (next_missing placed + lead base (next_missing placed) s) values
+    then filled_by_values placed (next_missing placed + lead base (next_missing placed) s) values
     else placed
 
 -- What stands after a part of a frame was received: the frame has `total` values from the sequence number s on, and the
@@ -65,7 +65,7 @@ received base placed s values =
 unfoldable pub received_part : {A : Type 0} → ℕ → Placed A → ℕ → ℕ → ℕ → List A → Placed A
 received_part base placed s total at values =
     if accepts base (next_missing placed) s total
-    then filled placed (next_missing placed + lead base (next_missing placed) s + at) values
+    then filled_by_values placed (next_missing placed + lead base (next_missing placed) s + at) values
     else placed
 
 -- the values from a position on, so many of them, up to the first that is missing

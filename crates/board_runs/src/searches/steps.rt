@@ -1,6 +1,6 @@
 ghost use Rattle.std.specs.Prelude.{◌≡◌, ◌<◌, [], ◌∷◌, false, IsSome, IsTrue};
 ghost use Rattle.board_face.specs.{AppCalls.{IsHere}, NicCalls.{IsOpen, HasNoToken, apps_of}};
-ghost use Rattle.board_runs.specs.Played.{IsIdle};
+ghost use Rattle.board_runs.specs.Played.{IsIdleApp};
 
 use board_face::{AppFace, NicFace, Own, Polled};
 use page_pool::{Pool, SearchEnd, find_fresh, nic_drain};
@@ -136,8 +136,8 @@ fn send_piece<F: NicFace>(face: &mut F, own: &mut Own, app: u32) -> bool
 
 /// Makes a step of an application. `false` where it can't be made.
 pub fn app_step<F: AppFace>(face: &mut F, step: Step) -> bool
-    requires { IsIdle (F.seen face.old) }
-    ensures idle { IsTrue result → IsIdle (F.seen face.new) }
+    requires { IsIdleApp (F.seen face.old) }
+    ensures idle { IsTrue result → IsIdleApp (F.seen face.new) }
     ensures beside { F.beside face.new ≡ F.beside face.old }
 {
     match step {
@@ -157,8 +157,8 @@ pub fn app_step<F: AppFace>(face: &mut F, step: Step) -> bool
 /// Takes a note and gives its piece back, behind an entry that names no buffer if `stray`. `false` where there is no note
 /// or no room, or where such an entry is still on its way.
 fn give_piece<F: AppFace>(face: &mut F, stray: bool) -> bool
-    requires { IsIdle (F.seen face.old) }
-    ensures idle { IsTrue result → IsIdle (F.seen face.new) }
+    requires { IsIdleApp (F.seen face.old) }
+    ensures idle { IsTrue result → IsIdleApp (F.seen face.new) }
     ensures beside { F.beside face.new ≡ F.beside face.old }
 {
     if !face.settle() {

@@ -1,4 +1,4 @@
-ghost use Rattle.event_log.specs.{ScrubLaw.{ScrubbedLaw}, StepLaw.{StepLaw}};
+ghost use Rattle.event_log.specs.{ScrubLaw.{ScrubEventLaw}, StepLaw.{StepLaw}};
 
 /// Whatever step a board made, the log tells of the board behind it, once it has the step's events.
 pub fn steps()
@@ -7,5 +7,5 @@ pub fn steps()
 
 /// All that an application owed was taken back: a `Scrub` for each buffer in which it had a user count.
 pub fn scrubbed()
-    ensures { ScrubbedLaw }
+    ensures { ScrubEventLaw }
 {}

@@ -1,5 +1,5 @@
 ghost use Rattle.std.specs.Prelude.{◌≡◌, ◌+◌, ◌<◌, ◌≤◌, ◌^◌, length, IfOk, OnOk};
-ghost use Rattle.zr_kinds.specs.CopyingReceiver.{lead, next_missing, filled, received, front_of, nothing_placed};
+ghost use Rattle.zr_kinds.specs.CopyingReceiver.{lead, next_missing, filled_by_values, received, front_of, nothing_placed};
 
 use std::alloc::{AllocError, Global};
 
@@ -80,7 +80,7 @@ impl PlainPlaced {
     fn fill(&mut self, from: u64, values: &[u8]) -> Result<(), AllocError>
         requires { from + length values.now ≤ 2 ^ 62 + 2 ^ 31 }
         ensures { OnOk result (placed_shown self.new
-            ≡ filled (placed_shown self.old) from values.now) }
+            ≡ filled_by_values (placed_shown self.old) from values.now) }
     {
         for (i, byte) in values.iter().enumerate() {
             let place = from + i as u64;

@@ -1,5 +1,5 @@
 ghost use Rattle.std.specs.Prelude.{◌≡◌, ◌+◌, ◌^◌, ◌<◌, true, slice_index, Contains};
-ghost use Rattle.area_layout.specs.Layout.{total};
+ghost use Rattle.area_layout.specs.Layout.{all_buffers};
 ghost use Rattle.board_face.specs.{AppCalls.{IsHere, HasHeld, HasNoneIn, MaySpare}, AppEvents.{cut}, Sides.{app_at}, Steps.{HasSearched, side_released, side_spare_begun, side_owes_lowered}};
 ghost use Rattle.word_board.specs.AtHand.{IsReserve};
 
@@ -12,7 +12,7 @@ use zr_kinds::Place;
 /// An application holds a buffer that it picked from the free list as a spare: its pool count is raised from 0. Nothing of the
 /// application's lay there.
 pub(crate) fn take_picked(app: &mut AppStepper, buffer: u32)
-    requires within { buffer < total app.old.board.setting.layout }
+    requires within { buffer < all_buffers app.old.board.setting.layout }
     requires here { IsHere app.old.side.view }
     requires in_hand { Contains app.old.side.inside.hands buffer }
     requires due { MaySpare app.old.side.view }
@@ -43,7 +43,7 @@ pub(crate) fn take_reserve(app: &mut AppStepper, reserve: u32)
 /// An application cuts a held piece in two behind its first `at` bytes: the pool count is raised. No
 /// piece ends behind what an offset can name.
 pub(crate) fn cut_piece(app: &mut AppStepper, place: Place, at: u32)
-    requires within { place.buffer < total app.old.board.setting.layout }
+    requires within { place.buffer < all_buffers app.old.board.setting.layout }
     requires out { HasHeld app.old.side.view place }
     requires front { 0 < at }
     requires rest { at < place.len }
@@ -59,7 +59,7 @@ pub(crate) fn cut_piece(app: &mut AppStepper, place: Place, at: u32)
 
 /// An application gives a held piece up. It answers whether no holder of the buffer is left.
 pub(crate) fn release_held(app: &mut AppStepper, place: Place) -> bool
-    requires within { place.buffer < total app.old.board.setting.layout }
+    requires within { place.buffer < all_buffers app.old.board.setting.layout }
     requires out { HasHeld app.old.side.view place }
     ensures { app.new ≡ record app.old { side = side_released app.old.side place result } }
 {
@@ -71,7 +71,7 @@ pub(crate) fn release_held(app: &mut AppStepper, place: Place) -> bool
 /// What a scrub took of a buffer's user count, `n` references, is taken from its pool count. It answers whether no holder is
 /// left.
 pub(crate) fn lower_scrubbed(app: &mut AppStepper, buffer: u32, n: u64) -> bool
-    requires within { buffer < total app.old.board.setting.layout }
+    requires within { buffer < all_buffers app.old.board.setting.layout }
     requires owes { slice_index app.old.side.inside.scrub_owes buffer ≡ n }
     requires some { 0 < n }
     ensures { app.new ≡ record app.old { side = side_owes_lowered app.old.side buffer result } }

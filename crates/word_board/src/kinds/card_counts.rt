@@ -1,5 +1,5 @@
 ghost use Rattle.std.specs.Prelude.{◌≡◌, ◌+◌, ◌<◌, [], ◌∷◌, ◌++◌, Some};
-ghost use Rattle.area_layout.specs.Layout.{total};
+ghost use Rattle.area_layout.specs.Layout.{all_buffers};
 ghost use Rattle.board_face.specs.{NicCalls.{IsOpen, HasOwn, HasNothingIn}, NicEvents.{took}, Sides.{nic_at}, Steps.{side_shut, side_both_lowered}, declared.views.nic.Judged.TheVariants.{UserLowered}};
 
 use crate::stepper::CardStepper;
@@ -11,7 +11,7 @@ use zr_kinds::Rqe;
 
 /// The card takes the buffer that entered its cache last: its pool count is raised from 0. Nothing of the card's lay there.
 pub(crate) fn take_buffer(card: &mut CardStepper, buffer: u32)
-    requires within { buffer < total card.old.board.setting.layout }
+    requires within { buffer < all_buffers card.old.board.setting.layout }
     requires running { IsOpen card.old.side.view }
     requires last { card.old.side.view.cache
         ≡ (took card.old.side.view buffer).cache ++ buffer ∷ [] }
@@ -27,7 +27,7 @@ pub(crate) fn take_buffer(card: &mut CardStepper, buffer: u32)
 
 /// The card gives its own reference up. It answers whether no holder is left.
 pub(crate) fn shut_own(card: &mut CardStepper, own: Filling) -> bool
-    requires within { own.buffer < total card.old.board.setting.layout }
+    requires within { own.buffer < all_buffers card.old.board.setting.layout }
     requires out { HasOwn card.old.side.view own }
     ensures { card.new ≡ record card.old { side = side_shut card.old.side own result } }
 {
@@ -39,7 +39,7 @@ pub(crate) fn shut_own(card: &mut CardStepper, own: Filling) -> bool
 /// The pool count is lowered for the entry in hand, whose user count was lowered before. It answers whether no holder is
 /// left.
 pub(crate) fn lower_returned(card: &mut CardStepper, app: u32, entry: Rqe, buffer: u32) -> bool
-    requires within { buffer < total card.old.board.setting.layout }
+    requires within { buffer < all_buffers card.old.board.setting.layout }
     requires in_hand { card.old.side.inside.entry
         ≡ Some (record { app = app; entry = entry; judged = UserLowered buffer }) }
     ensures { card.new ≡ record card.old {

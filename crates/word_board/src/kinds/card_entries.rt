@@ -1,7 +1,7 @@
 ghost use Rattle.std.specs.Prelude.{◌≡◌, ◌+◌, ◌<◌, [], ◌∷◌, ◌++◌, true, false, None, length, IfNone};
 ghost use Rattle.area_layout.specs.Layout.{judged};
 ghost use Rattle.board_face.specs.{NicCalls.{apps_of}, SlotSteps.{next_slot, side_entry_looked, side_entry_loaded, side_in_hand, side_dealt}, declared.views.nic.{Fate.TheVariants.{Honoured, Stray}, Judged.TheVariants.{Not, Stray as judged_stray, BothLowered}}, NicEvents.{nic_gist}};
-ghost use Rattle.word_rings.specs.Slots.{refill_width, entry_of};
+ghost use Rattle.word_rings.specs.Slots.{refill_width, entry_of_words};
 ghost use Rattle.ref_words.specs.{Rings.{refill_words_at}};
 ghost use Rattle.word_board.specs.{AtHand.{HasEntry, TakesEntryAt}, Board.{side_entry_taken}, Told.{SawRingEmpty}};
 
@@ -50,7 +50,8 @@ pub(crate) fn load_last(card: &mut CardStepper, app: u32, slot: u32, at: u32) ->
     requires idle { card.old.side.inside.entry ≡ None }
     ensures { card.new ≡ record card.old {
       side = side_in_hand card.old.side app result
-          (entry_of (1 ∷ (next_slot card.old.side.inside.refill_slots app).words ++ result ∷ []));
+          (entry_of_words (1 ∷ (next_slot card.old.side.inside.refill_slots app).words ++ result
+          ∷ []));
     } }
 {
     laws::card_keeps_the_rule();

@@ -1,5 +1,5 @@
 ghost use Rattle.std.specs.Prelude.{◌≡◌, ◌<◌, [], ◌∷◌, true, length, nat_lt, if◌then◌else◌};
-ghost use Rattle.area_layout.specs.Layout.{total, pool_buffers};
+ghost use Rattle.area_layout.specs.Layout.{all_buffers, pool_buffers};
 ghost use Rattle.board_face.specs.{AppCalls.{HasHeld}, AppEvents.{released}, NicCalls.{HasOwn}, NicEvents.{cache_room, shut, gave_up}, Sides.{nic_at, app_at}, SlotSteps.{side_dealt}, declared.views.nic.{Fate.TheVariants.{Honoured}, Judged.TheVariants.{Owed}}};
 ghost use Rattle.word_board.specs.AtHand.{AppIsBare, CardIsBare, HasEntry};
 
@@ -46,7 +46,7 @@ pub(crate) fn list_last_by_app(app: &mut AppStepper, buffer: u32, in_hand: bool)
 /// `room`, and listed else. It answers whether no holder is left.
 pub(crate) fn shut_buffer(card: &mut CardStepper, own: Filling, pool: u32, room: bool) -> bool
     requires bare { CardIsBare card.old }
-    requires within { own.buffer < total card.old.board.setting.layout }
+    requires within { own.buffer < all_buffers card.old.board.setting.layout }
     requires out { HasOwn card.old.side.view own }
     requires pool { pool ≡ pool_buffers card.old.board.setting.layout }
     requires room { room ≡ nat_lt (length card.old.side.view.cache) cache_room }
@@ -78,7 +78,7 @@ pub(crate) fn honour_entry(
 ) -> bool
     requires bare { CardIsBare card.old }
     requires entry { HasEntry card.old loaded.app loaded.slot loaded.entry (Owed buffer) }
-    requires within { buffer < total card.old.board.setting.layout }
+    requires within { buffer < all_buffers card.old.board.setting.layout }
     requires pool { pool ≡ pool_buffers card.old.board.setting.layout }
     requires room { room ≡ nat_lt (length card.old.side.view.cache) cache_room }
     ensures { card.new ≡ record card.old {
@@ -96,7 +96,7 @@ pub(crate) fn honour_entry(
 /// An application gives a held piece up. A pool buffer that comes to be free by that is listed.
 pub(crate) fn release_piece(app: &mut AppStepper, place: Place, pool: u32)
     requires bare { AppIsBare app.old }
-    requires within { place.buffer < total app.old.board.setting.layout }
+    requires within { place.buffer < all_buffers app.old.board.setting.layout }
     requires out { HasHeld app.old.side.view place }
     requires pool { pool ≡ pool_buffers app.old.board.setting.layout }
     ensures { app.new ≡ record app.old {

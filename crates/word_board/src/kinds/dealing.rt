@@ -1,5 +1,5 @@
 ghost use Rattle.std.specs.Prelude.{◌≡◌, ◌<◌, None, Some, ◌≢◌};
-ghost use Rattle.area_layout.specs.Layout.{total, pool_buffers, judged};
+ghost use Rattle.area_layout.specs.Layout.{all_buffers, pool_buffers, judged};
 ghost use Rattle.board_face.specs.{declared.{views.nic.Judged.TheVariants.{Not}, answers.Entry.TheVariants.{Empty as got_none}}, NicEvents.{nic_gist}};
 ghost use Rattle.word_board.specs.{AtHand.{CardIsBare, DealtEntry, HasEntry, TakesEntryAt}, Told.{SawRingEmpty}};
 
@@ -21,7 +21,7 @@ fn deal_with(
 ) -> Entry
     requires bare { CardIsBare card.old }
     requires entry { HasEntry card.old loaded.app loaded.slot loaded.entry Not }
-    requires within { buffer < total card.old.board.setting.layout }
+    requires within { buffer < all_buffers card.old.board.setting.layout }
     requires names { judged card.old.board.setting.layout loaded.entry ≡ Some buffer }
     requires pool { pool ≡ pool_buffers card.old.board.setting.layout }
     requires cache { cache.old.items ≡ card.old.side.view.cache }

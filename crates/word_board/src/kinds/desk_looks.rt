@@ -1,7 +1,7 @@
 //! Loads by which the desk learns what the rule says of the roles that are back.
 ghost use Rattle.std.specs.Prelude.{◌≡◌, ℕ, ◌<◌, ◌≤◌, if◌then◌else◌, nat_eq, count_by, length};
 ghost use Rattle.area_layout.specs.Layout.{pool_buffers};
-ghost use Rattle.word_board.specs.{Board.{card_of}, Desk.{AreOfBoard, AreOver, AreServed, AllAreBack, HasNoHolders}, Lines.{IsSameSeat}};
+ghost use Rattle.word_board.specs.{Board.{card_of_seat}, Desk.{AreOfBoard, AreOver, AreServed, AllAreBack, HasNoHolders}, Lines.{IsSameSeat}};
 
 use crate::kinds::WORD_BITS;
 use crate::rule::{SharedWords, WordSeat};
@@ -32,7 +32,7 @@ pub(crate) fn look_unheld(words: &SharedWords, desk: &mut WordSeat)
     ensures same { IsSameSeat desk.old desk.new }
     ensures holders { HasNoHolders desk.old.me.0 }
     ensures reserves { (b : ℕ) → pool_buffers words.now.map.layout ≤ b
-        → count_by (nat_eq b) (card_of desk.old.me.0).view.cache ≡ 0 }
+        → count_by (nat_eq b) (card_of_seat desk.old.me.0).view.cache ≡ 0 }
     ensures served { AreServed desk.old.me.0 }
 {
     laws::what_is_over();
@@ -48,7 +48,7 @@ pub(crate) fn look_listed(words: &SharedWords, desk: &mut WordSeat, buffer: u32)
     requires all { AllAreBack words.now.map desk.old.me.0 }
     requires of_pool { buffer < pool_buffers words.now.map.layout }
     ensures same { IsSameSeat desk.old desk.new }
-    ensures listed { count_by (nat_eq buffer) (card_of desk.old.me.0).view.cache
+    ensures listed { count_by (nat_eq buffer) (card_of_seat desk.old.me.0).view.cache
         ≡ (if result then 0 else 1) }
 {
     laws::what_is_over();

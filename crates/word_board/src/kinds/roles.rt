@@ -1,6 +1,6 @@
 ghost use Rattle.std.specs.Prelude.{◌≡◌, ◌+◌, ◌<◌, []};
 ghost use Rattle.board_face.specs.{NicCalls.{apps_of}, Opened.{new_nic, new_app}};
-ghost use Rattle.ref_words.specs.{Seated.{times_in, card_view, app_view, due_view, dealt_out, both_sides}, declared.view.View.{View}};
+ghost use Rattle.ref_words.specs.{Seated.{times_in, card_seat_view, app_seat_view, due_view, dealt_out, both_sides}, declared.view.View.{View}};
 
 use crate::rule::{SharedWords, Together, WordSeat};
 use crate::steps::{Op, deal_as, step_as};
@@ -43,7 +43,7 @@ pub(crate) fn take_card_role(words: &SharedWords, seat: &mut WordSeat)
     requires table { seat.old.table_id ≡ words.now.table.shared.table_id }
     requires due { seat.old.me ≡ (due_view 0, []) }
     ensures table { seat.new.table_id ≡ seat.old.table_id }
-    ensures me { seat.new.me ≡ (card_view (new_nic words.now.map), []) }
+    ensures me { seat.new.me ≡ (card_seat_view (new_nic words.now.map), []) }
 {
     laws::role_is_taken();
     let word = words.map.role(0);
@@ -57,7 +57,7 @@ pub(crate) fn take_app_role(words: &SharedWords, seat: &mut WordSeat, app: u32)
     requires app { app < apps_of words.now.map }
     requires due { seat.old.me ≡ (due_view (1 + app), []) }
     ensures table { seat.new.table_id ≡ seat.old.table_id }
-    ensures me { seat.new.me ≡ (app_view (new_app words.now.map app), []) }
+    ensures me { seat.new.me ≡ (app_seat_view (new_app words.now.map app), []) }
 {
     laws::role_is_taken();
     let word = words.map.role(1 + app as usize);

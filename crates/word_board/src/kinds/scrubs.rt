@@ -1,5 +1,5 @@
 ghost use Rattle.std.specs.Prelude.{◌≡◌, ◌<◌, slice_index};
-ghost use Rattle.area_layout.specs.Layout.{total, pool_buffers};
+ghost use Rattle.area_layout.specs.Layout.{all_buffers, pool_buffers};
 ghost use Rattle.board_face.specs.NicCalls.{apps_of};
 ghost use Rattle.ref_words.specs.Sides.{HasScrubLists};
 ghost use Rattle.word_board.specs.{AtHand.{AppIsBare, BeginsScrub, ScrubsAt}, Board.{ScrubbedOne, ScrubbedAll}};
@@ -29,7 +29,7 @@ pub(crate) fn scrub_one(app: &mut AppStepper, buffer: u32, pool: u32)
 pub(crate) fn scrub_counts(app: &mut AppStepper, buffers: u32, pool: u32)
     requires few { app.old.side.view.app < apps_of app.old.board.setting }
     requires bare { AppIsBare app.old }
-    requires all { buffers ≡ total app.old.board.setting.layout }
+    requires all { buffers ≡ all_buffers app.old.board.setting.layout }
     requires pool { pool ≡ pool_buffers app.old.board.setting.layout }
     requires begins { BeginsScrub app.old }
     ensures board { app.new.board ≡ app.old.board }

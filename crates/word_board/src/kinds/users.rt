@@ -1,5 +1,5 @@
 ghost use Rattle.std.specs.Prelude.{◌≡◌, ◌+◌, ◌^◌, ◌<◌, Some};
-ghost use Rattle.area_layout.specs.Layout.{total, judged};
+ghost use Rattle.area_layout.specs.Layout.{all_buffers, judged};
 ghost use Rattle.board_face.specs.{NicCalls.{apps_of}, AppCalls.{HasHeld, HasSpare, IsFilled, CanLend}, AppEvents.{lent, lent_own}, Returns.{loans_out}, Sides.{app_at}, Steps.{side_judged, side_user_lowered, side_user_taken}, declared.views.nic.Judged.TheVariants.{Not, Owed}};
 ghost use Rattle.word_board.specs.AtHand.{ScrubsAt};
 
@@ -13,7 +13,7 @@ use zr_kinds::{Place, Rqe};
 /// An application lends a held piece: its user count for the buffer is raised, and the piece's reference is the loan's.
 /// No count of loans is large.
 pub(crate) fn lend_held(app: &mut AppStepper, place: Place)
-    requires within { place.buffer < total app.old.board.setting.layout }
+    requires within { place.buffer < all_buffers app.old.board.setting.layout }
     requires out { HasHeld app.old.side.view place }
     requires can { CanLend app.old.side.view }
     requires unbegun { app.old.side.inside.scrub_mark ≡ 0 }
@@ -29,7 +29,7 @@ pub(crate) fn lend_held(app: &mut AppStepper, place: Place)
 
 /// An application lends a spare that it filled: its user count for the buffer is raised. No count of loans is large.
 pub(crate) fn lend_spare(app: &mut AppStepper, own: Filling)
-    requires within { own.buffer < total app.old.board.setting.layout }
+    requires within { own.buffer < all_buffers app.old.board.setting.layout }
     requires out { HasSpare app.old.side.view own }
     requires filled { IsFilled app.old.side.view own }
     requires can { CanLend app.old.side.view }
@@ -48,7 +48,7 @@ pub(crate) fn lend_spare(app: &mut AppStepper, own: Filling)
 /// entry is a stray.
 pub(crate) fn look_user(card: &mut CardStepper, app: u32, entry: Rqe, buffer: u32) -> bool
     requires app { app < apps_of card.old.board.setting }
-    requires within { buffer < total card.old.board.setting.layout }
+    requires within { buffer < all_buffers card.old.board.setting.layout }
     requires names { judged card.old.board.setting.layout entry ≡ Some buffer }
     requires in_hand { card.old.side.inside.entry
         ≡ Some (record { app = app; entry = entry; judged = Not }) }
@@ -64,7 +64,7 @@ pub(crate) fn look_user(card: &mut CardStepper, app: u32, entry: Rqe, buffer: u3
 /// The user count is lowered for the entry in hand, for which it was seen above 0.
 pub(crate) fn lower_user(card: &mut CardStepper, app: u32, entry: Rqe, buffer: u32)
     requires app { app < apps_of card.old.board.setting }
-    requires within { buffer < total card.old.board.setting.layout }
+    requires within { buffer < all_buffers card.old.board.setting.layout }
     requires in_hand { card.old.side.inside.entry
         ≡ Some (record { app = app; entry = entry; judged = Owed buffer }) }
     ensures { card.new ≡ record card.old {

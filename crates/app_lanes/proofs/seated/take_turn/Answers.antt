@@ -1,6 +1,6 @@
 -- A turn of an application goes on with its part of the run.
 use Rattle.std.proofs.Common.{◌≡◌, ◌≢◌, true, false, ◌∙◌, subst}
-use Rattle.app_worker.specs.{Turns.{Answers}, declared.turn.Turn.TheVariants.{Finished}}
+use Rattle.app_worker.specs.{Turns.{AnswersTurn}, declared.turn.Turn.TheVariants.{Finished}}
 use Rattle.run_account.{specs.{declared.run.Worker.{Worker}, Behind.{behind}}, proofs.Workers.{goes-on}}
 use Rattle.app_lanes.proofs.seated.take_turn.Goals.{in-Finished, in_default}
 use Rattle.app_lanes.proofs.seated.take_turn.Goals as goal
@@ -26,7 +26,7 @@ returns g c =
       | in_default w ↦ w.in_default.not-Finished same
     ] in
     let finished = λ (left : w_now.left ≡ true). subst
-    (λ turn. Answers own.worker.state w_now.state old new (g.T.Shelf.counts shelf).faults (g.T.Shelf.counts shelf_now).faults turn) (is_left left) turns.answer in
+    (λ turn. AnswersTurn own.worker.state w_now.state old new (g.T.Shelf.counts shelf).faults (g.T.Shelf.counts shelf_now).faults turn) (is_left left) turns.answer in
     record {
       goes = record {
         board = step.beside;

@@ -2,7 +2,7 @@
 use Rattle.std.{proofs.{Common.{rules, ◌≡◌, ◌++◌, ◌∷◌, [], map, Option, Some, sym, ap, subst, arith, ◌∙◌}, lemmas.List.{append-nil, map-append}}, specs.Prelude.{true, reverse, IfSome}}
 use Rattle.std.proofs.lemmas.List.Elements.{All-pop}
 use Rattle.word_board.specs.Board.{TheApp, TheDesk}
-use Rattle.app_lanes.{specs.Seated.{end_of, is_gone, left_end, seat_of, shelf_of}, proofs.Reversed.{given-one}}
+use Rattle.app_lanes.{specs.Seated.{end_of_seated, is_gone, left_end, seat_of, shelf_of}, proofs.Reversed.{given-one}}
 use Rattle.app_lanes.proofs.seating.close_lanes.Goals as goal
 
 -- what holds of the one that was popped
@@ -30,7 +30,8 @@ loop-lane-preserved g c =
       shelves_kept = c.push_reserved-in-Some.ensures.capacity ∙ was.shelves_kept;
       apps = given-one (λ l. (seat_of l.seated).side) c.loop-lane.desk.view.apps c.back.new.desk.view.apps _ lanes left lane split
           (ap (λ (d : TheDesk). d.view.apps) back.desk ∙ ap (λ (s : TheApp). c.loop-lane.desk.view.apps ++ s.side ∷ []) c.rise-seat.ensures.seat) was.apps;
-      ends = given-one (λ l. end_of l.seated) (map left_end c.loop-lane.lefts.items) (map left_end c.push_reserved.new.self.items) _ lanes left lane split
+      ends = given-one (λ l. end_of_seated l.seated) (map left_end c.loop-lane.lefts.items) (map left_end c.push_reserved.new.self.items) _ lanes left
+          lane split
           (ap (map left_end) c.push_reserved.ensures.items ∙ (map-append left_end c.loop-lane.lefts.items (c.rise-seat.result.2 ∷ [])
           ∙ ap (λ e. map left_end c.loop-lane.lefts.items ++ e ∷ []) c.rise-seat.ensures.end)) was.ends;
       shelves = given-one (λ l. shelf_of l.seated) c.loop-lane.shelves.items c.push_reserved-in-Some.new.self.items _ lanes left lane split

@@ -1,7 +1,7 @@
 -- The lanes that are left, and what came of the others.
 use Rattle.std.specs.Prelude.{◌≡◌, ◌+◌, ◌≤◌, ◌++◌, map, reverse, true, All, vec_len, vec_capacity}
 use Rattle.word_board.specs.Desk.{AreOfBoard, AreServed}
-use Rattle.app_lanes.specs.{Lanes.{AreAtBoard}, Seated.{end_of, is_gone, left_end, seat_of, shelf_of}}
+use Rattle.app_lanes.specs.{Lanes.{AreAtBoard}, Seated.{end_of_seated, is_gone, left_end, seat_of, shelf_of}}
 use Rattle.app_lanes.proofs.seating.close_lanes.Given as goal
 
 abbrev pub invariant-loop-lane : goal.invariant-loop-lane
@@ -17,7 +17,8 @@ invariant-loop-lane g l = record {
   shelves_room : vec_len l.shelves + vec_len l.lanes ≤ vec_capacity l.shelves;
   shelves_kept : vec_capacity l.shelves ≡ vec_capacity l.fn.shelves;
   apps : l.desk.view.apps ++ map (λ lane. (seat_of lane.seated).side) (reverse l.lanes.items) ≡ map (λ lane. (seat_of lane.seated).side) (reverse l.fn.lanes.items);
-  ends : map left_end l.lefts.items ++ map (λ lane. end_of lane.seated) (reverse l.lanes.items) ≡ map (λ lane. end_of lane.seated) (reverse l.fn.lanes.items);
+  ends : map left_end l.lefts.items ++ map (λ lane. end_of_seated lane.seated) (reverse l.lanes.items)
+      ≡ map (λ lane. end_of_seated lane.seated) (reverse l.fn.lanes.items);
   shelves : l.shelves.items ++ map (λ lane. shelf_of lane.seated) (reverse l.lanes.items) ≡ map (λ lane. shelf_of lane.seated) (reverse l.fn.lanes.items);
 }
 

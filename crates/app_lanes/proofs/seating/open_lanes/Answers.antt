@@ -1,7 +1,7 @@
 -- One lane more: its application begins.
 use Rattle.std.{proofs.{Common.{rules, ◌≡◌, suc, ◌++◌, ◌∷◌, [], sym, ap, ◌∙◌, subst, arith}, lemmas.List.Elements.{All-push}}, specs.Prelude.{All, reverse, vec_len}}
 use Rattle.board_face.specs.Opened.{new_app}
-use Rattle.app_lanes.{specs.{declared.lane.Lane.{Lane}, Lanes.{AreAtOpening}, Seated.{Begins, shelf_of}}, proofs.Reversed.{reverse-last, taken-one}}
+use Rattle.app_lanes.{specs.{declared.lane.Lane.{Lane}, Lanes.{AreAtOpening}, Seated.{BeginsLane, shelf_of}}, proofs.Reversed.{reverse-last, taken-one}}
 use Rattle.app_lanes.proofs.Starts.{first-starts, last-start}
 use Rattle.app_lanes.proofs.seating.open_lanes.Goals as goal
 
@@ -32,8 +32,8 @@ loop-start-preserved g c =
       begin = λ plan starts.
           let so_far = was.begin plan starts in (
             first-starts plan c.loop-start.starts.items left c.in-Some.start split so_far.0,
-            subst (All (λ (lane : Lane _). Begins kept losses plan lane.seated)) (sym c.push_reserved.ensures.items)
-                (All-push (λ (lane : Lane _). Begins kept losses plan lane.seated) c.loop-start.lanes.items _ so_far.1
+            subst (All (λ (lane : Lane _). BeginsLane kept losses plan lane.seated)) (sym c.push_reserved.ensures.items)
+                (All-push (λ (lane : Lane _). BeginsLane kept losses plan lane.seated) c.loop-start.lanes.items _ so_far.1
                 (c.sit.ensures.begins plan (last-start plan c.loop-start.starts.items left c.in-Some.start split so_far.0 _
                 (omega (arith, c.len-app.ensures, c.pop.new.self.ok))))),
           );

@@ -3,7 +3,7 @@ use Rattle.std.specs.Prelude.{◌≡◌, ℕ, ◌+◌, ◌<◌, ◌≤◌, ◌++
 use Rattle.board_face.specs.NicCalls.{apps_of}
 use Rattle.word_board.specs.Board.{was_given}
 use Rattle.card_feed.specs.declared.plan.Plan.{Plan}
-use Rattle.app_lanes.{specs.{Lanes.{AreAtOpening}, Seated.{AreStarts, Begins, shelf_of}}, proofs.Starts.{AreStartsSoFar}}
+use Rattle.app_lanes.{specs.{Lanes.{AreAtOpening}, Seated.{AreStarts, BeginsLane, shelf_of}}, proofs.Starts.{AreStartsSoFar}}
 use Rattle.app_lanes.proofs.seating.open_lanes.Given as goal
 
 abbrev pub invariant-loop-start : goal.invariant-loop-start
@@ -18,7 +18,7 @@ invariant-loop-start g l = record {
   shelves_room : vec_capacity l.shelves ≡ vec_capacity l.fn.shelves;
   lanes : AreAtOpening l.board (vec_len l.starts) (reverse l.lanes.items);
   begin : (plan : Plan) → AreStarts plan l.fn.starts.items → AreStartsSoFar plan l.starts.items
-      × All (λ lane. Begins g.T.Shelf.kept g.T.Shelf.counts plan lane.seated) l.lanes.items;
+      × All (λ lane. BeginsLane g.T.Shelf.kept g.T.Shelf.counts plan lane.seated) l.lanes.items;
   kept : l.shelves.items ++ map (λ lane. shelf_of lane.seated) (reverse l.lanes.items) ≡ l.fn.shelves.items;
 }
 

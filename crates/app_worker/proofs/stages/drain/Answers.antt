@@ -1,6 +1,6 @@
 use Rattle.std.proofs.Common.{rules, ◌≡◌, ◌≢◌, ℕ, ◌<◌, ◌≤◌, true, false, List, [], Option, length, refl, sym, ap, ◌∙◌, arith, ⊎_elim, ◌⊎◌, inl, inr}
 use Rattle.std.{specs.Prelude.{if◌then◌else◌}, proofs.lemmas.{Bool.{cases_Bool}, List.{nil_from_length}}}
-use Rattle.app_worker.{specs.{State.{State}, StateOf.{state_of}, Whole.{ReadOne}, Stages.{kept_of}}, proofs.{Pushing.{back-did}, Moving.{looks-trans, rose-after}}}
+use Rattle.app_worker.{specs.{State.{State}, StateOf.{state_of}, Whole.{ReadOne}, Stages.{kept_unread}}, proofs.{Pushing.{back-did}, Moving.{looks-trans, rose-after}}}
 use Rattle.app_worker.proofs.Through.{write-stopped, write-later, read-did, through-none, through-then, through-read, through-gave, through-in-use}
 use Rattle.app_worker.proofs.{Quitting.{has-quit, quit-later}, stages.drain.Goals.{After-give_back}}
 use Rattle.zr_io.specs.Moved.{raised_by}
@@ -122,7 +122,7 @@ off-too a b d e off same before read some = ⊎_elim
     (read off)
 
 more-than-kept : (a b : State) (keep least : ℕ) → (a.ended ≡ false → a.how.hold ≤ keep) → b.how ≡ a.how → b.ended ≡ a.ended
-    → least ≡ kept_of keep a
+    → least ≡ kept_unread keep a
     → (b.flush ≡ false → (a.flush ≡ false) ⊎ (b.unread ≡ [])) → least < length b.unread
     → b.ended ≡ false → b.flush ≡ false → b.how.hold < length b.unread
 more-than-kept a b keep least hold how ended is before more notes off = ⊎_elim
@@ -172,7 +172,7 @@ loop-face-preserved g c =
     )
 
 -- all that was to be read was
-done-flush : (least keep : ℕ) (was now : State) → least ≡ kept_of keep was → length now.unread ≤ least
+done-flush : (least keep : ℕ) (was now : State) → least ≡ kept_unread keep was → length now.unread ≤ least
     → (now.flush ≡ true → (was.flush ≡ true) × (now.unread ≢ [])) → now.flush ≡ false
 done-flush least keep was now is few flushes = ⊎_elim
     (λ (on : now.flush ≡ true).

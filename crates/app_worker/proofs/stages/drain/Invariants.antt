@@ -1,6 +1,6 @@
 -- Some were read and given back, or nothing happened yet.
 use Rattle.std.specs.Prelude.{◌⊎◌, ◌≡◌, ◌≢◌, ◌<◌, ◌≤◌, true, false, None, [], length}
-use Rattle.app_worker.specs.{State.{app_steps}, StateOf.{state_of}, Moves.{CountsOn}, Stages.{Through, Untouched, kept_of}}
+use Rattle.app_worker.specs.{State.{app_steps}, StateOf.{state_of}, Moves.{CountsOn}, Stages.{Through, Untouched, kept_unread}}
 use Rattle.app_worker.proofs.stages.drain.Given as goal
 
 abbrev pub invariant-loop-face : goal.invariant-loop-face
@@ -12,7 +12,7 @@ invariant-loop-face g l =
     (g.T.Shelf.kept l.shelf))
     × ((g.T.Shelf.counts l.shelf).faults ≡ (g.T.Shelf.counts l.fn.shelf).faults)
     × (g.F.AppFace.beside l.face ≡ g.F.AppFace.beside l.fn.face)
-    × (l.least ≡ kept_of l.fn.keep (state_of l.fn.st))
+    × (l.least ≡ kept_unread l.fn.keep (state_of l.fn.st))
     × (l.did ≡ true → l.least ≤ length l.st.unread.items)
     × (l.st.flush ≡ true → (l.fn.st.flush ≡ true) × (l.did ≡ true → l.st.unread.items ≢ []))
     × (l.st.flush ≡ false → (l.fn.st.flush ≡ false) ⊎ (l.st.unread.items ≡ []))

@@ -1,7 +1,7 @@
 -- What a turn makes, by what the turn of the stack says and what stands of an application after any turn.
 use Rattle.std.proofs.Common.{rules, subst}
 use Rattle.board_face.specs.declared.views.app.AppView.{AppView}
-use Rattle.app_worker.specs.{State.{State}, StateOf.{state_of}, Turns.{Answers}, declared.turn.Turn.TheVariants.{Finished}}
+use Rattle.app_worker.specs.{State.{State}, StateOf.{state_of}, Turns.{AnswersTurn}, declared.turn.Turn.TheVariants.{Finished}}
 use Rattle.app_worker.proofs.{StreamLemmas.{stands-fronts, stands-failed, stands-all, stands-within}, TurnLemmas.{turns-keep}, FlowBytes.{stands-counted}}
 use Rattle.app_worker.proofs.{Counts.{copies-few, copies-within, loans-few, written-within}, ReadMarks.{given-read}}
 use Rattle.app_worker.proofs.state.app_turn.Goals as goal
@@ -24,7 +24,7 @@ returns-clause-makes g c =
         failed = λ first whole shelved. stands-failed first kept e w stands whole shelved;
         counted = λ first shelved. stands-counted first kept e w stands shelved;
         whole = λ first is going whole shelved.
-            let answer : Answers a e u w faults faults_now Finished = subst (Answers a e u w faults faults_now) is turns.answer in
+            let answer : AnswersTurn a e u w faults faults_now Finished = subst (AnswersTurn a e u w faults faults_now) is turns.answer in
             stands-all first kept e w stands answer.2 going whole shelved;
       };
       right = record {

@@ -1,6 +1,6 @@
 -- This buffer has its turn: what was counted is taken back, and it is listed where it came to be free by that.
 use Rattle.std.proofs.{Common.{◌≡◌, ◌-◌, ◌<◌, length, get_or, refl, ◌∙◌, arith}, lemmas.{List.{get_or_read, get_or-set_same}, Bool.{lt-ltb, le-ltb}, Nat.{mul-add-lt}}}
-use Rattle.area_layout.specs.Layout.{total}
+use Rattle.area_layout.specs.Layout.{all_buffers}
 use Rattle.board_parts.{specs.Counts.{user_at, came_back}, proofs.{TakingBack.{IsTakenBelow-more}, scrubbing.take_back.Goals.{then-owed-gt0, else-owed-gt0}}}
 use Rattle.board_parts.proofs.scrubbing.take_back.Goals as goal
 
@@ -12,8 +12,9 @@ loop-buffer-preserved c =
     let users = c.loop-buffer.users.items in
     let pool = c.loop-buffer.pool.items in
     let at = user_at layout c.args.app n in
-    let place : n < total layout = omega arith in
-    let user_there : at < length users = let row = mul-add-lt c.args.app (total layout) n layout.reserves c.requires.app place in omega (arith, h.users_len) in
+    let place : n < all_buffers layout = omega arith in
+    let user_there : at < length users = let row = mul-add-lt c.args.app (all_buffers layout) n layout.reserves c.requires.app place in omega
+    (arith, h.users_len) in
     let count_there : n < length pool = omega (arith, h.pool_len) in
     let owed : c.index-owed.result.now ≡ get_or users at 0 = get_or_read users at c.index-owed.result.now user_there
     (rw c.user_index-user.ensures at c.index-owed.ensures) 0 in
@@ -38,8 +39,9 @@ overflow_sub-index_mut c =
     let users = c.loop-buffer.users.items in
     let pool = c.loop-buffer.pool.items in
     let at = user_at layout c.args.app n in
-    let place : n < total layout = omega arith in
-    let user_there : at < length users = let row = mul-add-lt c.args.app (total layout) n layout.reserves c.requires.app place in omega (arith, h.users_len) in
+    let place : n < all_buffers layout = omega arith in
+    let user_there : at < length users = let row = mul-add-lt c.args.app (all_buffers layout) n layout.reserves c.requires.app place in omega
+    (arith, h.users_len) in
     let count_there : n < length pool = omega (arith, h.pool_len) in
     let owed : c.index-owed.result.now ≡ get_or users at 0 = get_or_read users at c.index-owed.result.now user_there
     (rw c.user_index-user.ensures at c.index-owed.ensures) 0 in

@@ -1,5 +1,5 @@
 use Rattle.std.{proofs.{Common.{◌≡◌, suc, ap, ◌∙◌, subst, ◌++◌, add-one, arith}, lemmas.Result.{err_from_is_err_and}}, specs.Io.KnownBytes.{Appends}}
-use Rattle.cap_make.{specs.GeneratedCapture.{file_header, records_of, drawn, drawn_after}, proofs.Records.{header_breaks, record_breaks, record_goes}}
+use Rattle.cap_make.{specs.GeneratedCapture.{file_header, generated_records, drawn, drawn_after}, proofs.Records.{header_breaks, record_breaks, record_goes}}
 use Rattle.cap_make.proofs.generator.make.Goals as goal
 
 pub returns-in_err-write_all-clause-bytes : goal.returns-in_err-write_all-clause-bytes
@@ -28,4 +28,4 @@ loop-k-preserved g c =
 pub returns-clause-bytes : goal.returns-clause-bytes
 returns-clause-bytes g c =
     let all : c.loop-k.k ≡ c.args.frames = omega arith in
-    subst (λ k. Appends (g.O.Sink.sent c.args.out.now) (g.O.Sink.sent c.loop-k.out) (file_header ++ records_of c.args.seed k)) all c.loop-k.invariant.2
+    subst (λ k. Appends (g.O.Sink.sent c.args.out.now) (g.O.Sink.sent c.loop-k.out) (file_header ++ generated_records c.args.seed k)) all c.loop-k.invariant.2

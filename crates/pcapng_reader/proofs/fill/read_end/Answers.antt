@@ -3,11 +3,11 @@ use Rattle.std.proofs.{Common.{◌≡◌, ℕ, ◌+◌, ◌<◌, List, ◌++◌,
 use Rattle.std.proofs.lemmas.List.{drop_at}
 use Rattle.zr_kinds.specs.declared.fault.Fault.{Fault, TheVariants.{Read, Cut}}
 use Rattle.zr_io.proofs.Moved.{Took-consumed, Took-then}
-use Rattle.pcap_reader.specs.{declared.order.ByteOrder.{ByteOrder}, Records.{number}, Steps.{BreaksOff}}
+use Rattle.pcap_reader.specs.{declared.order.ByteOrder.{ByteOrder}, Records.{number}, Steps.{StepBreaksOff}}
 use Rattle.pcapng_reader.{specs.Steps.{TakesEnd}, proofs.BlockSteps.{breaks-then, breaks-weaker}}
 use Rattle.pcapng_reader.proofs.fill.read_end.Goals as goal
 
-end_broken : (order : ByteOrder) (total count : ℕ) (a b : Option (List ℕ)) (fault : Fault) → BreaksOff a b (λ xs. length xs < count + 4) fault
+end_broken : (order : ByteOrder) (total count : ℕ) (a b : Option (List ℕ)) (fault : Fault) → StepBreaksOff a b (λ xs. length xs < count + 4) fault
     → TakesEnd order total count a b (Err fault)
 end_broken order total count a b Read broke = broke
 end_broken order total count a b Cut broke = broke

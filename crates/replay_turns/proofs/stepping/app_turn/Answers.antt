@@ -2,7 +2,7 @@
 use Rattle.std.{proofs.Common.{◌≡◌, ◌≢◌, ◌<◌, Bool, true, false, not, length, get_or, inl, inr, refl, sym, ap, ◌∙◌, subst, arith}, specs.Prelude.{MatchBool}}
 use Rattle.std.{proofs.lemmas.{List.{length-set}, Option.{slice_get_read, slice_get-get_or}}, specs.Vec.{with_item}}
 use Rattle.plain_board.specs.Board.{side_of}
-use Rattle.app_worker.specs.{Turns.{Answers}, declared.turn.Turn.TheVariants.{Finished}}
+use Rattle.app_worker.specs.{Turns.{AnswersTurn}, declared.turn.Turn.TheVariants.{Finished}}
 use Rattle.replay_turns.specs.{Rounds.{DidNothing}, Running.{RunFits}, Steps.{run_steps}, declared.role.Role.TheVariants.{App}}
 use Rattle.replay_turns.proofs.{Answering.{gone-idle, app-idles, app-rises}, Rising.{turns-rise}, Turns.{app-fits, app-runs}, Unread.{plays-none}}
 use Rattle.replay_turns.proofs.stepping.app_turn.Goals.{in-Finished, in_default, in-Idle, in_default-matches}
@@ -76,7 +76,8 @@ returns g c =
     let says : Bool → Type 0 = λ did. MatchBool did (run_steps board c.args.run.now < run_steps board_now run_now)
     (DidNothing (App c.args.app) board board_now c.args.run.now run_now) in
     let finished = λ (left : w_now.left ≡ true). subst
-    (λ turn. Answers w_was.state w_now.state old new (g.T.Shelf.counts shelf).faults (g.T.Shelf.counts shelf_now).faults turn) (is_left left) turns.answer in
+    (λ turn. AnswersTurn w_was.state w_now.state old new (g.T.Shelf.counts shelf).faults (g.T.Shelf.counts shelf_now).faults turn) (is_left left)
+    turns.answer in
     record {
       plays = λ source. record {
         plays = record {

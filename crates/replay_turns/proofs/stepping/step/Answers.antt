@@ -1,7 +1,7 @@
 -- A turn of the card, or of an application.
 use Rattle.std.{proofs.Common.{◌<◌, ◌≤◌, refl, sym, subst}, specs.Prelude.{MatchBool}}
 use Rattle.zr_kinds.specs.Limits.{most_records}
-use Rattle.replay_turns.{specs.{Following.{Moves}, Rounds.{DidNothing}, Running.{PlaysBy, moment_at}, Steps.{run_steps}}, proofs.{Answering.{card-answers}, Following.{either}}}
+use Rattle.replay_turns.{specs.{Following.{RoleMoves}, Rounds.{DidNothing}, Running.{PlaysBy, moment_at}, Steps.{run_steps}}, proofs.{Answering.{card-answers}, Following.{either}}}
 use Rattle.replay_turns.proofs.Turns.{card-fits, card-runs}
 use Rattle.run_account.specs.{Views.{ends_at, streams}, declared.run.Run.{Run}}
 use Rattle.replay_turns.proofs.stepping.step.Goals as goal
@@ -10,7 +10,7 @@ pub returns-in-App : goal.returns-in-App
 returns-in-App g c = record {
   plays =
       let m = streams g.S.Source.left g.S.Source.faults g.T.Shelf.kept g.T.Shelf.counts in
-      subst (λ role. PlaysBy (Moves role) (moment_at m c.args.source.now c.args.shelves.now c.args.board c.args.run.now)
+      subst (λ role. PlaysBy (RoleMoves role) (moment_at m c.args.source.now c.args.shelves.now c.args.board c.args.run.now)
       (moment_at m c.args.source.now c.app_turn.new.shelves c.app_turn.result.0 c.app_turn.new.run)) (sym c.in-App.is)
       (c.app_turn.ensures.plays c.args.source.now);
   answer = subst (λ role. MatchBool c.app_turn.result.1 (run_steps c.args.board c.args.run.now < run_steps c.app_turn.result.0 c.app_turn.new.run)
@@ -36,7 +36,7 @@ returns-in-Card g c =
               (step.turns first.source plan.ports.items plan.options.split runs.frames runs.feed)
               (subst (λ n. n ≤ most_records) c.records.ensures.count c.records.ensures.most);
         };
-        by = subst (λ role. Moves role (moment_at m c.args.source.now c.args.shelves.now c.args.board c.args.run.now)
+        by = subst (λ role. RoleMoves role (moment_at m c.args.source.now c.args.shelves.now c.args.board c.args.run.now)
             (moment_at m c.card_step-turn.new.source c.args.shelves.now c.card_step-turn.result.0 run_now)) (sym c.in-Card.is)
             (record {
               turns = step.turns;

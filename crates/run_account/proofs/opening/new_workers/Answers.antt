@@ -1,6 +1,6 @@
 -- One more application, which has taken no turn.
 use Rattle.std.{proofs.Common.{◌≡◌, length, Some, None, sym, ap, ◌∙◌, subst, arith}, specs.List.{slice_get}}
-use Rattle.run_account.{specs.{Running.{IsNew}, declared.run.Worker.{Worker}}, proofs.Places.{here, there, in-push, length-push}}
+use Rattle.run_account.{specs.{Running.{IsNewWorker}, declared.run.Worker.{Worker}}, proofs.Places.{here, there, in-push, length-push}}
 use Rattle.run_account.proofs.opening.new_workers.Goals as goal
 
 pub loop-app-init : goal.loop-app-init
@@ -18,7 +18,7 @@ loop-app-preserved c =
     record {
       many = let longer = ap length c.in_ok-push.ensures.items in let l = length-push c.loop-app.workers.items new in omega (arith, longer, l, at);
       each = λ a w is. elim (in-push c.loop-app.workers.items new a w (ap (λ items. slice_get items a) (sym c.in_ok-push.ensures.items) ∙ is)) [
-        | here last same ↦ subst (λ x. IsNew c.args.plan.now a x) (sym same) (subst (λ n. IsNew c.args.plan.now n new) (sym (last ∙ at))
+        | here last same ↦ subst (λ x. IsNewWorker c.args.plan.now a x) (sym same) (subst (λ n. IsNewWorker c.args.plan.now n new) (sym (last ∙ at))
             c.in_ok-worker.ensures)
         | there other is_there ↦ c.loop-app.invariant.each a w is_there
       ];

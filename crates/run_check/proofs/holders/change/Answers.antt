@@ -1,5 +1,5 @@
 use Rattle.std.proofs.Common.{◌≡◌, ◌∙◌, ap, arith, refl}
-use Rattle.run_records.specs.EventFields.{bytes_of}
+use Rattle.run_records.specs.EventFields.{bytes_of_event}
 use Rattle.run_check.proofs.Events.{bytes_near}
 use Rattle.run_check.proofs.holders.change.Goals as goal
 
@@ -23,7 +23,7 @@ cut-requires-clause-fits c =
 
 pub returns-in-Place : goal.returns-in-Place
 returns-in-Place c =
-    let bytes : c.bytes-offset.result ≡ (c.in-Place.offset, c.in-Place.len) = c.bytes-offset.ensures ∙ ap bytes_of c.in-Place.is in
+    let bytes : c.bytes-offset.result ≡ (c.in-Place.offset, c.in-Place.len) = c.bytes-offset.ensures ∙ ap bytes_of_event c.in-Place.is in
     let offset : c.bytes-offset.result.0 ≡ c.in-Place.offset = ap (λ b. b.0) bytes in
     let len : c.bytes-offset.result.1 ≡ c.in-Place.len = ap (λ b. b.1) bytes in
     rw (c.in-Place.is, ← offset, ← len) c.place.ensures

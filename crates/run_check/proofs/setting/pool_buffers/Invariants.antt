@@ -1,9 +1,9 @@
 use Rattle.std.proofs.Common.{◌≡◌, ◌≤◌, ◌*◌, take}
-use Rattle.run_records.specs.Setting.{pool_buffers}
+use Rattle.run_records.specs.Setting.{buffers_of_areas}
 use Rattle.run_check.proofs.setting.pool_buffers.Given as goal
 
 abbrev pub invariant-loop-area : goal.invariant-loop-area
 invariant-loop-area l = record {
-  sum : l.total ≡ pool_buffers (take l.area-index l.areas);
+  sum : l.total ≡ buffers_of_areas (take l.area-index l.areas);
   most : l.total ≤ 4096 * l.area-index;
 }

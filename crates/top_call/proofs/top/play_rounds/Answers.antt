@@ -1,14 +1,14 @@
 -- The board of the run is in the card, and its log tells of it.
 use Rattle.std.proofs.Common.{rules, refl}
 use Rattle.run_account.specs.Views.{ends_at, streams}
-use Rattle.plain_board.{specs.{Board.{stand_of}, Finish.{IsOver}}, proofs.Ending.{boards-end_well}}
+use Rattle.plain_board.{specs.{Board.{stand_of}, Finish.{IsBoardOver}}, proofs.Ending.{boards-end_well}}
 use Rattle.top_call.proofs.{Alone.{lacks-alone}, Recording.{board-records}}
 use Rattle.top_call.proofs.top.play_rounds.Goals as goal
 
 pub returns-clause-plays : goal.returns-clause-plays
 returns-clause-plays g c =
     let ran = c.in_ok-outcome.ensures.ran in
-    let over : IsOver (stand_of c.in_ok-outcome.plain) = record { card = ran.ran.over.card; apps = ran.ran.over.left } in
+    let over : IsBoardOver (stand_of c.in_ok-outcome.plain) = record { card = ran.ran.over.card; apps = ran.ran.over.left } in
     record {
       ran = record {
         at = c.run_rounds.new.source;

@@ -1,6 +1,6 @@
 -- The board of the run is in the card, and its log tells of it.
 use Rattle.std.proofs.Common.{rules, refl}
-use Rattle.plain_board.{specs.{Board.{stand_of}, Finish.{IsOver}}, proofs.Ending.{boards-end_well}}
+use Rattle.plain_board.{specs.{Board.{stand_of}, Finish.{IsBoardOver}}, proofs.Ending.{boards-end_well}}
 use Rattle.top_call.proofs.Recording.{board-records}
 use Rattle.top_call.proofs.top.play_turns.Goals as goal
 
@@ -8,7 +8,7 @@ pub returns-clause-plays : goal.returns-clause-plays
 returns-clause-plays g c =
     let by_text = c.in_ok-outcome.ensures.ran in
     let ran = by_text.alone in
-    let over : IsOver (stand_of c.in_ok-outcome.board) = record { card = ran.ran.over.card; apps = ran.ran.over.left } in
+    let over : IsBoardOver (stand_of c.in_ok-outcome.board) = record { card = ran.ran.over.card; apps = ran.ran.over.left } in
     record {
       ran = record {
         at = c.run_turns.new.source;

@@ -1,6 +1,6 @@
 -- What is left of a word's buffers is fewer than 64, so the cache has room for them.
 use Rattle.std.proofs.Common.{length, ap, arith, length-append}
-use Rattle.ref_words.{specs.FreeSteps.{found_in}, proofs.Found.{found-few}}
+use Rattle.ref_words.{specs.FreeSteps.{all_listed_in}, proofs.Found.{found-few}}
 use Rattle.word_board.proofs.found.cache_found.Goals as goal
 
 pub push-requires : goal.push-requires
@@ -16,8 +16,8 @@ push-requires c =
         one,
         few,
         both,
-        length-append c.loop-buffer.cache.items (found_in word left),
-        length-append c.args.cache.now.items (found_in word c.args.found),
+        length-append c.loop-buffer.cache.items (all_listed_in word left),
+        length-append c.args.cache.now.items (all_listed_in word c.args.found),
         c.requires.room,
       ),
     )

@@ -1,7 +1,7 @@
 use Rattle.std.{proofs.Common.{◌≡◌, ⊎_elim, ℕ, suc, ◌-◌, ◌*◌, ◌%◌, ◌^◌, ◌<◌, ◌≤◌, ◌∷◌, ap, ◌∙◌, arith, subst}, specs.Prelude.{bit_and}}
 use Rattle.std.{specs.Int.{bit_at, bit_not, w64, leading_zeros}, proofs.lemmas.Nat.{leading_top}}
 use Rattle.std.proofs.lemmas.{Nat.Bits.{bit_at_and, bit_at_above, bit_at_clear_same, bit_at_clear_other}, Bool.{cases_lt, Decides.{eqb_tells}}}
-use Rattle.ref_words.{specs.FreeSteps.{found_in}, proofs.Found.{found-first}}
+use Rattle.ref_words.{specs.FreeSteps.{all_listed_in}, proofs.Found.{found-first}}
 use Rattle.word_board.proofs.found.highest_listed.Goals as goal
 
 -- the bits of a number that is cut by its highest one
@@ -31,4 +31,4 @@ returns c =
     let small : k < 64 = omega arith in
     let to : n < 2 ^ suc k = subst (λ x. n < 2 ^ suc x) same top.3 in
     found-first word (left n k small to) n k small (subst (λ x. 2 ^ x ≤ n) same top.2) to (none-from n k small to) (same-under n k small to)
-    ∙ ap (λ x. x ∷ found_in word (left n k small to)) (omega arith)
+    ∙ ap (λ x. x ∷ all_listed_in word (left n k small to)) (omega arith)

@@ -1,6 +1,6 @@
 use Rattle.std.proofs.{Common.{◌≡◌, ◌*◌, ◌<◌, ◌≤◌, ℕ, List, [], ◌++◌, length, take, drop, replicate, slice_index, ap, ◌∙◌, rules, arith}, lemmas.List.{append-nil}}
 use Rattle.byteorder.specs.Endian.{little_number}
-use Rattle.word_rings.{specs.Slots.{payload_width, payload_bytes, words_of, pair, bytes_of}, proofs.{Words.{words_are, padded_words, text_back}, NoteSlots.{slot_is, note_back, is_slot}}}
+use Rattle.word_rings.{specs.Slots.{payload_width, payload_bytes, words_of, pair, bytes_of_words}, proofs.{Words.{words_are, padded_words, text_back}, NoteSlots.{slot_is, note_back, is_slot}}}
 use Rattle.word_rings.proofs.slots.note_words.Goals as goal
 
 -- the words that were read of the payload
@@ -32,5 +32,5 @@ pub returns-clause-bytes : goal.returns-clause-bytes
 returns-clause-bytes c =
     let linear = c.args.linear.now in
     let few : length linear ≤ payload_bytes = c.requires.few in
-    ap (λ (ws : List ℕ). take (length linear) (bytes_of ws)) (append-nil c.read_u64_into.new.dst ∙ stored c)
+    ap (λ (ws : List ℕ). take (length linear) (bytes_of_words ws)) (append-nil c.read_u64_into.new.dst ∙ stored c)
     ∙ text_back linear payload_bytes payload_width few (omega arith) (search rules)

@@ -1,7 +1,7 @@
 use Rattle.std.{proofs.Common.{rules, inl, inr, false, ◌≡◌, ◌<◌, ◌∙◌, ◌++◌, ◌∷◌, [], ℕ, true, None, Some, nat_eq, refl, sym, ap, subst}, specs.Map.{lookup}}
 use Rattle.zr_kinds.specs.declared.behaviour.Stopped.TheVariants as stop
 use Rattle.board_face.specs.declared.views.app.{LentPiece.{LentPiece}, AppView.{AppView}}
-use Rattle.flow_queues.specs.{Core.{total}, Counting.{TallyState, AddsTo, item_counted}, TallyOf.{tally_of}}
+use Rattle.flow_queues.specs.{Core.{total}, Counting.{TallyState, AddsTo, item_counted}, TallyOf.{tally_state_of}}
 use Rattle.zc_poll.{specs.{Standing.{Desk, StreamStands, stopped_with}, Items.{HasGiven}}, proofs.{ItemPoured.{Roomy, is-roomy}, PourTurns.{only-reads-none}}}
 use Rattle.zc_forward.specs.{declared.{outbox.Outbox.{Outbox as Kept}, sent.Sent.{Sent}}, OutboxOf.{outbox_of}, Sending.{of_sent}, Tags.{Tags}}
 use Rattle.zc_forward.{specs.Forwarding.{ForwardStands}, proofs.{Items.{carries, fails, wants}, Live.{pushed-sum}}}
@@ -9,7 +9,7 @@ use Rattle.zc_forward.proofs.forwarding.forward_item.Goals as goal
 
 pub returns-then-is_err-clause-gives : goal.returns-then-is_err-clause-gives
 returns-then-is_err-clause-gives g c =
-    let roomy : Roomy (item_counted (tally_of c.args.work.now.tally) c.args.lent.copied) (tally_of c.room_for.new.work.tally) =
+    let roomy : Roomy (item_counted (tally_state_of c.args.work.now.tally) c.args.lent.copied) (tally_state_of c.room_for.new.work.tally) =
     is-roomy c.args.work.now.tally c.count_item.new.self c.room_for.new.work.tally c.args.lent.copied c.count_item.ensures.tally c.room_for.ensures.same
     c.room_for.ensures.room in
     let adds : AddsTo c.args.lent.flow 0 c.args.work.now.tally.counts.entries c.room_for.new.work.tally.counts.entries =
@@ -24,7 +24,7 @@ returns-then-is_err-clause-gives g c =
     λ first losses st v before item only.
     wants first (g.C.Carrier.got c.args.carrier.now) losses (g.C.Carrier.counts c.args.carrier.now) (outbox_of c.args.work.now) st c.args.stream.now.desk
     (g.C.Carrier.tags c.args.carrier.now) v (g.F.AppFace.seen c.args.stream.now.face) before c.requires.can.due c.args.lent item only c.requires.can.holds.stands
-    (tally_of c.room_for.new.work.tally) roomy adds (g.F.AppFace.seen c.stop.new.self.face) c.stop.new.self.desk (outbox_of k) c.stop.ensures.view
+    (tally_state_of c.room_for.new.work.tally) roomy adds (g.F.AppFace.seen c.stop.new.self.face) c.stop.new.self.desk (outbox_of k) c.stop.ensures.view
     c.stop.ensures.items c.stop.ensures.stands (ap (λ (d : Desk). d.stopped) c.stop.ensures.stopped) (ap (λ (d : Desk). d.ended) c.stop.ensures.stopped) refl c.room_for.ensures.beside.0 refl c.requires.can.few
 
 pub returns-then-is_err-clause-had : goal.returns-then-is_err-clause-had
@@ -36,8 +36,8 @@ returns-then-is_err-clause-had g c = λ st v pace later item only.
       lent = c.args.lent;
       item = item;
       only = only;
-      tally = record (tally_of c.room_for.new.work.tally) { stopped = stop.Memory };
-      due = ap (λ (t : TallyState). t.due) (ap tally_of c.room_for.ensures.same) ∙ ap (λ (t : TallyState). t.due) c.count_item.ensures.tally;
+      tally = record (tally_state_of c.room_for.new.work.tally) { stopped = stop.Memory };
+      due = ap (λ (t : TallyState). t.due) (ap tally_state_of c.room_for.ensures.same) ∙ ap (λ (t : TallyState). t.due) c.count_item.ensures.tally;
       read = v1;
       reads = only-reads-none v1;
       went = inr (c.stop.ensures.stopped, inl (c.stop.ensures.view, refl, rw (c.room_for.ensures.beside.0, c.room_for.ensures.beside.2) refl, refl));
@@ -57,14 +57,19 @@ returns-then-done-len-clause-had g c = λ st v pace later item only.
       lent = c.args.lent;
       item = item;
       only = only;
-      tally = tally_of c.fail.new.work.tally;
-      due = ap (λ (t : TallyState). t.due) (ap tally_of gone.work.0) ∙ ap (λ (t : TallyState). t.due) (ap tally_of c.count.ensures.same)
-          ∙ ap (λ (t : TallyState). t.due) (ap tally_of c.room_for.ensures.same) ∙ ap (λ (t : TallyState). t.due) c.count_item.ensures.tally;
+      tally = tally_state_of c.fail.new.work.tally;
+      due = ap (λ (t : TallyState). t.due) (ap tally_state_of gone.work.0) ∙ ap (λ (t : TallyState). t.due) (ap tally_state_of c.count.ensures.same)
+          ∙ ap (λ (t : TallyState). t.due) (ap tally_state_of c.room_for.ensures.same) ∙ ap (λ (t : TallyState). t.due) c.count_item.ensures.tally;
       read = g.F.AppFace.seen c.send-done.new.stream.face;
       reads = read.only;
       went = inr (
         subst (λ (d : Desk). c.fail.new.stream.desk ≡ stopped_with d c.fail.new.stream.desk.flows) call.stays.desk gone.stopped,
-        inr (gone.halts.gave_up, gone.carrier.tags, rw (gone.work.1, uncarried, pressed) refl, ap (λ (t : TallyState). t.stopped) (ap tally_of gone.work.0)),
+        inr (
+          gone.halts.gave_up,
+          gone.carrier.tags,
+          rw (gone.work.1, uncarried, pressed) refl,
+          ap (λ (t : TallyState). t.stopped) (ap tally_state_of gone.work.0),
+        ),
       );
     }
 
@@ -83,9 +88,9 @@ returns-else-done-len-clause-had g c = λ st v pace later item only.
       lent = c.args.lent;
       item = item;
       only = only;
-      tally = tally_of c.count.new.self;
-      due = ap (λ (t : TallyState). t.due) (ap tally_of c.count.ensures.same)
-          ∙ ap (λ (t : TallyState). t.due) (ap tally_of c.room_for.ensures.same) ∙ ap (λ (t : TallyState). t.due) c.count_item.ensures.tally;
+      tally = tally_state_of c.count.new.self;
+      due = ap (λ (t : TallyState). t.due) (ap tally_state_of c.count.ensures.same)
+          ∙ ap (λ (t : TallyState). t.due) (ap tally_state_of c.room_for.ensures.same) ∙ ap (λ (t : TallyState). t.due) c.count_item.ensures.tally;
       read = g.F.AppFace.seen c.send-done.new.stream.face;
       reads = read.only;
       went = inl (
@@ -95,8 +100,8 @@ returns-else-done-len-clause-had g c = λ st v pace later item only.
         free,
         call.tags full,
         rw (out, c.room_for.ensures.beside.1, c.room_for.ensures.beside.2) refl,
-        ap (λ (t : TallyState). t.stopped) (ap tally_of c.count.ensures.same)
-            ∙ ap (λ (t : TallyState). t.stopped) (ap tally_of c.room_for.ensures.same) ∙ ap (λ (t : TallyState). t.stopped) c.count_item.ensures.tally,
+        ap (λ (t : TallyState). t.stopped) (ap tally_state_of c.count.ensures.same)
+            ∙ ap (λ (t : TallyState). t.stopped) (ap tally_state_of c.room_for.ensures.same) ∙ ap (λ (t : TallyState). t.stopped) c.count_item.ensures.tally,
       );
     }
 
@@ -115,7 +120,7 @@ fail-requires g c =
 
 pub returns-then-done-len-clause-gives : goal.returns-then-done-len-clause-gives
 returns-then-done-len-clause-gives g c =
-    let roomy : Roomy (item_counted (tally_of c.args.work.now.tally) c.args.lent.copied) (tally_of c.room_for.new.work.tally) =
+    let roomy : Roomy (item_counted (tally_state_of c.args.work.now.tally) c.args.lent.copied) (tally_state_of c.room_for.new.work.tally) =
     is-roomy c.args.work.now.tally c.count_item.new.self c.room_for.new.work.tally c.args.lent.copied c.count_item.ensures.tally c.room_for.ensures.same
     c.room_for.ensures.room in
     let adds : AddsTo c.args.lent.flow 0 c.args.work.now.tally.counts.entries c.room_for.new.work.tally.counts.entries =
@@ -132,12 +137,13 @@ returns-then-done-len-clause-gives g c =
     (g.C.Carrier.counts c.send-done.new.carrier) (g.F.AppFace.seen c.fail.new.stream.face) =
     fails first (g.C.Carrier.got c.args.carrier.now) losses (g.C.Carrier.counts c.args.carrier.now) (outbox_of c.args.work.now) st c.args.stream.now.desk
     (g.C.Carrier.tags c.args.carrier.now) v (g.F.AppFace.seen c.args.stream.now.face) before c.requires.can.due c.args.lent item only c.requires.can.holds.stands
-    (tally_of c.room_for.new.work.tally) roomy adds (g.C.Carrier.got c.send-done.new.carrier) y (tally_of c.count.new.self) c.send-done.result read.only
-    read.counted read.gained read.others (ap tally_of c.count.ensures.same) c.count.ensures.adds c.count.ensures.many (g.C.Carrier.got c.fail.new.carrier)
+    (tally_state_of c.room_for.new.work.tally) roomy adds (g.C.Carrier.got c.send-done.new.carrier) y (tally_state_of c.count.new.self) c.send-done.result
+    read.only
+    read.counted read.gained read.others (ap tally_state_of c.count.ensures.same) c.count.ensures.adds c.count.ensures.many (g.C.Carrier.got c.fail.new.carrier)
     (g.C.Carrier.counts c.send-done.new.carrier) gone.halts.gave_up.0 (g.F.AppFace.seen c.fail.new.stream.face) c.fail.new.stream.desk (outbox_of c.fail.new.work)
     gone.carrier.got gone.halts.gave_up.1 gone.halts.gave_up.3 gone.halts.still.2
     (λ items given. gone.items items (subst (λ (d : Desk). HasGiven items d.flows y.taken) (sym call.stays.desk) given))
-    gone.halts.still.0 (ap (λ (d : Desk). d.stopped) gone.stopped) (ap tally_of gone.work.0) gone.work.1 (gone.work.2 ∙ c.room_for.ensures.beside.1)
+    gone.halts.still.0 (ap (λ (d : Desk). d.stopped) gone.stopped) (ap tally_state_of gone.work.0) gone.work.1 (gone.work.2 ∙ c.room_for.ensures.beside.1)
     (λ ended. (let e : true ≡ false = sym ended ∙ ap (λ (d : Desk). d.ended) gone.stopped ∙ ap (λ (d : Desk). d.ended) call.stays.desk ∙ item.more in absurd (cc)))
     read.later (read.cause part) read.appended in
     subst (λ n. ForwardStands first losses (outbox_of c.fail.new.work) c.fail.new.stream.desk (g.C.Carrier.tags c.fail.new.carrier)
@@ -147,7 +153,7 @@ returns-then-done-len-clause-gives g c =
 
 pub returns-else-done-len-clause-gives : goal.returns-else-done-len-clause-gives
 returns-else-done-len-clause-gives g c =
-    let roomy : Roomy (item_counted (tally_of c.args.work.now.tally) c.args.lent.copied) (tally_of c.room_for.new.work.tally) =
+    let roomy : Roomy (item_counted (tally_state_of c.args.work.now.tally) c.args.lent.copied) (tally_state_of c.room_for.new.work.tally) =
     is-roomy c.args.work.now.tally c.count_item.new.self c.room_for.new.work.tally c.args.lent.copied c.count_item.ensures.tally c.room_for.ensures.same
     c.room_for.ensures.room in
     let adds : AddsTo c.args.lent.flow 0 c.args.work.now.tally.counts.entries c.room_for.new.work.tally.counts.entries =
@@ -173,8 +179,9 @@ returns-else-done-len-clause-gives g c =
     (g.C.Carrier.got c.send-done.new.carrier) (g.C.Carrier.counts c.send-done.new.carrier) y =
     carries first (g.C.Carrier.got c.args.carrier.now) losses (g.C.Carrier.counts c.args.carrier.now) (outbox_of c.args.work.now) st c.args.stream.now.desk
     (g.C.Carrier.tags c.args.carrier.now) v (g.F.AppFace.seen c.args.stream.now.face) before c.requires.can.due c.args.lent item only c.requires.can.holds.stands
-    (tally_of c.room_for.new.work.tally) roomy adds (g.C.Carrier.got c.send-done.new.carrier) y (tally_of c.count.new.self) c.send-done.result read.only
-    read.counted read.gained read.others (ap tally_of c.count.ensures.same) c.count.ensures.adds c.count.ensures.many
+    (tally_state_of c.room_for.new.work.tally) roomy adds (g.C.Carrier.got c.send-done.new.carrier) y (tally_state_of c.count.new.self) c.send-done.result
+    read.only
+    read.counted read.gained read.others (ap tally_state_of c.count.ensures.same) c.count.ensures.adds c.count.ensures.many
     (g.C.Carrier.counts c.send-done.new.carrier) tag (outbox_of k) refl out c.room_for.ensures.beside.1 free c.requires.can.few full
     (subst (λ (d : Desk). StreamStands d y) call.stays.desk call.stays.stands) (read.still full) read.appended in
     subst (λ (ts : Tags). ForwardStands first losses (outbox_of k) c.send-done.new.stream.desk ts (g.C.Carrier.got c.send-done.new.carrier)

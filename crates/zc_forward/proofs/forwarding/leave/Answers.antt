@@ -1,7 +1,7 @@
 use Rattle.std.proofs.Common.{rules, ◌≡◌, ◌∙◌, true, None, Option, refl, sym, ap, subst, inl, inr}
 use Rattle.zr_kinds.specs.declared.place.Place.{Place}
 use Rattle.board_face.specs.declared.views.app.{AppLook.TheVariants.{NotQuiet}, AppView.{AppView}}
-use Rattle.flow_queues.specs.{Ends.{AppEnd, HasLeft}, Returned.{HasReturned}, TallyOf.{tally_of}}
+use Rattle.flow_queues.specs.{Ends.{AppEnd, HasLeft}, Returned.{HasReturned}, TallyOf.{tally_state_of}}
 use Rattle.zc_poll.{specs.{Standing.{Desk}, Pouring.{OnlyDue}, PourTurns.{pour_end}}, proofs.{PourEnds.{left-pours, returned-pours, work_end}, PourTurns.{saw-pours}}}
 use Rattle.zc_forward.specs.{OutboxOf.{outbox_of}, Sending.{tags_of}, Forwarding.{ForwardStands}}
 use Rattle.zc_forward.proofs.{Ends.{ends-pours, may-give-up, waits-forwards}, Scrubs.{quiet-aside}}
@@ -37,7 +37,7 @@ returns-then-not-leave-clause-gives g c = λ first got losses now tags before.
     subst (λ (d : Option Place). ForwardStands first losses (outbox_of (record c.args.work.now { uncarried = d })) c.leave.new.self.desk tags got now
     (g.F.AppFace.seen c.leave.new.self.face)) (sym gone.none)
     (waits-forwards first got losses now (outbox_of (record c.args.work.now { uncarried = None })) c.leave.new.self.desk tags (g.F.AppFace.seen c.leave.new.self.face)
-    (saw-pours first got losses now (tally_of c.args.work.now.tally) c.abandon_kept.new.self.desk c.leave.new.self.desk
+    (saw-pours first got losses now (tally_state_of c.args.work.now.tally) c.abandon_kept.new.self.desk c.leave.new.self.desk
     (g.F.AppFace.seen c.abandon_kept.new.self.face) (g.F.AppFace.seen c.leave.new.self.face) NotQuiet poured saw.1.event saw.0 c.leave.ensures.desk)
     c.requires.none (before.sent ∙ ap tags_of c.requires.none) refl c.requires.due (λ _. before.pressed c.requires.ended))
 
@@ -49,14 +49,14 @@ returns-clause-gives g c = λ first got losses now tags before how.
     c.args.work.now.uncarried refl gone.view in
     let ended : c.abandon_kept.new.self.desk.ended ≡ true = ap (λ (d : Desk). d.ended) gone.stays.desk ∙ c.requires.ended in
     let left : AppEnd = pour_end c.of_tally-poured.result in
-    let same : work_end (tally_of c.args.work.now.tally) ≡ left = search rules in (
+    let same : work_end (tally_state_of c.args.work.now.tally) ≡ left = search rules in (
       λ quit. subst (HasLeft how first got losses now (g.F.AppFace.seen c.leave.new.self.face)) same
-          (subst (λ (v : AppView). HasLeft how first got losses now v (work_end (tally_of c.args.work.now.tally))) (sym c.if-not-leave.ensures.left)
-          (left-pours first got losses now (tally_of c.args.work.now.tally) c.abandon_kept.new.self.desk
+          (subst (λ (v : AppView). HasLeft how first got losses now v (work_end (tally_state_of c.args.work.now.tally))) (sym c.if-not-leave.ensures.left)
+          (left-pours first got losses now (tally_state_of c.args.work.now.tally) c.abandon_kept.new.self.desk
           (g.F.AppFace.seen c.abandon_kept.new.self.face) poured c.requires.due ended how quit)),
       λ leak stray. subst (λ (e : AppEnd). HasReturned how e.stopped e.written (g.F.AppFace.seen c.leave.new.self.face)) same
           (subst (λ (v : AppView). HasReturned how c.args.work.now.tally.stopped c.args.work.now.tally.written v) (sym c.if-not-leave.ensures.left)
-          (returned-pours first got losses now (tally_of c.args.work.now.tally) c.abandon_kept.new.self.desk
+          (returned-pours first got losses now (tally_state_of c.args.work.now.tally) c.abandon_kept.new.self.desk
           (g.F.AppFace.seen c.abandon_kept.new.self.face) poured c.requires.due ended how leak stray)),
     )
 

@@ -1,8 +1,8 @@
 use Rattle.std.proofs.Common.{rules, ◌∙◌, None, Option, refl, sym, ap, subst, inr}
 use Rattle.zr_kinds.specs.declared.place.Place.{Place}
 use Rattle.board_face.specs.declared.views.app.AppView.{AppView}
-use Rattle.zc_poll.{specs.{Standing.{Desk}, Steps.{Scrubs}, Pouring.{OnlyDue}}, proofs.Scrubbing.{scrub-pours, scrubbed-desk, scrubbed-view, scrubs-quiet}}
-use Rattle.flow_queues.specs.TallyOf.{tally_of}
+use Rattle.zc_poll.{specs.{Standing.{Desk}, Steps.{ScrubsOrWaits}, Pouring.{OnlyDue}}, proofs.Scrubbing.{scrub-pours, scrubbed-desk, scrubbed-view, scrubs-quiet}}
+use Rattle.flow_queues.specs.TallyOf.{tally_state_of}
 use Rattle.zc_forward.specs.{OutboxOf.{outbox_of}, Sending.{tags_of}, Forwarding.{ForwardStands}}
 use Rattle.zc_poll.specs.Stops.{without_loan}
 use Rattle.zc_forward.proofs.{Ends.{ends-pours, may-give-up, waits-forwards}, Scrubs.{aside-app, none-out, quiet-aside}}
@@ -42,7 +42,7 @@ returns-clause-gives g c = λ first got losses now tags before.
     before out c.requires.due gone.stays.stands gone.stays.desk c.args.work.now.uncarried refl gone.view in
     subst (λ (d : Option Place). ForwardStands first losses (outbox_of (record c.args.work.now { uncarried = d })) later tags got now new) (sym gone.none)
     (waits-forwards first got losses now (outbox_of (record c.args.work.now { uncarried = None })) later tags new
-    (scrub-pours first got losses now (tally_of c.args.work.now.tally) mid later between new poured
+    (scrub-pours first got losses now (tally_state_of c.args.work.now.tally) mid later between new poured
     (scrubbed-view mid later between new c.scrub.result c.scrub.ensures.scrubs) desk c.scrub.ensures.stands)
     out (before.sent ∙ ap tags_of out) refl c.requires.due
     (λ ended. before.pressed (sym (ap (λ (d : Desk). d.ended) gone.stays.desk) ∙ sym (ap (λ (d : Desk). d.ended) desk) ∙ ended)))
@@ -57,9 +57,9 @@ returns-clause-first g c = λ tags pace.
       out = out;
       work = ap (λ (d : Option Place). outbox_of (record c.args.work.now { uncarried = d })) gone.none;
       done = c.scrub.result;
-      scrubs = subst (λ (d : Desk). Scrubs d c.scrub.new.self.desk (without_loan c.args.work.now.uncarried (g.F.AppFace.seen c.args.stream.now.face))
+      scrubs = subst (λ (d : Desk). ScrubsOrWaits d c.scrub.new.self.desk (without_loan c.args.work.now.uncarried (g.F.AppFace.seen c.args.stream.now.face))
           (g.F.AppFace.seen c.scrub.new.self.face) c.scrub.result) gone.stays.desk
-          (subst (λ (v : AppView). Scrubs c.abandon_kept.new.self.desk c.scrub.new.self.desk v (g.F.AppFace.seen c.scrub.new.self.face) c.scrub.result)
+          (subst (λ (v : AppView). ScrubsOrWaits c.abandon_kept.new.self.desk c.scrub.new.self.desk v (g.F.AppFace.seen c.scrub.new.self.face) c.scrub.result)
           gone.view c.scrub.ensures.scrubs);
       tags = refl;
       pace = refl;

@@ -1,7 +1,7 @@
 use Rattle.std.proofs.Common.{◌≡◌, ◌∙◌, true, false, refl, sym}
 use Rattle.zr_kinds.specs.declared.behaviour.Stopped.TheVariants as stop
 use Rattle.zc_poll.proofs.PourTurns.{same-counts}
-use Rattle.flow_queues.specs.TallyOf.{tally_of}
+use Rattle.flow_queues.specs.TallyOf.{tally_state_of}
 use Rattle.zc_forward.{specs.{declared.outbox.Outbox.{Outbox as Kept}, OutboxOf.{outbox_of}}, proofs.Forwards.{step-forwards, memory-forwards}}
 use Rattle.zc_forward.proofs.forwarding.step_once.Goals as goal
 
@@ -12,7 +12,7 @@ returns-in-Waiting-clause-gives g c =
     λ first losses before.
     step-forwards first (g.C.Carrier.got c.args.carrier.now) losses (g.C.Carrier.counts c.args.carrier.now) (outbox_of c.args.work.now) (outbox_of k)
     c.args.stream.now.desk c.step.new.self.desk (g.C.Carrier.tags c.args.carrier.now) (g.F.AppFace.seen c.args.stream.now.face)
-    (g.F.AppFace.seen c.step.new.self.face) before steps.0 c.step.ensures.stepped.only c.step.ensures.stepped.stands (same-counts (tally_of c.args.work.now.tally)) refl refl refl
+    (g.F.AppFace.seen c.step.new.self.face) before steps.0 c.step.ensures.stepped.only c.step.ensures.stepped.stands (same-counts (tally_state_of c.args.work.now.tally)) refl refl refl
     (λ ended. (let e : true ≡ false = sym ended ∙ steps.3 in absurd (cc))) refl steps.2
 
 pub returns-in-Memory-clause-gives : goal.returns-in-Memory-clause-gives
@@ -33,7 +33,7 @@ returns-in-Ended-clause-gives g c =
     λ first losses before.
     step-forwards first (g.C.Carrier.got c.args.carrier.now) losses (g.C.Carrier.counts c.args.carrier.now) (outbox_of c.args.work.now) (outbox_of k)
     c.args.stream.now.desk c.step.new.self.desk (g.C.Carrier.tags c.args.carrier.now) (g.F.AppFace.seen c.args.stream.now.face)
-    (g.F.AppFace.seen c.step.new.self.face) before steps.0 c.step.ensures.stepped.only c.step.ensures.stepped.stands (same-counts (tally_of c.args.work.now.tally)) refl refl refl
+    (g.F.AppFace.seen c.step.new.self.face) before steps.0 c.step.ensures.stepped.only c.step.ensures.stepped.stands (same-counts (tally_state_of c.args.work.now.tally)) refl refl refl
     (λ _. refl) refl steps.1
 
 pub returns-in-Item-clause-only : goal.returns-in-Item-clause-only

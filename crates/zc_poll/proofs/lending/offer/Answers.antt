@@ -1,7 +1,7 @@
 use Rattle.std.proofs.Common.{rules, sym, ap, subst}
 use Rattle.board_face.specs.declared.views.app.AppView.{AppView}
 use Rattle.flow_queues.specs.{Kept.{QueueState}, KeptOf.{queue_state}}
-use Rattle.zc_poll.{specs.{Standing.{Desk, queues_of}, DeskOf.{desk_of}}, proofs.{FlowsKept.{with_queues, work-of}, Lends.{LentAs, item-is, held-stepped}}}
+use Rattle.zc_poll.{specs.{Standing.{Desk, queues_of_desk}, DeskOf.{desk_of}}, proofs.{FlowsKept.{with_queues, work-of}, Lends.{LentAs, item-is, held-stepped}}}
 use Rattle.zc_poll.proofs.lending.offer.Goals as goal
 use Rattle.zc_poll.proofs.lending.offer.Goals.{in-Lent, in-LentCopy}
 
@@ -24,9 +24,9 @@ returns-clause-offers g c =
     let now : QueueState = queue_state c.lend.new.st in
     let old : AppView = g.F.AppFace.seen c.args.face.now in
     let new : AppView = g.F.AppFace.seen c.lend.new.face in
-    let lends : LentAs (queues_of was) now old new c.match-lend.lending = elim c.match-lend.branch [
-      | in-Lent w ↦ subst (LentAs (queues_of was) now old new) (sym w.lending-is) w.in-Lent.ensures.lends
-      | in-LentCopy w ↦ subst (LentAs (queues_of was) now old new) (sym w.lending-is) w.in-LentCopy.ensures.lends
+    let lends : LentAs (queues_of_desk was) now old new c.match-lend.lending = elim c.match-lend.branch [
+      | in-Lent w ↦ subst (LentAs (queues_of_desk was) now old new) (sym w.lending-is) w.in-Lent.ensures.lends
+      | in-LentCopy w ↦ subst (LentAs (queues_of_desk was) now old new) (sym w.lending-is) w.in-LentCopy.ensures.lends
     ] in (
       item-is was old new c.requires.stands c.requires.more (search rules) now c.match-lend.lending.0 c.match-lend.lending.1 lends c.index_mut-own.result.now
           c.index_mut-own.ensures.value c.item.ensures.sound c.item.result c.item.new.own c.item.ensures.item c.item.ensures.flow,

@@ -1,7 +1,7 @@
 use Rattle.std.proofs.Common.{rules, ap}
 use Rattle.board_face.specs.declared.views.app.AppView.{AppView}
 use Rattle.zc_poll.{specs.Standing.{Desk}, proofs.Scrubbing.{scrub-pours, scrubs-first, scrubbed-desk, scrubbed-view, scrubs-quiet}}
-use Rattle.flow_queues.specs.TallyOf.{tally_of}
+use Rattle.flow_queues.specs.TallyOf.{tally_state_of}
 use Rattle.zc_poll.proofs.to_shelf.scrub_stopped.Goals as goal
 
 pub scrub-requires : goal.scrub-requires
@@ -15,7 +15,7 @@ returns-clause-gives g c = λ first kept losses now before.
     let was : Desk = c.args.stream.now.desk in
     let old : AppView = g.F.AppFace.seen c.args.stream.now.face in
     let new : AppView = g.F.AppFace.seen c.scrub.new.self.face in
-    scrub-pours first kept losses now (tally_of c.args.work.now) was c.scrub.new.self.desk old new before
+    scrub-pours first kept losses now (tally_state_of c.args.work.now) was c.scrub.new.self.desk old new before
     (scrubbed-view was c.scrub.new.self.desk old new c.scrub.result c.scrub.ensures.scrubs)
     (scrubbed-desk was c.scrub.new.self.desk old new c.scrub.result c.scrub.ensures.scrubs) c.scrub.ensures.stands
 

@@ -1,7 +1,7 @@
 -- It has taken no turn.
 use Rattle.std.proofs.Common.{rules, ◌≡◌, None, ap, ◌∙◌, sym, subst}
 use Rattle.board_face.specs.{Opened.{new_app_view}, declared.views.app.AppSide.{AppSide}}
-use Rattle.zc_poll.specs.Fresh.{new_desk}
+use Rattle.zc_poll.specs.Fresh.{new_stream_desk}
 use Rattle.zc_forward.specs.Turns.{Stage}
 use Rattle.run_account.specs.{Behind.{Behind, begins}, Ways.{ForwardTurns, first_stage}}
 use Rattle.app_lanes.{specs.{declared.seated.Turning.{Turning}, Seated.{IsStart, stage_now}}, proofs.Beginnings.{turning-begins}}
@@ -19,7 +19,7 @@ returns-in-Pouring-clause-begins g c = λ plan begun.
     let so : IsStart plan c.args.app start.Pouring = subst (IsStart plan c.args.app) c.in-Pouring.is begun in
     let own = c.new-in-Pouring in
     let due : own.result.tally.due ≡ None = search rules in
-    let desk : own.result.desk ≡ new_desk c.args.app = search rules in
+    let desk : own.result.desk ≡ new_stream_desk c.args.app = search rules in
     let face : own.result.face ≡ c.args.seat = search rules in
     let view : own.result.face.side.view ≡ new_app_view c.args.seat.board.setting c.args.app =
     ap (λ f. f.side.view) face ∙ ap (λ (s : AppSide). s.view) c.requires.new in
@@ -33,7 +33,7 @@ pub returns-in-Forwarding-clause-begins : goal.returns-in-Forwarding-clause-begi
 returns-in-Forwarding-clause-begins g c = λ plan begun.
     let so : IsStart plan c.args.app (start.Forwarding c.in-Forwarding.delay) = subst (IsStart plan c.args.app) c.in-Forwarding.is begun in
     let own = c.new-in-Forwarding-3 in
-    let desk : own.result.desk ≡ new_desk c.args.app = search rules in
+    let desk : own.result.desk ≡ new_stream_desk c.args.app = search rules in
     let face : own.result.face ≡ c.args.seat = search rules in
     let view : own.result.face.side.view ≡ new_app_view c.args.seat.board.setting c.args.app =
     ap (λ f. f.side.view) face ∙ ap (λ (s : AppSide). s.view) c.requires.new in

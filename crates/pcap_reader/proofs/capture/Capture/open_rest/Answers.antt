@@ -3,14 +3,14 @@ use Rattle.std.proofs.{Common.{◌≡◌, ℕ, List, ◌++◌, ◌∙◌, length
 use Rattle.std.specs.Option.{ok_or}
 use Rattle.zr_kinds.specs.declared.fault.Fault.{Fault, TheVariants.{NotPcap}}
 use Rattle.zr_io.proofs.Moved.{Took-weaker}
-use Rattle.pcap_reader.specs.{Records.{ByteOrder, order_of, header_fault, records_of, records_in}, Steps.{IsMagicOf, fault_of_fields, behind_magic_in}}
+use Rattle.pcap_reader.specs.{Records.{ByteOrder, order_of, header_fault, classic_records_of, records_in}, Steps.{IsMagicOf, fault_of_fields, behind_magic_in}}
 use Rattle.pcap_reader.proofs.{HeaderLaws.{records_of-told, header_fault-told, header_fault-other}, Joined.{HeaderStops-nothing, HeaderStops-within, fronts-weaker}}
 use Rattle.pcap_reader.proofs.capture.Capture.open_rest.Goals as goal
 
 opened : (order : ByteOrder) (magic fields : List ℕ) → IsMagicOf order magic
     → ((rest : List ℕ) → behind_magic_in order (fields ++ rest) ≡ records_in order rest)
-    → (rest : List ℕ) → records_of ((magic ++ fields) ++ rest) ≡ records_in order rest
-opened order magic fields is good rest = ap records_of (append_assoc magic fields rest) ∙ records_of-told order magic (fields ++ rest) is ∙ good rest
+    → (rest : List ℕ) → classic_records_of ((magic ++ fields) ++ rest) ≡ records_in order rest
+opened order magic fields is good rest = ap classic_records_of (append_assoc magic fields rest) ∙ records_of-told order magic (fields ++ rest) is ∙ good rest
 
 magic_of : (first : List ℕ) (told : Option ByteOrder) (order : ByteOrder) → length first ≡ 4 → told ≡ order_of first
     → Ok order ≡ ok_or told NotPcap → IsMagicOf order first

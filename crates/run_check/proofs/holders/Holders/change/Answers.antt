@@ -1,6 +1,6 @@
 -- An event out of range, one of no buffer, one whose buffer isn't as it needs, and the others.
 use Rattle.std.proofs.Common.{◌≡◌, ◌<◌, ◌∙◌, sym, ap, refl, subst, Some, length, arith, true, false}
-use Rattle.run_records.specs.Holders.{buffer_of, changed, is_in_range}
+use Rattle.run_records.specs.Holders.{buffer_of_event, changed, is_in_range}
 use Rattle.run_check.specs.{Holding.{Changes, holdings_of}, Unfit.{IsLack}}
 use Rattle.run_check.proofs.{Events.{after_nowhere, buffer_below, held_here, small_app}, Lacking.{counted_right, miscounted}}
 use Rattle.run_check.proofs.holders.Holders.change.Goals as goal
@@ -8,7 +8,7 @@ use Rattle.run_check.proofs.holders.Holders.change.Goals as goal
 pub change-requires-clause-few : goal.change-requires-clause-few
 change-requires-clause-few c =
     let ranged : is_in_range c.args.setting.now c.args.event ≡ true = sym c.is_in_range.ensures.value ∙ c.if-not-is_in_range.false in
-    let at : Some c.in-Some.buffer ≡ buffer_of c.args.event = sym c.in-Some.is ∙ c.buffer_of.ensures in
+    let at : Some c.in-Some.buffer ≡ buffer_of_event c.args.event = sym c.in-Some.is ∙ c.buffer_of.ensures in
     let lt : c.in-Some.buffer < length c.args.self.now.buffers.items =
     omega (arith, c.requires.total, buffer_below c.args.setting.now c.args.event c.in-Some.buffer ranged at) in
     let here = held_here c.args.self.now.buffers.items c.in-Some.buffer c.index_mut-held.result.now c.index_mut-held.ensures.value lt in
@@ -30,7 +30,7 @@ returns-in_default-clause-changes c = (
 pub returns-then-not-branch-clause-changes : goal.returns-then-not-branch-clause-changes
 returns-then-not-branch-clause-changes c =
     let ranged : is_in_range c.args.setting.now c.args.event ≡ true = sym c.is_in_range.ensures.value ∙ c.if-not-is_in_range.false in
-    let at : Some c.in-Some.buffer ≡ buffer_of c.args.event = sym c.in-Some.is ∙ c.buffer_of.ensures in
+    let at : Some c.in-Some.buffer ≡ buffer_of_event c.args.event = sym c.in-Some.is ∙ c.buffer_of.ensures in
     let lt : c.in-Some.buffer < length c.args.self.now.buffers.items =
     omega (arith, c.requires.total, buffer_below c.args.setting.now c.args.event c.in-Some.buffer ranged at) in
     let here = held_here c.args.self.now.buffers.items c.in-Some.buffer c.index_mut-held.result.now c.index_mut-held.ensures.value lt in
@@ -41,7 +41,7 @@ returns-then-not-branch-clause-changes c =
 pub returns-then-has_counts-clause-changes : goal.returns-then-has_counts-clause-changes
 returns-then-has_counts-clause-changes c =
     let ranged : is_in_range c.args.setting.now c.args.event ≡ true = sym c.is_in_range.ensures.value ∙ c.if-not-is_in_range.false in
-    let at : Some c.in-Some.buffer ≡ buffer_of c.args.event = sym c.in-Some.is ∙ c.buffer_of.ensures in
+    let at : Some c.in-Some.buffer ≡ buffer_of_event c.args.event = sym c.in-Some.is ∙ c.buffer_of.ensures in
     let lt : c.in-Some.buffer < length c.args.self.now.buffers.items =
     omega (arith, c.requires.total, buffer_below c.args.setting.now c.args.event c.in-Some.buffer ranged at) in
     let here = held_here c.args.self.now.buffers.items c.in-Some.buffer c.index_mut-held.result.now c.index_mut-held.ensures.value lt in
@@ -54,7 +54,7 @@ returns-then-has_counts-clause-changes c =
 pub returns-else-has_counts-clause-changes : goal.returns-else-has_counts-clause-changes
 returns-else-has_counts-clause-changes c =
     let ranged : is_in_range c.args.setting.now c.args.event ≡ true = sym c.is_in_range.ensures.value ∙ c.if-not-is_in_range.false in
-    let at : Some c.in-Some.buffer ≡ buffer_of c.args.event = sym c.in-Some.is ∙ c.buffer_of.ensures in
+    let at : Some c.in-Some.buffer ≡ buffer_of_event c.args.event = sym c.in-Some.is ∙ c.buffer_of.ensures in
     let lt : c.in-Some.buffer < length c.args.self.now.buffers.items =
     omega (arith, c.requires.total, buffer_below c.args.setting.now c.args.event c.in-Some.buffer ranged at) in
     let here = held_here c.args.self.now.buffers.items c.in-Some.buffer c.index_mut-held.result.now c.index_mut-held.ensures.value lt in

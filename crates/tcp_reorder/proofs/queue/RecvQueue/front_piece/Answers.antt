@@ -1,5 +1,5 @@
 use Rattle.std.{proofs.Common.{rules, ◌≡◌, [], Some, None, refl, sym, ap, ◌∙◌}, specs.Option.{option_map}}
-use Rattle.tcp_reorder.specs.{Queue.{Kept, front_of}, Pieces.{kept_of, all_kept, with_first, queue_of}}
+use Rattle.tcp_reorder.specs.{Queue.{Kept, front_of}, Pieces.{kept_piece_of, all_kept, with_first, queue_of}}
 use Rattle.tcp_reorder.proofs.Sound.{first_entry, front_of-in_order, front_of-behind, first_in_order, first_behind, no_first}
 use Rattle.tcp_reorder.proofs.queue.RecvQueue.front_piece.Goals as goal
 use Rattle.zr_kinds.proofs.Lists.{front-none}
@@ -18,8 +18,8 @@ pub returns-then-position-self-clause-front : goal.returns-then-position-self-cl
 returns-then-position-self-clause-front g c =
     let queue = queue_of c.self.inside.base c.self.inside.popped c.self.inside.first c.self.inside.pieces.entries in
     let (others, is) = first_entry (with_first c.self.inside.popped c.self.inside.first c.self.inside.pieces.entries) (c.in_ok-position.position, c.in_ok-position.piece.now) (sym c.in_ok-position.ensures) in
-    let front : front_of queue ≡ Some (kept_of (c.in_ok-position.position, c.in_ok-position.piece.now)) =
-    front_of-in_order queue (kept_of (c.in_ok-position.position, c.in_ok-position.piece.now)) (all_kept others)
+    let front : front_of queue ≡ Some (kept_piece_of (c.in_ok-position.position, c.in_ok-position.piece.now)) =
+    front_of-in_order queue (kept_piece_of (c.in_ok-position.position, c.in_ok-position.piece.now)) (all_kept others)
     (ap all_kept is) c.if-position-self.true in
     rw (← c.self.view_is) (sym (ap (option_map piece_of) front))
 
@@ -30,7 +30,7 @@ returns-then-position-self-clause-none g c =
     rw (← c.self.view_is) (
       (λ never. cc),
       λ missing. absurd
-          (first_in_order queue (kept_of (c.in_ok-position.position, c.in_ok-position.piece.now)) (all_kept others) c.self.invariant.0
+          (first_in_order queue (kept_piece_of (c.in_ok-position.position, c.in_ok-position.piece.now)) (all_kept others) c.self.invariant.0
           (ap all_kept is) c.if-position-self.true missing),
     )
 
@@ -39,7 +39,7 @@ returns-else-position-self-clause-front g c =
     let queue = queue_of c.self.inside.base c.self.inside.popped c.self.inside.first c.self.inside.pieces.entries in
     let (others, is) = first_entry (with_first c.self.inside.popped c.self.inside.first c.self.inside.pieces.entries) (c.in_ok-position.position, c.in_ok-position.piece.now) (sym c.in_ok-position.ensures) in
     let front : front_of queue ≡ None =
-    front_of-behind queue (kept_of (c.in_ok-position.position, c.in_ok-position.piece.now)) (all_kept others)
+    front_of-behind queue (kept_piece_of (c.in_ok-position.position, c.in_ok-position.piece.now)) (all_kept others)
     (ap all_kept is) c.if-position-self.false in
     rw (← c.self.view_is) (sym (ap (option_map piece_of) front))
 
@@ -48,7 +48,7 @@ returns-else-position-self-clause-none g c =
     let queue = queue_of c.self.inside.base c.self.inside.popped c.self.inside.first c.self.inside.pieces.entries in
     let (others, is) = first_entry (with_first c.self.inside.popped c.self.inside.first c.self.inside.pieces.entries) (c.in_ok-position.position, c.in_ok-position.piece.now) (sym c.in_ok-position.ensures) in
     rw (← c.self.view_is) (
-      (λ none. first_behind queue (kept_of (c.in_ok-position.position, c.in_ok-position.piece.now)) (all_kept others) c.self.invariant.0
+      (λ none. first_behind queue (kept_piece_of (c.in_ok-position.position, c.in_ok-position.piece.now)) (all_kept others) c.self.invariant.0
           (ap all_kept is) c.if-position-self.false),
       λ missing. refl,
     )

@@ -1,5 +1,5 @@
 use Rattle.std.proofs.{Common.{◌≡◌, ◌+◌, None, sym, ap, ◌∙◌}, lemmas.Bool.{both_ways}}
-use Rattle.tcp_reorder.{specs.{Queue.{next_of}, Pieces.{kept_of, all_kept, queue_of}}, proofs.Sound.{IsAt, front_is_popped}}
+use Rattle.tcp_reorder.{specs.{Queue.{next_of}, Pieces.{kept_piece_of, all_kept, queue_of}}, proofs.Sound.{IsAt, front_is_popped}}
 use Rattle.tcp_reorder.proofs.queue.RecvQueue.pop_front.Given as given
 use Rattle.tcp_reorder.proofs.queue.RecvQueue.pop_front.Goals as goal
 
@@ -10,7 +10,7 @@ popped_at : (g : given.Over) (c : goal.After-self-1 g)
 popped_at g c =
     let queue = queue_of c.self.inside.base c.self.inside.popped c.self.inside.first c.self.inside.pieces.entries in
     let there = λ (missing : queue.popped ≡ next_of queue). both_ways _ (c.front.ensures.none.1 (rw (← c.self.view_is) missing)) c.if-is_none.ensures in
-    front_is_popped queue (kept_of (c.in_ok-position.position, c.in_ok-position.piece)) (all_kept c.pop_least.new.pieces.entries) c.self.invariant.0
+    front_is_popped queue (kept_piece_of (c.in_ok-position.position, c.in_ok-position.piece)) (all_kept c.pop_least.new.pieces.entries) c.self.invariant.0
     (ap all_kept c.in_ok-position.ensures.least) there
 
 pub invariant_of-self-2 : goal.invariant_of-self-2

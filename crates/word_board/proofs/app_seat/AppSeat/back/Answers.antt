@@ -1,6 +1,6 @@
 -- The application is over.
 use Rattle.std.{proofs.{Common.{◌≡◌, ◌∷◌, map, refl, ap, sym, ◌∙◌, subst}, lemmas.List.{append-nil}}, specs.Prelude.{is_none}}
-use Rattle.ref_words.specs.{Over.{AppIsOver}, Seated.{both_sides, app_view}, declared.view.View.{View}}
+use Rattle.ref_words.specs.{Over.{AppIsOver}, Seated.{both_sides, app_seat_view}, declared.view.View.{View}}
 use Rattle.word_board.{specs.{Board.{HasDealt, TheApp}, Desk.{AreOver, AreServed, cache_back}}, proofs.AtDesk.{HasDealt-both, AreOver-app}}
 use Rattle.word_board.proofs.app_seat.AppSeat.back.Goals as goal
 
@@ -8,8 +8,8 @@ pub look_served-requires-clause-over : goal.look_served-requires-clause-over
 look_served-requires-clause-over c =
     let desk = c.desk.inside in
     let mine = c.self.inside.app.side in
-    let view : c.join_seats.new.desk.me.0 ≡ both_sides desk.seat.me.0 (app_view mine) = ap (λ me. me.0) c.join_seats.ensures.desk
-    ∙ ap (both_sides desk.seat.me.0) (ap (λ me. me.0) c.app.invariant.1 ∙ ap (λ (v : TheApp). app_view v.side) c.app.view_is) in
+    let view : c.join_seats.new.desk.me.0 ≡ both_sides desk.seat.me.0 (app_seat_view mine) = ap (λ me. me.0) c.join_seats.ensures.desk
+    ∙ ap (both_sides desk.seat.me.0) (ap (λ me. me.0) c.app.invariant.1 ∙ ap (λ (v : TheApp). app_seat_view v.side) c.app.view_is) in
     subst AreOver (sym view) (AreOver-app desk.seat.me.0 mine c.desk.invariant.5 (record {
       left = ap (λ s. s.side.view.left) c.self.view_is ∙ c.requires.left;
       hands = c.self.invariant.rests.hands;
@@ -23,8 +23,9 @@ invariant_of-desk c =
     let mine = c.self.inside.app.side in
     let joined = c.join_seats.ensures in
     let looked = c.look_served.ensures in
-    let view : c.look_served.new.desk.me.0 ≡ both_sides desk.seat.me.0 (app_view mine) = ap (λ me. me.0) looked.same.me
-    ∙ (ap (λ me. me.0) joined.desk ∙ ap (both_sides desk.seat.me.0) (ap (λ me. me.0) c.app.invariant.1 ∙ ap (λ (v : TheApp). app_view v.side) c.app.view_is)) in
+    let view : c.look_served.new.desk.me.0 ≡ both_sides desk.seat.me.0 (app_seat_view mine) = ap (λ me. me.0) looked.same.me
+    ∙ (ap (λ me. me.0) joined.desk ∙ ap (both_sides desk.seat.me.0)
+    (ap (λ me. me.0) c.app.invariant.1 ∙ ap (λ (v : TheApp). app_seat_view v.side) c.app.view_is)) in
     let keeps = c.self.invariant in
     let given = desk.nic_given ∷ map is_none desk.hands.items in
     let over : AppIsOver mine = record {
@@ -34,7 +35,7 @@ invariant_of-desk c =
     } in (
       looked.same.number ∙ (joined.number ∙ was.0),
       ap (λ me. me.1) looked.same.me ∙ (ap (λ me. me.1) joined.desk ∙ was.1),
-      subst (HasDealt given) (sym view) (HasDealt-both given desk.seat.me.0 (app_view mine) refl was.2),
+      subst (HasDealt given) (sym view) (HasDealt-both given desk.seat.me.0 (app_seat_view mine) refl was.2),
       was.3,
       was.4,
       subst AreOver (sym view) (AreOver-app desk.seat.me.0 mine was.5 over),

@@ -4,8 +4,8 @@ use Rattle.std.proofs.lemmas.List.{length-set, length-map}
 use Rattle.atomic_table.specs.{Table.{Me}, Seated.{TableId}}
 use Rattle.board_face.specs.{NicCalls.{apps_of}, Opened.{new_app}, declared.views.parts.Setting.{Setting}}
 use Rattle.ref_words.specs.{declared.view.View.{View}, Seated.{dealt_out}}
-use Rattle.word_board.{specs.{declared.hands.AppHand.{AppHand}, Board.{TheBoard, TheDesk, app_of, gave_role}, Hands.{IsNew}}, proofs.Dealing.{HasDealt-given, undealt}}
-use Rattle.word_board.proofs.HandsGiven.{given-set, given-before, none-left, at-some, not-given, rest-kept, AppKeeps-new}
+use Rattle.word_board.{specs.{declared.hands.AppHand.{AppHand}, Board.{TheBoard, TheDesk, app_of_seat, gave_role}, Hands.{IsNew}}, proofs.Dealing.{HasDealt-given}}
+use Rattle.word_board.proofs.{Dealing.{undealt}, HandsGiven.{given-set, given-before, none-left, at-some, not-given, rest-kept, AppKeeps-new}}
 use Rattle.word_board.proofs.board.WordBoard.app.Goals as goal
 
 -- the desk has a place for each application of the board
@@ -115,7 +115,7 @@ returns c =
             ∙ (ap (λ g. made desk.seat.table_id g c.deal_role-seat.new.desk.me.0) given
             ∙ (ap (λ (me : Me (List ℕ) View). made desk.seat.table_id (set (desk.nic_given ∷ map is_none hands) (1 + a) true) me.0) did.desk
             ∙ ap (λ (d : TheDesk). gave_role d (1 + a)) c.desk.view_is)),
-        c.new-2.ensures ∙ (c.new.ensures ∙ (ap (λ (me : Me (List ℕ) View). record { board = board; side = app_of me.0 }) sits
+        c.new-2.ensures ∙ (c.new.ensures ∙ (ap (λ (me : Me (List ℕ) View). record { board = board; side = app_of_seat me.0 }) sits
             ∙ ap (λ (b : TheBoard). record { board = b; side = new_app b.setting a }) c.self.view_is)),
       );
     }

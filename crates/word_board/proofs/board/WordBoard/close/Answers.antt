@@ -4,7 +4,7 @@ use Rattle.area_layout.specs.Layout.{pool_buffers}
 use Rattle.board_face.specs.Ended.{IsEachOnce}
 use Rattle.board_parts.{specs.Free.{listed_below}, proofs.FreeLists.{IsEachOnce-free, free-fit}}
 use Rattle.ref_words.specs.declared.view.View.{View}
-use Rattle.word_board.specs.{Board.{TheBoard, TheDesk, card_of}, Desk.{AllAreBack, AreOver, AreServed, HasNoHolders}}
+use Rattle.word_board.specs.{Board.{TheBoard, TheDesk, card_of_seat}, Desk.{AllAreBack, AreOver, AreServed, HasNoHolders}}
 use Rattle.word_board.proofs.AtDesk.{cached-back, looked-more, StandInOrder-free}
 use Rattle.word_board.proofs.board.WordBoard.close.Goals as goal
 
@@ -45,9 +45,9 @@ loop-buffer-preserved c =
     let desk = c.desk.inside in
     let n = c.loop-buffer.buffer in
     let view = ap (λ (d : TheDesk). d.view) c.desk.view_is in
-    let cache : desk.cache.items ≡ (card_of c.loop-buffer.seat.me.0).view.cache = c.desk.invariant.6
+    let cache : desk.cache.items ≡ (card_of_seat c.loop-buffer.seat.me.0).view.cache = c.desk.invariant.6
     ∙ (cached-back desk.seat.me.0.nics (subst (λ (v : View). length v.nics ≡ 1) (sym view) c.requires.back.card)
-    ∙ sym (ap (λ me. (card_of me.0).view.cache) h.me)) in
+    ∙ sym (ap (λ me. (card_of_seat me.0).view.cache) h.me)) in
     let there : n < length c.loop-buffer.listed.items = omega (
       arith,
       h.many,
@@ -92,9 +92,9 @@ pub returns-clause-order : goal.returns-clause-order
 returns-clause-order c =
     let desk = c.desk.inside in
     let view = ap (λ (d : TheDesk). d.view) c.desk.view_is in
-    let cache : desk.cache.items ≡ (card_of c.args.desk.view).view.cache = c.desk.invariant.6
+    let cache : desk.cache.items ≡ (card_of_seat c.args.desk.view).view.cache = c.desk.invariant.6
     ∙ (cached-back desk.seat.me.0.nics (subst (λ (v : View). length v.nics ≡ 1) (sym view) c.requires.back.card)
-    ∙ ap (λ v. (card_of v).view.cache) view) in
+    ∙ ap (λ v. (card_of_seat v).view.cache) view) in
     rw (← cache, c.all_free.ensures, c.as_slice.ensures.value) (StandInOrder-free desk.cache.items c.loop-buffer.listed.items)
 
 pub returns-clause-holders : goal.returns-clause-holders

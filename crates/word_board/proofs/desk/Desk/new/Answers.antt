@@ -1,7 +1,7 @@
 -- A desk that gave nothing, and to which nobody went back.
 use Rattle.std.{proofs.Common.{◌≡◌, ℕ, suc, ◌∷◌, [], false, get_or, refl, ap, sym, ◌∙◌, arith, subst, length-append}, specs.Prelude.{IfSome, Option, Some}}
 use Rattle.std.proofs.lemmas.List.Elements.{All-nil}
-use Rattle.board_face.{specs.NicCalls.{apps_of}, proofs.Tallies.{weight}}
+use Rattle.board_face.{specs.NicCalls.{apps_of}, proofs.Tallies.{one_if}}
 use Rattle.ref_words.specs.{declared.view.View.{View}, Over.{CardIsOver, AppIsOver}, Seated.{times_in}}
 use Rattle.word_board.specs.{Desk.{AreOver, cache_back}, Hands.{IsNew}, declared.hands.AppHand.{AppHand}}
 use Rattle.word_board.proofs.AtDesk.{hands-push, none-given, none-more, HasDealt-none}
@@ -39,7 +39,7 @@ invariant_of-result c =
       c.requires.number,
       ap (λ me. me.1) c.requires.role,
       (λ r. ap (λ (v : View). times_in {V = View} (λ v. v.dealt) (λ x. x) r v.dealt) view
-          ∙ sym (ap (λ bs. weight (get_or (false ∷ bs) r false)) h.untaken ∙ HasDealt-none (suc c.loop-app._app) r)),
+          ∙ sym (ap (λ bs. one_if (get_or (false ∷ bs) r false)) h.untaken ∙ HasDealt-none (suc c.loop-app._app) r)),
       h.many ∙ many,
       h.fresh,
       subst AreOver (sym view) (record { card = All-nil CardIsOver; apps = All-nil AppIsOver; due = refl }),

@@ -1,6 +1,6 @@
 use Rattle.std.proofs.Common.{ℕ, ◌-◌, ◌==◌, set, refl, ap, ◌∙◌}
 use Rattle.board_face.specs.{declared.views.app.AppSide.{AppSide}, Steps.{side_owes_lowered}}
-use Rattle.ref_words.specs.{Words.{pool_at, with_pool, pool_of}, Rule.{BoardRule}, Runs.{lowers_scrubbed}}
+use Rattle.ref_words.specs.{Words.{pool_at, with_pool, pool_word_of}, Rule.{BoardRule}, Runs.{lowers_scrubbed}}
 use Rattle.word_board.proofs.Stepping.{app-may, lowers, of-count}
 use Rattle.word_board.proofs.kinds.app_counts.lower_scrubbed.Goals as goal
 
@@ -18,7 +18,7 @@ step-requires-clause-may c = app-may (
           (c.requires.within, c.requires.owes, c.requires.some) in (
             lowers setting ws c.args.buffer c.pool-word.result at c.requires.within rule c.args.n c.requires.some law.finds small
                 (of-count setting ws c.args.buffer c.pool-word.result at c.requires.within rule (λ n. BoardRule setting (with_pool ws c.args.buffer
-                (pool_of ws c.args.buffer - c.args.n)) nic (set apps mine.view.app (next n))) law.rule),
+                (pool_word_of ws c.args.buffer - c.args.n)) nic (set apps mine.view.app (next n))) law.rule),
             tt,
           );
     })

@@ -1,6 +1,6 @@
 use Rattle.std.proofs.Common.{ℕ, ◌-◌, ◌==◌, set, refl, ap, ◌∙◌, arith}
 use Rattle.board_face.specs.{declared.views.app.AppSide.{AppSide}, Steps.{side_released}}
-use Rattle.ref_words.specs.{Words.{pool_at, with_pool, pool_of}, Rule.{BoardRule}, Runs.{releases}}
+use Rattle.ref_words.specs.{Words.{pool_at, with_pool, pool_word_of}, Rule.{BoardRule}, Runs.{releases}}
 use Rattle.word_board.proofs.Stepping.{app-may, lowers, of-count}
 use Rattle.word_board.proofs.kinds.app_counts.release_held.Goals as goal
 
@@ -17,7 +17,7 @@ step-requires-clause-may c = app-may (
           let law = c.app_keeps_the_rule.ensures setting ws nic apps mine (releases c.args.place) rule here c.requires.out in (
             lowers setting ws c.args.place.buffer c.pool-word.result at c.requires.within rule 1 (omega arith) law.finds small
                 (of-count setting ws c.args.place.buffer c.pool-word.result at c.requires.within rule (λ n. BoardRule setting (with_pool ws c.args.place.buffer
-                (pool_of ws c.args.place.buffer - 1)) nic (set apps mine.view.app (next n))) law.rule),
+                (pool_word_of ws c.args.place.buffer - 1)) nic (set apps mine.view.app (next n))) law.rule),
             tt,
           );
     })

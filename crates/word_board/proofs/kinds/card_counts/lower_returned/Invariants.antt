@@ -1,8 +1,8 @@
 -- The side after the step, by the number that it found.
 use Rattle.std.specs.Prelude.{◌==◌}
 use Rattle.board_face.specs.Steps.{side_both_lowered}
-use Rattle.ref_words.specs.Seated.{card_view}
+use Rattle.ref_words.specs.Seated.{card_seat_view}
 use Rattle.word_board.proofs.kinds.card_counts.lower_returned.Given as goal
 
 abbrev pub ghosts-step : goal.ghosts-step
-ghosts-step a = record { after = λ n. card_view (side_both_lowered a.self.now.side a.about.0 a.about.1 a.about.2 (n == 1)); told = λ _. Unit {0} }
+ghosts-step a = record { after = λ n. card_seat_view (side_both_lowered a.self.now.side a.about.0 a.about.1 a.about.2 (n == 1)); told = λ _. Unit {0} }

@@ -1,6 +1,6 @@
 use Rattle.std.proofs.Common.{ℕ, ◌-◌, ◌==◌, ap, ◌∙◌, arith, refl}
 use Rattle.board_face.specs.{declared.views.nic.NicSide.{NicSide}, Steps.{side_shut}}
-use Rattle.ref_words.specs.{Words.{pool_at, with_pool, pool_of}, Rule.{BoardRule}, Runs.{shuts}}
+use Rattle.ref_words.specs.{Words.{pool_at, with_pool, pool_word_of}, Rule.{BoardRule}, Runs.{shuts}}
 use Rattle.word_board.proofs.Stepping.{card-may, lowers, of-count}
 use Rattle.word_board.proofs.kinds.card_counts.shut_own.Goals as goal
 
@@ -13,6 +13,6 @@ step-requires-clause-may c = card-may (λ n. refl) (λ ws apps rule small.
     let law = c.card_keeps_the_rule.ensures setting ws mine apps (shuts c.args.own) rule c.requires.out in (
       lowers setting ws c.args.own.buffer c.pool-word.result at c.requires.within rule 1 (omega arith) law.finds small
           (of-count setting ws c.args.own.buffer c.pool-word.result at c.requires.within rule (λ n. BoardRule setting (with_pool ws c.args.own.buffer
-          (pool_of ws c.args.own.buffer - 1)) (next n) apps) law.rule),
+          (pool_word_of ws c.args.own.buffer - 1)) (next n) apps) law.rule),
       tt,
     ))

@@ -3,7 +3,7 @@ use Rattle.std.{specs.{Prelude.{◌==◌, count_by, if◌then◌else◌, bit_and
 use Rattle.area_layout.specs.Layout.{pool_buffers}
 use Rattle.board_face.specs.{NicCalls.{free_words_of}, NicEvents.{word_bits}}
 use Rattle.ref_words.specs.Words.{free_at}
-use Rattle.word_board.{specs.{Board.{card_of}, Desk.{AllAreBack}}, proofs.{FreeWords.{of-word}, RolesBack.{lesson, free-there}}}
+use Rattle.word_board.{specs.{Board.{card_of_seat}, Desk.{AllAreBack}}, proofs.{FreeWords.{of-word}, RolesBack.{lesson, free-there}}}
 use Rattle.word_board.proofs.kinds.desk_looks.look_listed.Goals as goal
 
 pub step_as-found-requires-clause-allows : goal.step_as-found-requires-clause-allows
@@ -18,7 +18,7 @@ step_as-found-requires-clause-allows c =
     let of_pool = subst (λ s. b < pool_buffers s.layout) words.keyed c.requires.of_pool in
     let at_word = c.free-word.ensures.value ∙ ap (λ s. free_at s (b / word_bits)) words.keyed in
     let within : b / word_bits < free_words_of setting = omega (arith, of_pool) in
-    let told : ℕ → Type 0 = λ n. count_by (nat_eq b) (card_of desk.me.0).view.cache + (if bit_at n (b % word_bits) == 1 then 1 else 0) ≡ 1 in
+    let told : ℕ → Type 0 = λ n. count_by (nat_eq b) (card_of_seat desk.me.0).view.cache + (if bit_at n (b % word_bits) == 1 then 1 else 0) ≡ 1 in
     lesson setting words.table.shared.table_id.slots desk.id i told desk.me
     (λ s board at. subst (λ ws. told (get_or ws i 0)) (sym board.laid)
     (of-word setting board.words (b / word_bits) i at_word within board.rule told
@@ -36,5 +36,5 @@ pub returns-clause-listed : goal.returns-clause-listed
 returns-clause-listed c =
     let b = c.args.buffer in
     one-of-both (bit_and (c.step_as-found.result / 2 ^ (b % word_bits)) 1 == 1) _
-    (ap (λ x. count_by (nat_eq b) (card_of c.args.desk.now.me.0).view.cache + (if x == 1 then 1 else 0))
+    (ap (λ x. count_by (nat_eq b) (card_of_seat c.args.desk.now.me.0).view.cache + (if x == 1 then 1 else 0))
     (shr_and_one c.step_as-found.result (b % word_bits)) ∙ c.step_as-found.ensures.told)

@@ -1,6 +1,6 @@
 use Rattle.std.{proofs.Common.{◌≡◌, ℕ, ◌≤◌, nat_eq, subst}, specs.Prelude.{count_by}}
 use Rattle.area_layout.specs.Layout.{pool_buffers}
-use Rattle.word_board.{specs.{Board.{card_of}, Desk.{AllAreBack, AreServed, HasNoHolders}}, proofs.RolesBack.{lesson, unheld-there, reserves-there, served-there}}
+use Rattle.word_board.{specs.{Board.{card_of_seat}, Desk.{AllAreBack, AreServed, HasNoHolders}}, proofs.RolesBack.{lesson, unheld-there, reserves-there, served-there}}
 use Rattle.word_board.proofs.kinds.desk_looks.look_unheld.Goals as goal
 
 pub step_as-requires-clause-allows : goal.step_as-requires-clause-allows
@@ -12,7 +12,7 @@ step_as-requires-clause-allows c =
     let all = subst (λ s. AllAreBack s desk.me.0) words.keyed c.requires.all in
     lesson setting words.table.shared.table_id.slots desk.id c.role-word.result
     (λ _. HasNoHolders desk.me.0
-    × ((b : ℕ) → pool_buffers setting.layout ≤ b → count_by (nat_eq b) (card_of desk.me.0).view.cache ≡ 0)
+    × ((b : ℕ) → pool_buffers setting.layout ≤ b → count_by (nat_eq b) (card_of_seat desk.me.0).view.cache ≡ 0)
     × AreServed desk.me.0) desk.me
     (λ s board at. (
       unheld-there law setting s board desk.id desk.me.0 at c.requires.over all,

@@ -1,7 +1,7 @@
 -- The side after the step, by the number that it found.
 use Rattle.board_face.specs.SlotSteps.{side_refill_stored}
-use Rattle.ref_words.specs.Seated.{app_view}
+use Rattle.ref_words.specs.Seated.{app_seat_view}
 use Rattle.word_board.proofs.kinds.entries.store_refill.Given as goal
 
 abbrev pub ghosts-step : goal.ghosts-step
-ghosts-step a = record { after = λ n. app_view (side_refill_stored a.self.now.side a.about); told = λ _. Unit {0} }
+ghosts-step a = record { after = λ n. app_seat_view (side_refill_stored a.self.now.side a.about); told = λ _. Unit {0} }

@@ -1,5 +1,5 @@
 use Rattle.std.proofs.Common.{◌≡◌, refl, ap, sym, ◌∙◌, arith, subst}
-use Rattle.area_layout.specs.Layout.{total}
+use Rattle.area_layout.specs.Layout.{all_buffers}
 use Rattle.board_face.proofs.ListLemmas.{not-eqb}
 use Rattle.ref_words.specs.Sides.{HasScrubLists}
 use Rattle.word_board.{specs.Board.{TheBoard}, proofs.Scrubs.{IsScrubbedBelow, IsScrubbedBelow-none, IsScrubbedBelow-more, IsScrubbedBelow-all}}
@@ -24,13 +24,13 @@ scrub_one-requires-clause-at c =
     let is = c.loop-buffer.invariant.1.event in
     let can = c.requires.begins.can in
     record {
-      within = omega (arith, c.loop-buffer-test.true, c.requires.all, ap (λ (b : TheBoard). total b.setting.layout) c.loop-buffer.invariant.0);
+      within = omega (arith, c.loop-buffer-test.true, c.requires.all, ap (λ (b : TheBoard). all_buffers b.setting.layout) c.loop-buffer.invariant.0);
       next = ap (λ s. s.inside.scrub_mark) is;
       can = record {
         quiet = ap (λ s. s.view.quiet) is ∙ can.quiet;
         loans = ap (λ s. s.view.loans) is ∙ can.loans;
         counted = ap (λ s. s.view.scrubbed) is
-            ∙ not-eqb c.loop-buffer.buffer (total c.args.app.now.board.setting.layout) (λ e. absurd (omega (arith, e, c.loop-buffer-test.true, c.requires.all)));
+            ∙ not-eqb c.loop-buffer.buffer (all_buffers c.args.app.now.board.setting.layout) (λ e. absurd (omega (arith, e, c.loop-buffer-test.true, c.requires.all)));
       };
     }
 
@@ -51,7 +51,7 @@ loop-buffer-preserved c = (
 
 pub returns-clause-event : goal.returns-clause-event
 returns-clause-event c =
-    let whole : c.loop-buffer.buffer ≡ total c.args.app.now.board.setting.layout = omega (
+    let whole : c.loop-buffer.buffer ≡ all_buffers c.args.app.now.board.setting.layout = omega (
       arith,
       c.loop-buffer-test.false,
       c.loop-buffer.auto.buffer-end,

@@ -1,8 +1,8 @@
 -- The side after the step, by the number that it found.
 use Rattle.std.specs.Prelude.{◌+◌, ◌^◌, ◌<◌}
 use Rattle.board_face.specs.{Returns.{loans_out}, AppEvents.{lent_own}, Sides.{app_at}}
-use Rattle.ref_words.specs.Seated.{app_view}
+use Rattle.ref_words.specs.Seated.{app_seat_view}
 use Rattle.word_board.proofs.kinds.users.lend_spare.Given as goal
 
 abbrev pub ghosts-step : goal.ghosts-step
-ghosts-step a = record { after = λ _. app_view (app_at a.self.now.side (lent_own a.self.now.side.view a.about)); told = λ _. loans_out a.about.buffer a.self.now.side + 1 < 2 ^ 64 }
+ghosts-step a = record { after = λ _. app_seat_view (app_at a.self.now.side (lent_own a.self.now.side.view a.about)); told = λ _. loans_out a.about.buffer a.self.now.side + 1 < 2 ^ 64 }

@@ -1,6 +1,6 @@
 use Rattle.std.proofs.Common.{◌≡◌, ℕ, set, refl}
 use Rattle.board_face.specs.{declared.views.app.AppSide.{AppSide}, Steps.{side_user_taken}}
-use Rattle.ref_words.specs.{Words.{user_at, with_user}, Rule.{BoardRule}, Runs.{scrubs}}
+use Rattle.ref_words.specs.{Words.{user_word_at, with_user}, Rule.{BoardRule}, Runs.{scrubs}}
 use Rattle.word_board.proofs.Stepping.{app-may, clears-user, of-user}
 use Rattle.word_board.proofs.kinds.users.scrub_user.Goals as goal
 
@@ -9,7 +9,7 @@ step-requires-clause-may c = app-may (
     let setting = c.args.app.now.board.setting in
     let mine = c.args.app.now.side in
     let next : ℕ → AppSide = λ n. side_user_taken mine c.args.buffer n in
-    let at : c.user-word.result ≡ user_at setting mine.view.app c.args.buffer = cc in
+    let at : c.user-word.result ≡ user_word_at setting mine.view.app c.args.buffer = cc in
     record {
       number = λ n. refl;
       making = λ n. refl;

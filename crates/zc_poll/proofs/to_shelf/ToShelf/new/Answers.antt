@@ -1,6 +1,6 @@
 use Rattle.std.proofs.Common.{rules, ◌≡◌, ℕ, sym, subst, vec_capacity}
 use Rattle.zc_poll.{specs.{Pouring.{PourStands}, Standing.{Desk, StreamStands}}, proofs.PourNew.{new-pours}}
-use Rattle.flow_queues.specs.{Counting.{TallyState, new_tally}, TallyOf.{tally_of}}
+use Rattle.flow_queues.specs.{Counting.{TallyState, new_tally}, TallyOf.{tally_state_of}}
 use Rattle.zc_poll.proofs.to_shelf.ToShelf.new.Goals as goal
 
 pub returns-clause-stands : goal.returns-clause-stands
@@ -10,7 +10,7 @@ returns-clause-stands g c =
     let losses = g.T.Shelf.counts c.args.shelf in
     let v = g.F.AppFace.seen c.args.stream.face in
     let room : ℕ = vec_capacity c.new.result.flows in
-    let same : new_tally room ≡ tally_of c.new.result = search rules in
+    let same : new_tally room ≡ tally_state_of c.new.result = search rules in
     subst (λ (t : TallyState). PourStands kept losses t c.args.stream.desk kept losses v) same
     (subst (λ (d : Desk). PourStands kept losses (new_tally room) d kept losses v) (sym desk)
     (new-pours kept losses room app v fresh (subst (λ (d : Desk). StreamStands d v) desk c.requires.stands)))

@@ -1,7 +1,7 @@
 use Rattle.std.proofs.Common.{rules, ◌≡◌, ◌∙◌, [], length, ap, subst}
 use Rattle.zr_kinds.specs.declared.behaviour.Stopped.TheVariants as stop
 use Rattle.board_face.specs.{declared.views.app.AppView.{AppView}}
-use Rattle.flow_queues.specs.{Ends.{AppEnd}, Counting.{with_bytes, quit_by}, TallyOf.{tally_of}}
+use Rattle.flow_queues.specs.{Ends.{AppEnd}, Counting.{with_bytes, quit_by}, TallyOf.{tally_state_of}}
 use Rattle.zc_poll.specs.{Pouring.{PourStands}, PourTurns.{pour_end}, Standing.{Desk}, Stops.{HasStopped, without_loan}}
 use Rattle.zc_poll.proofs.Stopping.{due-gone, due-out, none-then, quit-some, quit-write, stopped-pours, then-released}
 use Rattle.zc_poll.proofs.to_shelf.ToShelf.stop.Goals as goal
@@ -24,7 +24,7 @@ returns-clause-still g c =
 
 pub returns-clause-stops : goal.returns-clause-stops
 returns-clause-stops g c =
-    let w = tally_of c.self.inside.work in
+    let w = tally_state_of c.self.inside.work in
     let v : AppView = g.F.AppFace.seen c.self.inside.stream.face in
     let z : AppView = g.F.AppFace.seen c.stop.new.self.face in
     let end : AppEnd = pour_end c.of_tally-poured.result in

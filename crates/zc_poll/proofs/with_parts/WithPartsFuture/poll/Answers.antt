@@ -1,5 +1,5 @@
 use Rattle.std.proofs.Common.{◌∙◌, subst}
-use Rattle.zc_poll.specs.Polls.{IsLastTurn}
+use Rattle.zc_poll.specs.Polls.{IsLastPourTurn}
 use Rattle.zc_poll.proofs.with_parts.WithPartsFuture.poll.Goals as goal
 
 pub returns-in_default-take_turn-clause-again : goal.returns-in_default-take_turn-clause-again
@@ -12,6 +12,7 @@ returns-in_default-take_turn-clause-same g c =
     rw (c.yield_now.ensures.pending, ← c.in-Some.ensures.value) (λ came ends. (
       ends.0 ∙ c.take_turn.ensures.beside,
       λ first losses stands.
-          subst (λ app. IsLastTurn first losses (g.T.Shelf.kept came.2) (g.T.Shelf.counts came.2) app (g.F.AppFace.seen came.1) came.0) c.take_turn.ensures.same
+          subst (λ app. IsLastPourTurn first losses (g.T.Shelf.kept came.2) (g.T.Shelf.counts came.2) app (g.F.AppFace.seen came.1) came.0)
+          c.take_turn.ensures.same
           (ends.1 first losses (c.in_default-take_turn.ensures.gives first losses stands)),
     ))
