@@ -14,7 +14,7 @@ runs=${1:-5}
 top=$(cd "$(dirname "$0")/.." && pwd)
 work=$(mktemp -d)
 # what the program below stands on, with the proofs that earlier checks kept
-crates=(zr_kinds run_records area_layout board_face event_log face_table board_parts plain_board page_pool)
+crates=(zr_kinds area_layout board_face face_table board_parts plain_board page_pool)
 trap 'rm -rf "$work"' EXIT
 
 fail() {

@@ -12,7 +12,7 @@ bench/RESULTS.md:
   frames_read, from which the top call's theorem has the statuses of a replay;
 - the limits that the documents name (LIMITS below): each number is that of its constant; the words of slots in docs/BOARDS.md are
   those of slots.rt of word_rings;
-- the lines of the report: docs/USE.md, docs/zcrx.1, and run_report; each report that is shown has them, and README's is the
+- the lines of the report: docs/USE.md, docs/zcrx.1, and top_call; each report that is shown has them, and README's is the
   demo capture's;
 - the crates: each of crates.txt has its paragraph in docs/MAP.md, and what it stands on isn't told there again;
 - each relative link, with its heading, each file or script that is named, and each name in code font that looks like one of
@@ -44,7 +44,7 @@ OTHER_OPTIONS = set("--help --version --name --from --to".split())
 MADE_FILES = set("made.pcap flow-N.bin proofs/PATH/OF/FUNCTION/Answers.antt".split())
 # Faults that no replay ends with.
 OF_NO_REPLAY = {"Usage", "BadRun"}
-KINDS, RECORDS, BLOCKS = "crates/zr_kinds/src/limits.rt", "crates/run_records/src/event.rt", "crates/pcapng_reader/src/section.rt"
+KINDS, RECORDS, BLOCKS = "crates/zr_kinds/src/limits.rt", "crates/zr_kinds/src/event.rt", "crates/pcapng_reader/src/section.rt"
 # What documents say of a limit. A `th` is one more than it.
 LIMITS = [
     ("README.md", "MOST_FLOWS", KINDS, r"follows up to ([\d,]+) flows"),
@@ -215,11 +215,11 @@ def check_statuses(page):
     compare("the numbers of status", {"docs/USE.md": use, "docs/zcrx.1": manual})
 
     # A replay answers by how its reading ended, or that a shelf or the sink failed.
-    reading = read("crates/frames_read/specs/Reading.antt")
+    reading = read("crates/card_feed/specs/FramesRead.antt")
     endings = re.findall(r"(?m)^IsEnding \(Some (\w+)\) = Unit", reading)
     compare("statuses of a replay", {
         "fault.rt": sorted(name for name in code.values() if name not in OF_NO_REPLAY),
-        "Reading.antt": sorted([*endings, "Write"]),
+        "FramesRead.antt": sorted([*endings, "Write"]),
     })
 
 
@@ -258,8 +258,8 @@ def shape(line):
 
 
 def lines_of_code():
-    """The lines that run_report writes, and in which order the kinds of lines stand."""
-    code = read("crates/run_report/src/lines.rt") + read("crates/run_report/src/report.rt")
+    """The lines that top_call writes, and in which order the kinds of lines stand."""
+    code = read("crates/top_call/src/lines.rt") + read("crates/top_call/src/report.rt")
     written = []
     order = []
     for body in re.findall(r"fn fmt<.*?\n    \}\n", code, re.S):
@@ -286,7 +286,7 @@ def check_report(page):
     compare("order of the lines", {"report.rt": order, "docs/USE.md": [line[0] for line in use_lines]})
     for line in use_lines:
         if line not in code:
-            say("docs/USE.md", f"run_report writes no line '{' '.join(line)}'")
+            say("docs/USE.md", f"top_call writes no line '{' '.join(line)}'")
     # Each report that is shown.
     kinds = {line[0]: re.compile(r" ".join(r"\w+" if word == "_" else word for word in line)) for line in use_lines}
     for document in DOCUMENTS:

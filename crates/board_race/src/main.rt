@@ -1,13 +1,29 @@
-//! `board_race NOTES BYTES` sends so many notes of so many bytes to one application through each board, and prints how long
-//! that took: through the board for one thread, through the board on words by one thread, and by a thread for the card and
-//! one for the application. A note has 1 to 16,384 bytes. Without words it sends a few notes through each, and tells no times.
+//! A stream of notes through a board: the card sends, applications take. Both halves are proved from the faces' contracts
+//! alone (`card.rt`, `app.rt`), and run on any board. `board_race NOTES BYTES` sends so many notes of so many bytes to one
+//! application through each board, and prints how long that took: through the board for one thread, through the board on
+//! words by one thread, and by a thread for the card and one for the application. A note has 1 to 16,384 bytes. Without
+//! words it sends a few notes through each, and tells no times.
 #![tactic(auto)]
+
+mod app;
+mod card;
+mod lanes;
+mod plain;
+mod plan;
+#[cfg(test)]
+mod streams;
+mod texts;
+mod threads;
+mod words;
 
 ghost use Rattle.std.specs.Prelude.{◌≤◌, IfOk};
 
+use crate::plain::run_plain;
+use crate::plan::Plan;
+use crate::threads::run_threads;
+use crate::words::run_words;
 use anyhow::{Context, bail};
 use area_layout::Layout;
-use note_stream::{Plan, run_plain, run_threads, run_words};
 use std::env;
 use std::time::Instant;
 

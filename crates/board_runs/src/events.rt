@@ -1,7 +1,7 @@
 //! What a board for one thread logs, event by event.
 
 ghost use Rattle.std.specs.Prelude.{◌<◌, ◌≤◌};
-ghost use Rattle.run_records.specs.Setting.{most_events};
+ghost use Rattle.zr_kinds.specs.Setting.{most_events};
 ghost use Rattle.face_table.specs.{CardHand.{IsCardHand}, AppHand.{IsAppHand}};
 ghost use Rattle.plain_board.specs.Board.{side_of};
 
@@ -9,10 +9,10 @@ use super::tables::plain_rows;
 use area_layout::Layout;
 use face_table::{AppHand, CardHand, Row, card, rows, scrubs_early};
 use plain_board::PlainBoard;
-use run_records::{Event, Log};
 use std::alloc::Global;
 use std::process::Abort;
 use std::test::*;
+use zr_kinds::{Event, Log};
 
 macro_rules! event {
     ($kind:ident $($field:ident $value:literal)*) => {

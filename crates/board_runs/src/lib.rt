@@ -1,5 +1,4 @@
-//! Tests of both boards and of the card's pool over them: tables of calls, events, tokens, areas, plays of the pool, and streams of
-//! notes.
+//! Tests of both boards and of the card's pool over them: tables of calls, events, tokens, areas, and plays of the pool.
 #![tactic(auto)]
 
 #[cfg(test)]
@@ -18,7 +17,5 @@ mod offers;
 mod searches;
 #[cfg(test)]
 mod spares;
-#[cfg(test)]
-mod streams;
 #[cfg(test)]
 mod tables;

@@ -4,7 +4,7 @@ ghost use Rattle.std.specs.Prelude.{◌<◌, ◌^◌, length};
 use super::runs::{FLOWS, Given, Left, Setup, run};
 use flow_table::plain::{PlainFlow, plain_flows, plain_stream};
 use frame_headers::{Seen, read_frame};
-use sample_captures::{ACK, FIN, PSH_ACK, RST, SYN, Sent, capture, frame, stream_bytes};
+use run_driver::samples::{ACK, FIN, PSH_ACK, RST, SYN, Sent, capture, frame, stream_bytes};
 use std::alloc::Global;
 use std::process::Abort;
 use std::random::RandomSource;

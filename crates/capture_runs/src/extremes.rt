@@ -5,7 +5,7 @@ ghost use Rattle.std.specs.Prelude.{◌<◌};
 use super::drawn::check_plain;
 use super::runs::{Given, Setup};
 use frame_headers::{Seen, read_frame};
-use sample_captures::{PSH_ACK, capture, frame, stream_bytes, to};
+use run_driver::samples::{PSH_ACK, capture, frame, stream_bytes, to};
 use std::alloc::Global;
 use std::test::*;
 use zr_kinds::{Behaviour, Stopped};

@@ -11,7 +11,7 @@ ghost use Rattle.frame_headers.specs.Seen.{shown};
 use flow_table::plain::{plain_flows, plain_stream};
 use flow_table::{FlowFault, FlowTable, Steered};
 use frame_headers::{Addr, Seen, Segment, read_frame};
-use sample_captures::{Sent, frame};
+use run_driver::samples::{Sent, frame};
 use std::alloc::Global;
 use std::collections::hash_map::RandomState;
 use std::process::Abort;

@@ -1,6 +1,6 @@
 //! A capture with more flows than a run numbers.
 use super::runs::{Given, USUAL, check};
-use sample_captures::{FILE_HEADER, SYN, Sent, frame, record_of, to_9000};
+use run_driver::samples::{FILE_HEADER, SYN, Sent, frame, record_of, to_9000};
 use std::alloc::Global;
 use std::test::*;
 

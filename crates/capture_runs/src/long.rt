@@ -1,6 +1,6 @@
 //! Long texts, each of whose letters tells in what is left.
 use super::runs::{Given, Setup, USUAL, check};
-use sample_captures::{FILE_HEADER, PSH_ACK, frame, record_of, to_9000};
+use run_driver::samples::{FILE_HEADER, PSH_ACK, frame, record_of, to_9000};
 use std::alloc::Global;
 use std::process::Abort;
 use std::random::RandomSource;

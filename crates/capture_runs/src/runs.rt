@@ -5,12 +5,12 @@ ghost use Rattle.replay_turns.specs.Schedule.{AreTurns};
 
 use card_feed::{Outcome, Plan};
 use replay_turns::run_turns;
-use run_report::Report;
 use std::alloc::Global;
 use std::collections::hash_map::RandomState;
 use std::process::Abort;
 use std::random::RandomSource;
 use std::test::*;
+use top_call::Report;
 use zr_io::{MemShelf, MemSource};
 use zr_kinds::{Behaviour, Options};
 

@@ -1,6 +1,6 @@
 //! One capture under every short text of turns.
 use super::runs::{EAGER, Given, Setup, USUAL, check};
-use sample_captures::{PSH_ACK, capture_of, stream_bytes, to};
+use run_driver::samples::{PSH_ACK, capture_of, stream_bytes, to};
 use std::alloc::Global;
 use std::process::Abort;
 use std::random::RandomSource;

@@ -1,7 +1,6 @@
 -- A new feed has read nothing, and nothing was offered of it.
 use Rattle.std.{proofs.{Common.{ℕ, List, [], Option, inl, refl, arith}, lemmas.List.Elements.{All-nil}}, specs.Prelude.{AllPairs, ◌<◌}}
-use Rattle.frames_read.proofs.Framing.{steered-nothing}
-use Rattle.card_feed.specs.Feed.{NewFeedsStand}
+use Rattle.card_feed.{proofs.Framing.{steered-nothing}, specs.Feed.{NewFeedsStand}}
 
 no_pairs : AllPairs (λ m n. m < n) []
 no_pairs = λ i j d lt none. absurd (grind (arith, none))

@@ -3,7 +3,7 @@ use Rattle.std.proofs.Common.{◌≡◌, ℕ, ◌<◌, List, [], ◌∷◌, ◌+
 use Rattle.std.proofs.lemmas.Bool.{cases_Bool, true≢false}
 use Rattle.zr_io.proofs.Moved.{Gained-weaker}
 use Rattle.flow_table.specs.Stream.{stream_of}
-use Rattle.frames_read.specs.Ending.{steered_in}
+use Rattle.card_feed.specs.Ending.{steered_in}
 use Rattle.board_face.specs.Holders.{sent_to}
 use Rattle.page_pool.specs.Frames.{Offered}
 use Rattle.card_feed.specs.{Offered.{offered_after, offers_of, has_payload, offers_without}, Account.{offered_to, IsFlowRead, IsStreamedTo, AccountsGiveStreams}}

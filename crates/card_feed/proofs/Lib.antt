@@ -1,3 +1,7 @@
+pub mod FramesRead
+pub mod Endings
+pub mod Tallies
+pub mod Framing
 pub mod Steering
 pub mod Taking
 pub mod Nexts

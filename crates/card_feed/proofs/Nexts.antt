@@ -4,7 +4,7 @@ use Rattle.zr_kinds.specs.declared.fault.Fault.{Fault, TheVariants.{Memory}}
 use Rattle.zr_io.specs.Moved.{Took}
 use Rattle.pcap_reader.specs.{Capture.{HasReadCause}, Records.{Captured}, declared.capture.Record.{Record}}
 use Rattle.pcapng_reader.specs.Capture.{Reading, Gives, WantsMemory}
-use Rattle.frames_read.{specs.{Ending.{frames_of}, Reading.{HasRead, HasEnded}}, proofs.{Reading.{frames-append}, Endings.{ends-without, ends-by, ends-frame, goes_on}}}
+use Rattle.card_feed.{specs.{Ending.{frames_of}, FramesRead.{HasRead, HasEnded}}, proofs.{FramesRead.{frames-append}, Endings.{ends-without, ends-by, ends-frame, goes_on}}}
 use Rattle.card_feed.specs.declared.intake.Stage.TheVariants as stage
 use Rattle.card_feed.specs.Coming.{NextGives}
 

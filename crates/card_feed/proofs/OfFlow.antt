@@ -6,8 +6,7 @@ use Rattle.flow_table.specs.Steered.{SteeredTcp, app_of, steer, steer_to, steere
 use Rattle.flow_table.specs.Flows.{Flow, flows_of, flows_with, flows_after, number_of_flow}
 use Rattle.flow_table.proofs.FlowLaws.{HaveApps, flows_with-keeps, flows_with-grow, flows_with-app, flows_with-apps}
 use Rattle.page_pool.specs.Frames.{Offered}
-use Rattle.frames_read.specs.Ending.{steered_in}
-use Rattle.card_feed.specs.Offered.{flow_base, offered_after}
+use Rattle.card_feed.specs.{Ending.{steered_in}, Offered.{flow_base, offered_after}}
 
 -- ---- steered segments go to the application of their port
 

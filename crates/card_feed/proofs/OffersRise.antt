@@ -5,7 +5,7 @@ use Rattle.std.proofs.lemmas.List.Elements.{All-nil, All-cons, filter-append}
 use Rattle.frame_headers.specs.FrameClass.{TcpSegment}
 use Rattle.flow_table.specs.{Steered.{SteeredTcp, app_of, steer, steer_to, steered_from, steered_of, segments_of}, Flows.{Flow, flows_of, flows_with, flows_after}}
 use Rattle.page_pool.specs.Frames.{Offered}
-use Rattle.frames_read.{specs.Ending.{steered_in, steered_next}, proofs.Framing.{steered-more}}
+use Rattle.card_feed.{specs.Ending.{steered_in, steered_next}, proofs.Framing.{steered-more}}
 use Rattle.card_feed.specs.Offered.{offered_one, offered_after, has_payload, offer_one, offer_next, offers_of}
 
 -- ---- the numbers rise

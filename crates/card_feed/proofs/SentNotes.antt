@@ -3,10 +3,9 @@ use Rattle.std.proofs.Common.{◌≡◌, ℕ, suc, ◌<◌, List, [], ◌∷◌,
 use Rattle.std.proofs.lemmas.List.{map-append, Elements.{All-nil, All-cons, All-head, All-tail, All-filter, filter-append}}
 use Rattle.board_face.specs.{Holders.{sent_to}, Relay.{as_taken, IsProper}, declared.views.nic.{SentNote.{SentNote}, NicSide.{NicSide}}}
 use Rattle.flow_table.specs.Flows.{Flow, flows_of}
-use Rattle.frames_read.specs.Ending.{steered_in}
+use Rattle.card_feed.specs.{Ending.{steered_in}, Offered.{offered_after, offers_of, has_payload, offers_without, Awaits, AreSettled}, Account.{offered_to}}
 use Rattle.page_pool.specs.{Frames.{Offered, ShowFrames}, Pool.{PoolState, short_note, piece_notes, all_notes}}
 use Rattle.app_worker.specs.Marks.{numbered_notes}
-use Rattle.card_feed.specs.{Offered.{offered_after, offers_of, has_payload, offers_without, Awaits, AreSettled}, Account.{offered_to}}
 use Rattle.card_feed.specs.Sent.{IsOfOwnFlow, ShownNotesAreWhole, FeedsSendWhole, ShownNotesAreOwn, FeedsSendOwn, OffersHaveApps}
 use Rattle.card_feed.proofs.{OffersRise.{RiseFrom, rise-filter, offers-rise}, NotesShown.{Ascend, HaveBytes}, OfFlow.{are-steered, no_apps}}
 use Rattle.card_feed.proofs.{Bridge.{ascends, HaveBytes-filter, payloads}, Sharing.{shown-to}, WholeNotes.{LinkTogether, shown-linked, first-linked, proper-whole}}

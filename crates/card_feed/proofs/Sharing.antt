@@ -3,8 +3,7 @@ use Rattle.std.proofs.Common.{◌≡◌, ℕ, ◌+◌, ◌<◌, ◌≤◌, List,
 use Rattle.std.proofs.lemmas.{Bool.{cases_Bool, cases_lt, eq-eqb, ne_eqb, eqb-true, eqb-false}, List.{append-nil, Elements.{filter-append}}}
 use Rattle.board_face.specs.declared.views.nic.SentNote.{SentNote}
 use Rattle.page_pool.specs.{Frames.{Offered, ShowRest, ShowsFrame, ShowFrames}, Pool.{all_notes}}
-use Rattle.frames_read.specs.Ending.{steered_in}
-use Rattle.card_feed.specs.{Offered.{offers_without, offers_of, AreSettled}, Account.{ClosedFeedsShow}}
+use Rattle.card_feed.specs.{Ending.{steered_in}, Offered.{offers_without, offers_of, AreSettled}, Account.{ClosedFeedsShow}}
 
 -- all of these go to the frame's application
 abbrev AreFor : ℕ → List SentNote → Type 0

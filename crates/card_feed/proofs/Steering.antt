@@ -8,8 +8,7 @@ use Rattle.page_pool.specs.Frames.{Offered}
 use Rattle.flow_table.specs.{Steered.{SteeredTcp, app_of, steer_to, first_byte}, CountedPart.{FlowClose, before_fin, counted_len, counted_part}}
 use Rattle.flow_table.specs.{Flows.{Flow, number_of_flow, flows_with}, KnownFlows.{KnownFlows}, Placing.{steered_to, number_for, counted_at, counted_for, IsPlaced}}
 use Rattle.flow_table.proofs.FlowLaws.{HaveApps, flows_with-apps}
-use Rattle.frames_read.specs.Ending.{flow_ending}
-use Rattle.card_feed.specs.{Offered.{flow_base, close_of, offered_one, has_payload, IsLong}, declared.intake.Route.{Route}, Intake.{Steers}}
+use Rattle.card_feed.specs.{Ending.{flow_ending}, Offered.{flow_base, close_of, offered_one, has_payload, IsLong}, declared.intake.Route.{Route}, Intake.{Steers}}
 
 -- ---- how many bytes count
 

@@ -7,8 +7,8 @@ use Rattle.zr_kinds.specs.declared.fault.Fault.TheVariants.{Memory, Usage, NotPc
 use Rattle.zr_kinds.specs.declared.{fault.Fault.TheVariants.{TooManyFrames, BadBlock, BadRun}, outcome.Tally.{Tally}}
 use Rattle.frame_headers.specs.{FrameClass.{TcpSegment, class_of}, Seen.{class_seen, segment_seen, segment_of}, declared.segment.Seen.{Seen}}
 use Rattle.flow_table.{specs.{Steered.{SteeredTcp, app_of, steer, steer_to}, Flows.{flows_of}, KnownFlows.{KnownFlows}}, proofs.FlowLaws.{flows_of-push}}
-use Rattle.frames_read.specs.{Ending.{steered_in, steered_next, flow_ending, ending_at}, Reading.{EndsAt}, Tally.{tally_of, counted}}
-use Rattle.frames_read.proofs.{Framing.{steered-more, ending-flow, ending-limit, seen-segment}, Tallies.{tally-more}}
+use Rattle.card_feed.specs.{Ending.{steered_in, steered_next, flow_ending, ending_at}, FramesRead.{EndsAt}, Tally.{tally_of, counted}}
+use Rattle.card_feed.proofs.{Framing.{steered-more, ending-flow, ending-limit, seen-segment}, Tallies.{tally-more}}
 use Rattle.page_pool.specs.Frames.{Offered}
 use Rattle.card_feed.specs.{Offered.{offered_one, offer_one, offer_next, has_payload, payload_in, WantsRoom}, declared.intake.{Route.{Route}, Intake.{Intake}}}
 use Rattle.card_feed.specs.{Hand.{offered_by, at_hand, with_payload}, Intake.{RoutesTo, Steers, Knows}}

@@ -5,8 +5,7 @@ use Rattle.flow_table.specs.{Flows.{Flow, flows_of}, KnownFlows.{KnownFlows}}
 use Rattle.board_face.specs.declared.views.{parts.Filling.{Filling}, nic.{NicLook.{NicLook}, NicView.{NicView}}}
 use Rattle.page_pool.specs.{declared.offer.{Offer.{Offer}, Verdict.{Verdict, TheVariants.{Accepted, NoRoom, Busy}}}, Frames.{offered}, Dealing.{DrainsRings}}
 use Rattle.page_pool.specs.{Searching.{LooksAhead}, Pool.{PoolState, all_notes, OnlySends, Closes}, declared.search_end.SearchEnd.TheVariants.{Fast}}
-use Rattle.frames_read.specs.{Ending.{steered_in}, Reading.{EndsAt}}
-use Rattle.card_feed.specs.{declared.{intake.Intake.{Intake}, arrived.Arrived.{Arrived}}, Coming.{Arrives, ComesTo, is_over}}
+use Rattle.card_feed.specs.{Ending.{steered_in}, FramesRead.{EndsAt}, declared.{intake.Intake.{Intake}, arrived.Arrived.{Arrived}}, Coming.{Arrives, ComesTo, is_over}}
 use Rattle.card_feed.specs.{Offered.{offers_of, offer_next, AreSettled, WantsRoom}, Hand.{at_hand}, declared.intake.Route.{Route}}
 use Rattle.card_feed.specs.{Intake.{Knows, OnlyOpens, TakesIn, IsReadable, IsTimely, counts_as}, Feed.{FeedState, FeedKnows, FeedStands, WantsRecord}}
 use Rattle.card_feed.specs.Turns.{ReadsOne, OnlyReadsFrames, MayArrive, ReceivesArrived, Settles, FeedPlays, drains, offers, finishes, rests, KeepsUp, IsAwaiting}

@@ -6,7 +6,7 @@ use Rattle.zr_kinds.specs.declared.{behaviour.{Behaviour.{Behaviour}, Stopped.{S
 use Rattle.zr_kinds.specs.declared.behaviour.Stopped.TheVariants as stop
 use Rattle.zr_io.specs.Moved.{Gained}
 use Rattle.flow_table.specs.{Steered.{SteeredTcp}, Flows.{Flow, flows_of}, Stream.{stream_of}}
-use Rattle.frames_read.specs.Ending.{steered_in}
+use Rattle.card_feed.specs.Ending.{steered_in}
 use Rattle.board_face.specs.{Sides.{IsApp, AreNumbered, HaveOneSetting}, Holders.{sent_to}, Relay.{as_taken, IsAsSent, HasNoLoanStray}}
 use Rattle.board_face.specs.declared.views.{nic.NicSide.{NicSide}, app.AppSide.{AppSide}}
 use Rattle.page_pool.specs.{Frames.{Offered, ShowFrames}, Dealing.{strays_in}}

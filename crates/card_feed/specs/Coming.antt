@@ -3,8 +3,7 @@ use Rattle.std.specs.Prelude.{◌≡◌, ℕ, ◌≤◌, List, [], ◌∷◌, �
 use Rattle.zr_kinds.specs.{Limits.{longest_record}, declared.fault.Fault.{Fault}}
 use Rattle.zr_io.specs.Moved.{Took}
 use Rattle.pcap_reader.specs.{Records.{Captured}, declared.capture.Record.{Record}}
-use Rattle.frames_read.specs.{Ending.{ending_at, frames_of}, Reading.{HasRead, HasEnded, EndsAt}}
-use Rattle.card_feed.specs.declared.{intake.Stage.{Stage}, arrived.Arrived.{Arrived}}
+use Rattle.card_feed.specs.{Ending.{ending_at, frames_of}, FramesRead.{HasRead, HasEnded, EndsAt}, declared.{intake.Stage.{Stage}, arrived.Arrived.{Arrived}}}
 use Rattle.card_feed.specs.declared.intake.Stage.TheVariants as stage
 use Rattle.card_feed.specs.declared.arrived.Arrived.TheVariants as arrived
 

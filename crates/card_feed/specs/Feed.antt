@@ -5,7 +5,7 @@ pub use Rattle.zr_kinds.specs.Counting.{one_if}
 use Rattle.flow_table.specs.Flows.{Flow, flows_of}
 use Rattle.board_face.specs.{NicCalls.{apps_of, IsOpen}, declared.views.nic.NicView.{NicView}}
 use Rattle.page_pool.specs.{Frames.{Offered}, Pool.{PoolState, PoolStands, HasNonePending, pending_count, all_notes, new_pool}}
-use Rattle.frames_read.specs.{Ending.{steered_in}, Tally.{tally_of, no_tally}}
+use Rattle.card_feed.specs.{Ending.{steered_in}, Tally.{tally_of, no_tally}}
 use Rattle.card_feed.specs.{declared.intake.Stage.{Stage}, Coming.{ComesTo, is_over}, Offered.{offers_of, AreSettled, WantsRoom}, Counts.{AreOffersCounted, AreFound, HaveSwept}}
 use Rattle.card_feed.specs.Need.{AreNeeded}
 use Rattle.card_feed.specs.declared.intake.Stage.TheVariants as stage

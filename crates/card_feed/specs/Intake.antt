@@ -2,7 +2,7 @@
 use Rattle.std.specs.Prelude.{◌≡◌, ℕ, ◌⊎◌, false, List, [], ◌∷◌, ◌++◌, length, take, Option, Some, None, Result, Ok, Err}
 use Rattle.zr_kinds.specs.declared.fault.Fault.{Fault, TheVariants.{Memory}}
 use Rattle.flow_table.specs.{Steered.{SteeredTcp}, Flows.{flows_of, flows_with}, KnownFlows.{KnownFlows}}
-use Rattle.frames_read.specs.{Ending.{steered_in, flow_ending, BeginsFlow, ending_at}, Reading.{EndsAt}, Tally.{tally_of}}
+use Rattle.card_feed.specs.{Ending.{steered_in, flow_ending, BeginsFlow, ending_at}, FramesRead.{EndsAt}, Tally.{tally_of}}
 use Rattle.card_feed.specs.{declared.{intake.{Route.{Route}, Intake.{Intake}, Stage.{Stage}}, arrived.Arrived.{Arrived}}, Coming.{is_over}}
 use Rattle.card_feed.specs.{Offered.{offered_one, offer_one, offer_next, WantsRoom, IsLong}, Hand.{offered_by, at_hand}}
 use Rattle.card_feed.specs.declared.intake.Stage.TheVariants as stage

@@ -6,7 +6,7 @@ use Rattle.flow_table.specs.{Steered.{SteeredTcp, first_byte, has_fin}, CountedP
 use Rattle.flow_table.specs.Flows.{Flow, flows_of, flows_with, number_of_flow}
 use Rattle.page_pool.specs.Frames.{Offered, ShowFrames}
 use Rattle.board_face.specs.declared.views.nic.SentNote.{SentNote}
-use Rattle.frames_read.specs.{Ending.{steered_in, steered_next}, Reading.{BeginsFlowAt}}
+use Rattle.card_feed.specs.{Ending.{steered_in, steered_next}, FramesRead.{BeginsFlowAt}}
 
 -- ---- one frame
 

@@ -1,11 +1,10 @@
 -- What holds of notes that show the frames of an application: they are taken as whole frames, and are of its own flows.
 use Rattle.std.specs.{Prelude.{◌≡◌, ◌≢◌, ℕ, ◌<◌, List, [], ◌++◌, length, map, All, Option, Some}, List.{slice_get}}
 use Rattle.flow_table.specs.Flows.{Flow, flows_of}
-use Rattle.frames_read.specs.Ending.{steered_in}
+use Rattle.card_feed.specs.{Ending.{steered_in}, Offered.{offers_of}, Feed.{FeedState, FeedStands}, Account.{offered_to}}
 use Rattle.board_face.specs.{Holders.{sent_to}, Relay.{as_taken, IsProper}, declared.views.{nic.{SentNote.{SentNote}, NicSide.{NicSide}}, app.TakenNote.{TakenNote}}}
 use Rattle.page_pool.specs.Frames.{ShowFrames}
 use Rattle.app_worker.specs.Marks.{FramesStandTogether, marks_of}
-use Rattle.card_feed.specs.{Offered.{offers_of}, Feed.{FeedState, FeedStands}, Account.{offered_to}}
 
 -- ---- whole frames
 

@@ -6,7 +6,7 @@ use Rattle.board_face.specs.declared.views.nic.NicView.{NicView}
 use Rattle.page_pool.specs.{declared.offer.{Offer.{Offer}, Verdict.{Verdict, TheVariants.{Accepted, NoRoom, Busy}}}, Frames.{Offered, offered}}
 use Rattle.page_pool.specs.{Dealing.{DrainsRings, CountsStrays}, Pool.{PoolState, HasNonePending, IsNextApp, OnlySends, Closes}, Offer.{Offers}}
 use Rattle.page_pool.specs.declared.search_end.SearchEnd.TheVariants.{Fast}
-use Rattle.frames_read.specs.{Ending.{ending_at}, Reading.{EndsAt}}
+use Rattle.card_feed.specs.{Ending.{ending_at}, FramesRead.{EndsAt}}
 use Rattle.card_feed.specs.{declared.arrived.Arrived.{Arrived}, Coming.{is_over}, Offered.{WantsRoom, offer_next}, Feed.{FeedState, FeedKnows, FeedStands, WantsRecord}}
 use Rattle.card_feed.specs.declared.arrived.Arrived.TheVariants as arrived
 use Rattle.card_feed.specs.declared.intake.Stage.TheVariants as stage

@@ -7,9 +7,9 @@ ghost use Rattle.card_feed.specs.{Plan.{IsPlan}, Feed.{IsFeedReady, new_feed, fa
 ghost use Rattle.board_face.specs.{NicCalls.{apps_of, IsOpen, HasNoToken}, declared.views.nic.NicView.{NicView}};
 
 use crate::intake::{Intake, Stage};
+use crate::tally::Counting;
 use crate::{Outcome, Plan};
 use flow_table::{FlowInfo, FlowTable};
-use frames_read::Counting;
 use page_pool::Pool;
 use std::alloc::{AllocError, Global};
 use std::collections::hash_map::RandomState;

@@ -3,8 +3,8 @@
 ghost use Rattle.std.specs.{Prelude.{length, vec_capacity}, Option.{ForSome}};
 ghost use Rattle.card_feed.specs.Hand.{HaveApps, HandFits, HasRoomToRefuse};
 
+use crate::tally::Counting;
 use flow_table::FlowTable;
-use frames_read::Counting;
 use pcapng_reader::AnyCapture;
 use std::alloc::Global;
 use zr_kinds::Fault;

@@ -1,4 +1,5 @@
-//! What the card does in one turn, over any source and any board, and what the turns of a run come to.
+//! What the card does in one turn, over any source and any board, and what the turns of a run come to; the tally of what
+//! was read, by class, and where a reading ends. Begin with `turn.rt`, and with `Feed` in `specs/`.
 #![tactic(auto)]
 
 mod arrived;
@@ -11,6 +12,7 @@ mod playing;
 mod preparing;
 mod reading;
 mod receiving;
+mod tally;
 mod turn;
 
 pub use arrived::Arrived;

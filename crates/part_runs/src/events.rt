@@ -1,9 +1,9 @@
 ghost use Rattle.std.specs.Prelude.{◌≤◌};
-ghost use Rattle.run_records.specs.Setting.{most_events};
+ghost use Rattle.zr_kinds.specs.Setting.{most_events};
 
-use event_log::EventLog;
-use run_records::Event;
+use plain_board::EventLog;
 use std::process::Abort;
+use zr_kinds::Event;
 
 const TAKE: Event = Event::Take { buffer: 3, pool: 1 };
 

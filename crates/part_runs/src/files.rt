@@ -1,11 +1,10 @@
 use crate::calls::{expect_appends, expect_bytes};
-use file_shelf::FileShelf;
 use std::process::Abort;
 use std::rt::Files;
 use std::sync::atomic::{AtomicU64, Ordering};
 use std::test::*;
 use std::{fs, io};
-use zr_io::{Failed, Shelf};
+use zr_io::{Failed, FileShelf, Shelf};
 
 /// Writes to flow 7, then to so many others that its file is closed, and to flow 7 again.
 fn write_hello<S: Shelf>(shelf: &mut S) -> Result<(), Failed> {

@@ -1,8 +1,11 @@
-//! Tests of the small crates, from the words that all share to the generator of captures.
+//! Tests of the small crates, from the words that all share to the generator of captures; and of the texts that the program
+//! reads and writes, but for those that rows of `zcrx` show: its words, reports, and records of runs.
 #![tactic(auto)]
 
 #[cfg(test)]
 mod calls;
+#[cfg(test)]
+mod command_lines;
 #[cfg(test)]
 mod events;
 #[cfg(test)]
@@ -17,6 +20,10 @@ mod making;
 mod memory;
 #[cfg(test)]
 mod reassembly;
+#[cfg(test)]
+mod records;
+#[cfg(test)]
+mod reports;
 #[cfg(test)]
 mod ring;
 #[cfg(test)]

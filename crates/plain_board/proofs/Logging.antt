@@ -1,15 +1,15 @@
 -- What a call of a face changes of a board's sides, and that the log goes on to tell of them.
 use Rattle.std.proofs.Common.{◌≡◌, ℕ, ◌^◌, ◌<◌, Bool, true, false, List, [], length, map, set, refl, ap, sym, ◌∙◌, arith}
 use Rattle.std.{specs.{Prelude.{MatchBool, MatchResult, Result, Ok, Err}, List.{AllByRecursion}}, proofs.{lemmas.List.{length-set}, Common.{subst}}}
-use Rattle.run_records.specs.{declared.event.Event.{Event}, LegalRun.{HasSmallNumbers}, Setting.{total_buffers}}
+use Rattle.zr_kinds.specs.{declared.event.Event.{Event}, LegalRun.{HasSmallNumbers}, Setting.{total_buffers}}
 use Rattle.area_layout.specs.Layout.{all_buffers}
 use Rattle.board_face.specs.{Blank.{blank_app}, Laws.{AllSides, Scrubs, pool_of, scrubbed_by}, Counts.{EndedWereReturned}, NicCalls.{DealtWith}, NicEvents.{nic_saw}, Opened.{new_nic}}
 use Rattle.board_face.specs.declared.{answers.Entry.{Entry, TheVariants.{Freed, Honoured, Stray, Empty}}, views.nic.NicLook.TheVariants.{RingEmpty}}
 use Rattle.board_face.specs.{Sides.{app_at, nic_at}, declared.views.{nic.{NicView.{NicView}, NicSide.{NicSide}}, app.{AppView.{AppView}, AppSide.{AppSide}}}}
 use Rattle.board_face.{proofs.CountLaws.{scrub_law}, specs.BoardSteps.{CardStep, AppStep, Step, AppCan, CardCan, Can, apply, app_view, card_view, card, app}}
-use Rattle.event_log.specs.{IsLogged.{AreSound, setting_of_sides}, Logs.{KeptEvents, all_logged}, ScrubLaw.{scrub_logged, scrub_of, scrubbed_sides}}
-use Rattle.event_log.{specs.StepEvents.{MayTell, app_events, card_events, events_of}, proofs.StepLaw.{step-law}}
-use Rattle.event_log.proofs.{OneSide.{one_side-law}, Scrubs.{scrubbed-law}, Settings.{total-same}, ShortFills.{fills-law}, SoundSides.{sound-law}}
+use Rattle.plain_board.specs.{IsLogged.{AreSound, setting_of_sides}, Logs.{KeptEvents, all_logged}, ScrubLaw.{scrub_logged, scrub_of, scrubbed_sides}}
+use Rattle.plain_board.{specs.StepEvents.{MayTell, app_events, card_events, events_of}, proofs.StepLaw.{step-law}}
+use Rattle.plain_board.proofs.{OneSide.{one_side-law}, Scrubs.{scrubbed-law}, Settings.{total-same}, ShortFills.{fills-law}, SoundSides.{sound-law}}
 use Rattle.plain_board.specs.{Board.{Board, Part}, Events.{IsNoReturn, TookOwed}, OneSide.{OnlyCard, OnlyView}, Recorded.{IsRecorded, IsSoundAndRecorded, IsSoundPart}}
 use Rattle.plain_board.specs.Stand.{Stand, setting_of_arrays, sides_of, side_of, others_of}
 use Rattle.plain_board.{specs.Sound.{IsSound, taken_of, notes_of, refills_of}, proofs.{AppFrames.{here-of}, Counting.{holders-few}}}

@@ -1,14 +1,13 @@
 -- A look for a note: which note was the next, and what of it is logged.
 use Rattle.std.{proofs.Common.{◌≡◌, ℕ, List, [], ◌∷◌, ◌++◌, map, take, refl, ap, append_assoc}, specs.List.{AllByRecursion}}
-use Rattle.zr_kinds.specs.declared.{place.{Note.{Note}, Place.{Place}}, ring.Rqe.{Rqe}}
+use Rattle.zr_kinds.specs.{declared.{place.{Note.{Note}, Place.{Place}}, ring.Rqe.{Rqe}, event.Event.{Event}}, LegalRun.{HasSmallNumbers}}
 use Rattle.board_face.specs.{AppCalls.{Looked, TookNote}, AppEvents.{took_linear, took_note}, Holders.{sent_to}, Laws.{IsNextNote}}
 use Rattle.board_face.specs.{Relay.{Relayed, as_taken}, Sides.{IsApp}, declared.answers.Polled.{Polled}}
 use Rattle.board_face.specs.declared.answers.Polled.TheVariants.{Note as got_note, Linear as got_linear, Empty as got_none, Ended as got_end}
 use Rattle.board_face.specs.declared.views.{nic.NicSide.{NicSide}, app.{AppLook.TheVariants.{NoNote}, AppView.{AppView}, AppSide.{AppSide}, TakenNote.{TakenNote}}}
 use Rattle.board_face.{proofs.RelayLemmas.{NoteComesNext-relayed}, specs.BoardSteps.{AppStep, AppCan, app, app_view, polls, polls_linear, sees, is_told}}
-use Rattle.run_records.specs.{declared.event.Event.{Event}, LegalRun.{HasSmallNumbers}}
-use Rattle.run_records.specs.declared.event.Event.TheVariants as event
-use Rattle.event_log.specs.{Logs.{KeptEvents, all_logged, logged}, StepEvents.{MayTell, app_events}}
+use Rattle.zr_kinds.specs.declared.event.Event.TheVariants as event
+use Rattle.plain_board.specs.{Logs.{KeptEvents, all_logged, logged}, StepEvents.{MayTell, app_events}}
 use Rattle.plain_board.specs.{Board.{Part}, Told.{PollTells}, OneSide.{OnlyView}, Recorded.{IsSoundPart}, Stand.{Stand, side_of, sides_of}}
 use Rattle.plain_board.proofs.{AppFrames.{here-of}, Logging.{app-told, part_with}}
 

@@ -1,14 +1,13 @@
 -- A refill entry that gave a reference back: the loan that lay first in its buffer is owed no more.
 use Rattle.std.proofs.Common.{◌≡◌, ℕ, ◌≤◌, true, List, [], ◌∷◌, length, refl, ap, subst, arith}
 use Rattle.std.{specs.Prelude.{◌==◌, All, slice_index}, proofs.lemmas.{Bool.{eqb-true}, List.Elements.{All-head, All-drop, All-get_or, filter_passes}}}
-use Rattle.zr_kinds.specs.declared.place.Place.{Place}
+use Rattle.zr_kinds.specs.{declared.{place.Place.{Place}, event.Event.{Event}}, LegalRun.{HasSmallNumbers}}
 use Rattle.board_face.specs.{BoardSteps.{OwesFirst, apply, card, honours}, Holders.{ended_in, owed_in, returned_in, returning_count}, Laws.{AllSides}}
 use Rattle.board_face.specs.{Sides.{IsApp, nic_at}, declared.{answers.Entry.{Entry, TheVariants.{Freed, Honoured, Stray, Empty}}, views.app.AppSide.{AppSide}}}
-use Rattle.event_log.specs.{IsLogged.{NoneReturns}, Logs.{KeptEvents, all_logged, logged}, StepEvents.{card_events}}
+use Rattle.plain_board.specs.{IsLogged.{NoneReturns}, Logs.{KeptEvents, all_logged, logged}, StepEvents.{card_events}}
 use Rattle.plain_board.specs.{Board.{Board}, Events.{GaveBack, IsNoReturn, IsReturn}, Sound.{IsSound}, Stand.{Stand, side_of, sides_of}, Told.{EntryTells, HonourTells}}
 use Rattle.board_face.specs.{BoardSteps.{CardCan, card_view}, Laws.{pool_of, user_of}, NicEvents.{gave_up, honoured}}
-use Rattle.run_records.specs.{declared.event.Event.{Event}, LegalRun.{HasSmallNumbers}}
-use Rattle.run_records.specs.declared.event.Event.TheVariants as event
+use Rattle.zr_kinds.specs.declared.event.Event.TheVariants as event
 use Rattle.plain_board.{specs.{OneSide.{OnlyCard}, Recorded.{IsSoundAndRecorded}}, proofs.Logging.{card-made, card-told, nic-by, sides-sound, with_log}}
 use Rattle.std.proofs.Common.{sym, ◌∙◌}
 

@@ -2,7 +2,7 @@
 use Rattle.std.specs.Prelude.{ℕ, List, slice_set}
 use Rattle.area_layout.specs.Layout.{Shape}
 use Rattle.board_face.specs.{Blank.{blank_app}, Laws.{AllSides}, Sides.{side_in}, declared.views.{nic.NicSide.{NicSide}, app.{AppSide.{AppSide}, AppView.{AppView}}}}
-use Rattle.event_log.specs.{Logs.{KeptEvents}, RunLaws.{opened_log}}
+use Rattle.plain_board.specs.{Logs.{KeptEvents}, RunLaws.{opened_log}}
 use Rattle.plain_board.specs.{declared.{logged.Logged.{Logged}, others.{Applications.{Applications}, Others.{Others}}}, Stand.{Arrays, Stand, new_stand}}
 
 pub record Board : Type 0 where

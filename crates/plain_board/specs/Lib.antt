@@ -1,3 +1,16 @@
+pub mod Logs
+pub mod Settings
+pub mod Plain
+pub mod Tallies
+pub mod IsLogged
+pub mod Fills
+pub mod StepEvents
+pub mod StepLaw
+pub mod ScrubLaw
+pub mod SoundLaw
+pub mod SideLaw
+pub mod RunLaws
+pub mod ToldLaw
 pub mod Stand
 pub mod Returns
 pub mod Sound

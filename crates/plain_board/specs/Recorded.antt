@@ -1,6 +1,6 @@
 -- What always holds of a board as its callers see it.
 use Rattle.std.specs.Prelude.{◌<◌}
-pub use Rattle.event_log.specs.StepLaw.{IsRecorded}
+pub use Rattle.plain_board.specs.StepLaw.{IsRecorded}
 use Rattle.plain_board.specs.{Board.{Board, Part, sides_of, stand_of}, Sound.{IsSound}}
 
 -- Its contents are sound, and its log tells of its sides.

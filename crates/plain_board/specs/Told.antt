@@ -2,12 +2,12 @@
 use Rattle.std.specs.Prelude.{◌≡◌, ℕ, ◌==◌, Bool}
 use Rattle.zr_kinds.specs.declared.{place.Place.{Place}, ring.Rqe.{Rqe}}
 use Rattle.area_layout.specs.Layout.{all_buffers}
-use Rattle.run_records.specs.declared.event.Event.TheVariants as event
+use Rattle.zr_kinds.specs.declared.event.Event.TheVariants as event
 use Rattle.board_face.specs.BoardSteps.{CardStep, AppStep, Step, apply, card, app, shuts, honours, polls}
 use Rattle.board_face.specs.{Laws.{pool_of}, declared.{views.parts.Filling.{Filling}, answers.{Entry.{Entry}, Polled.{Polled}}}}
 use Rattle.board_face.specs.{declared.answers.Entry.TheVariants.{Freed, Honoured, Stray, Empty}, AppEvents.{app_gist}, Looks.{AppTold}}
 use Rattle.board_face.specs.declared.answers.Polled.TheVariants.{Note as got_note, Linear as got_linear, Empty as got_none, Ended as got_end}
-use Rattle.event_log.specs.{Logs.{all_logged, logged}, ScrubLaw.{scrub_logged}, StepEvents.{events_of}}
+use Rattle.plain_board.specs.{Logs.{all_logged, logged}, ScrubLaw.{scrub_logged}, StepEvents.{events_of}}
 use Rattle.plain_board.specs.{Board.{Board, Part, beside_of, sides_of, view_of}, Seen.{IsSeenBy}}
 
 -- the log behind the step is the log before it with its events

@@ -5,9 +5,8 @@ ghost use Rattle.plain_board.specs.{Board.{stand_of, sides_of, view_of, beside_o
 use crate::logged::Logged;
 use crate::{Others, PlainBoard};
 use board_face::{AppFace, Held, Loan, Own, Polled};
-use run_records::Event;
 use std::marker::Model;
-use zr_kinds::{Place, Rqe};
+use zr_kinds::{Event, Place, Rqe};
 
 /// The board in the hands of an application.
 #[derive(Drop)]

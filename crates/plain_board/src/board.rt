@@ -1,17 +1,16 @@
 ghost use Rattle.std.specs.Prelude.{◌≡◌, ◌<◌, ◌≤◌, All, IfOk};
-ghost use Rattle.run_records.specs.Setting.{most_events};
+ghost use Rattle.zr_kinds.specs.Setting.{most_events};
 ghost use Rattle.area_layout.specs.Layout.{pool_buffers};
 ghost use Rattle.plain_board.specs.{Board.{new_board, stand_of, sides_of}, Finish.{IsBoardOver, free_buffers_of, IsEachOnce, HasNoCounts, IsServed}, Recorded.{IsRecorded}, Sound.{IsSound}};
 
 use crate::contents::Contents;
+use crate::log::EventLog;
 use crate::logged::Logged;
 use crate::{PlainApp, PlainNic};
 use area_layout::Layout;
-use event_log::EventLog;
-use run_records::Log;
 use std::alloc::{AllocError, Global};
 use std::marker::Model;
-use zr_kinds::Ended;
+use zr_kinds::{Ended, Log};
 
 /// A board for one thread: counts, rings and free buffers in plain arrays, and a log of its events. All its memory is taken
 /// at opening. It stands behind a pointer, since it goes into a role's hands for each turn, and back.

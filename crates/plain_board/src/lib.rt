@@ -1,6 +1,8 @@
-//! The board for one thread: counts, rings and free buffers in plain arrays. The card and each application reach it
-//! through a part that holds the whole board and gives it back. A board logs what happens to the holders of its buffers, as
-//! far as its log has room.
+//! The board for one thread: counts, rings and free buffers in plain arrays. The card and each application reach it through
+//! a part that holds the whole board and gives it back. A board logs what happens to the holders of its buffers, as far as
+//! its log has room: an `EventLog` takes its memory as it is opened, and closes for good at the first event for which it
+//! has no room. What a log keeps true of a board's sides is `IsLogged`, whether it is whole or not. Begin with `board.rt`
+//! and `contents.rt`.
 #![tactic(auto)]
 
 mod app;
@@ -18,6 +20,8 @@ mod contents;
 mod counts;
 mod finish;
 mod laws;
+mod log;
+mod log_laws;
 mod logged;
 mod nic;
 mod others;
@@ -26,5 +30,9 @@ mod readers;
 pub use app::PlainApp;
 pub use board::PlainBoard;
 pub use laws::{boards_end_well, lent_texts_stand, users_are_loans};
+pub use log::EventLog;
+pub use log_laws::{
+    ended, fills, first_events, one_side, opened, scrubbed, setting, sound, steps, told,
+};
 pub use nic::PlainNic;
 pub use others::{Applications, Others};

@@ -1,11 +1,11 @@
 ghost use Rattle.std.specs.Prelude.{◌≡◌, ◌<◌};
 ghost use Rattle.area_layout.specs.Layout.{all_buffers};
 ghost use Rattle.board_face.specs.Laws.{AllSides, Scrubs};
-ghost use Rattle.event_log.specs.ScrubLaw.{scrub_logged};
+ghost use Rattle.plain_board.specs.ScrubLaw.{scrub_logged};
 
 use crate::contents::Contents;
-use event_log::EventLog;
-use run_records::Event;
+use crate::log::EventLog;
+use zr_kinds::Event;
 
 /// A board's contents, and the log of its events. Each call of a face logs its own.
 #[derive(Drop)]

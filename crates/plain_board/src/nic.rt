@@ -6,9 +6,8 @@ ghost use Rattle.plain_board.specs.{Board.{stand_of, sides_of, applications_of},
 use crate::logged::Logged;
 use crate::{Applications, PlainBoard};
 use board_face::{Entry, NicFace, Own, Piece};
-use run_records::Event;
 use std::marker::Model;
-use zr_kinds::Note;
+use zr_kinds::{Event, Note};
 
 /// The board in the card's hands.
 #[derive(Drop)]

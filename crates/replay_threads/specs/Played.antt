@@ -5,7 +5,7 @@ use Rattle.flow_queues.specs.Ends.{AppEnd}
 use Rattle.card_feed.specs.{Feed.{FeedState, IsFeedReady, fault_of_stage, new_feed}, Plan.{layout_of}, declared.plan.Plan.{Plan}}
 use Rattle.run_account.specs.{Ran.{HasReadOn, RanBeside, Told}, Running.{HasRun}, Views.{Ends, Streams, ends_at}}
 use Rattle.word_board.specs.{Board.{TheBoard, TheDesk, card_of_seat, new_desk}, Desk.{AllAreBack}}
-use Rattle.app_lanes.specs.{Seated.{AreStarts}, declared.seated.Start.{Start}}
+use Rattle.replay_threads.specs.{Seated.{AreStarts}, declared.seated.Start.{Start}}
 
 -- The board is the plan's, and its desk gave nothing.
 pub record IsOpenedFor (plan : Plan) (board : TheBoard) (desk : TheDesk) : Type 0 where

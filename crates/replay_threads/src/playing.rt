@@ -1,12 +1,16 @@
 //! All turns of a run: the reading and the roles side by side, and rounds for what is left.
 ghost use Rattle.std.specs.Prelude.{◌≡◌, true, All, IsTrue};
 ghost use Rattle.card_feed.specs.Feed.{IsFeedReady};
-ghost use Rattle.capture_beside.specs.{Cards.{CardGoes}, Reader.{ReaderGoes}};
-ghost use Rattle.app_lanes.specs.Lanes.{AllGo};
+ghost use Rattle.replay_threads.specs.{Cards.{CardGoes}, Reader.{ReaderGoes}, Lanes.{AllGo}};
 
-use app_lanes::{Sits, have_left, lanes_go_on, round, run_lanes};
-use capture_beside::{CardLane, Pace, Reader, Went, join_reading, paced_turn, read_turn};
-use run_loops::{Gate, Loops};
+use crate::card::{CardLane, Went, paced_turn};
+use crate::joining::join_reading;
+use crate::lane::{have_left, lanes_go_on, round, run_lanes};
+use crate::pace::Pace;
+use crate::reader::Reader;
+use crate::reading::read_turn;
+use crate::sits::Sits;
+use run_account::{Gate, Loops};
 use std::sync::Wait;
 use std::thread::{Threads, available_parallelism, join_mut};
 use zr_io::Source;

@@ -2,18 +2,20 @@
 ghost use Rattle.std.specs.Prelude.{◌≡◌, ◌≤◌, [], length, map, vec_len, vec_capacity, IfOk, OnErr};
 ghost use Rattle.card_feed.specs.Plan.{IsPlan};
 ghost use Rattle.run_account.specs.{Ran.{LacksMemoryBeside, told_of}, Views.{ends_at, streams}};
-ghost use Rattle.replay_threads.specs.Played.{BeginWith, HasPlayed, IsOpenedFor, RanByThreads};
-ghost use Rattle.capture_beside.specs.Reader.{IsReaderOpened};
-ghost use Rattle.app_lanes.specs.Seated.{left_end};
+ghost use Rattle.replay_threads.specs.{Played.{BeginWith, HasPlayed, IsOpenedFor, RanByThreads}, Reader.{IsReaderOpened}, Seated.{left_end}};
 
+use crate::card::CardLane;
+use crate::dropping::drop_rest;
+use crate::lane::Lane;
 use crate::moving::move_last;
 use crate::playing::play;
-use app_lanes::{Lane, Left, Start, close_lanes, new_starts, open_lanes};
+use crate::reading::{Opened, open_reading};
+use crate::seated::{Left, Start};
+use crate::seating::{close_lanes, open_lanes};
+use crate::starting::new_starts;
 use area_layout::Layout;
-use capture_beside::{CardLane, Opened, drop_rest, open_reading};
 use card_feed::{Feed, Outcome, Plan, new_feeds_stand};
-use run_account::{runs_are_told, runs_end_well, tell};
-use run_loops::Gate;
+use run_account::{Gate, Gate, runs_are_told, runs_end_well, tell};
 use std::alloc::{AllocError, Global};
 use std::collections::hash_map::RandomState;
 use std::sync::Wait;

@@ -1,6 +1,6 @@
 -- The log of a run's board.
 use Rattle.std.specs.Prelude.{◌≡◌, ℕ, if◌then◌else◌}
-use Rattle.run_records.specs.Setting.{most_events}
+use Rattle.zr_kinds.specs.Setting.{most_events}
 use Rattle.plain_board.specs.{Board.{Board, sides_of, stand_of}, Recorded.{IsRecorded}, Sound.{IsSound}}
 use Rattle.card_feed.specs.declared.plan.Plan.{Plan}
 

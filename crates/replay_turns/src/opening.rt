@@ -1,7 +1,7 @@
 //! How a run begins.
 
 ghost use Rattle.std.specs.Prelude.{◌≡◌, ℕ, ◌≤◌, length, IfOk};
-ghost use Rattle.run_records.specs.Setting.{most_events};
+ghost use Rattle.zr_kinds.specs.Setting.{most_events};
 ghost use Rattle.card_feed.specs.Plan.{IsPlan, TakesTurns};
 ghost use Rattle.run_account.specs.Views.{streams};
 ghost use Rattle.replay_turns.specs.{Events.{log_room_of}, Following.{IsNewRun}, Running.{BeginsWith, RunFits}};
@@ -9,7 +9,7 @@ ghost use Rattle.replay_turns.specs.{Events.{log_room_of}, Following.{IsNewRun},
 use card_feed::{Feed, Plan, new_feeds_stand};
 use plain_board::PlainBoard;
 use run_account::{Run, new_workers};
-use run_records::MOST_EVENTS;
+use zr_kinds::MOST_EVENTS;
 use std::alloc::{AllocError, Global};
 use std::collections::hash_map::RandomState;
 use zr_io::{Shelf, Source};

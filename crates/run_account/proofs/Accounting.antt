@@ -4,14 +4,13 @@ use Rattle.std.proofs.lemmas.{List.Elements.{All-filter}, Option.{slice_get_with
 use Rattle.zr_kinds.specs.declared.outcome.AppLine.{AppLine}
 use Rattle.zr_io.specs.Moved.{Gained}
 use Rattle.flow_table.specs.{Steered.{SteeredTcp}, Flows.{flows_of}}
-use Rattle.frames_read.specs.Ending.{steered_in}
+use Rattle.card_feed.specs.{Ending.{steered_in}, Account.{offered_to, AppAccounts, AccountsFor, IsFlowRead}, Feed.{FeedState}, Sent.{IsOfOwnFlow}, Plan.{how_of}}
 use Rattle.board_face.specs.{Blank.{blank_app}, Ended.{HaveEnded, IsServed}, Sides.{IsApp, side_in}, Holders.{sent_to}}
 use Rattle.board_face.specs.{Relay.{as_taken, IsAsSent, IsProper, HasNoLoanStray}, declared.views.{nic.NicSide.{NicSide}, app.AppSide.{AppSide}}}
 use Rattle.board_face.proofs.SideLemmas.{IsApp-at}
 use Rattle.page_pool.specs.Frames.{ShowFrames}
 use Rattle.app_worker.specs.Marks.{FramesStandTogether, marks_of}
 use Rattle.flow_queues.specs.{Ends.{AppEnd, HasLeft}, Returned.{HasReturned}}
-use Rattle.card_feed.specs.{Account.{offered_to, AppAccounts, AccountsFor, IsFlowRead}, Feed.{FeedState}, Sent.{IsOfOwnFlow}, Plan.{how_of}}
 use Rattle.card_feed.{specs.declared.plan.Plan.{Plan}, proofs.{Sharing.{closed_show}, SentNotes.{notes-whole, notes-own}, OwnFlows.{own-marks}, OfFlow.{there}}}
 use Rattle.run_account.{specs.{Ran.{app_line_of, app_lines_of}, Running.{HasRun}, Views.{Ends, Streams, counts_at, kept_at}}, proofs.{AppLines.{one-value, line-at, many-lines}, Gone.{side-at, many-sides}}}
 use Rattle.run_account.proofs.OwnReads.{flow-read, no-flow-read}

@@ -7,7 +7,7 @@ use Rattle.zr_kinds.specs.{Limits.{most_records}, declared.outcome.{AppLine.{App
 use Rattle.zr_kinds.specs.declared.behaviour.Stopped.TheVariants as stop
 use Rattle.zr_io.specs.Moved.{Gained}
 use Rattle.flow_table.specs.{Flows.{Flow, flows_of}, Stream.{stream_of}}
-use Rattle.frames_read.specs.{Ending.{steered_in}, Reading.{HasEnded}}
+use Rattle.card_feed.specs.{Ending.{steered_in}, FramesRead.{HasEnded}}
 use Rattle.board_face.specs.{Ended.{HaveEnded}, Sides.{IsApp, side_in}, declared.views.{nic.NicSide.{NicSide}, app.AppSide.{AppSide}}}
 use Rattle.page_pool.specs.Pool.{all_notes}
 use Rattle.flow_queues.specs.Ends.{AppEnd, IsCounted, IsTorn, bytes_written_of}

@@ -3,8 +3,7 @@ use Rattle.std.{proofs.Common.{◌≡◌, ◌≢◌, ℕ, zero, suc, List, [], �
 use Rattle.std.{specs.List.{slice_get, IsDistinct, AllByRecursion}, proofs.lemmas.{Bool.{eq-eqb, eqb-true, ne_eqb, cases_eq, true≢false}, Option.{slice_get-get_or}}}
 use Rattle.std.proofs.lemmas.List.Quantifiers.{position-Some}
 use Rattle.flow_table.{specs.{Steered.{SteeredTcp, app_of}, Flows.{Flow, flows_of, flows_with, flows_after}}, proofs.FlowLaws.{HaveApps, flows_with-apps}}
-use Rattle.frames_read.specs.Ending.{steered_in}
-use Rattle.card_feed.proofs.OfFlow.{AreSteered, are-steered}
+use Rattle.card_feed.{specs.Ending.{steered_in}, proofs.OfFlow.{AreSteered, are-steered}}
 
 all-other : (port : ℕ) (ports : List ℕ) (b : ℕ) → AllByRecursion (λ p. nat_eq port p ≡ false) ports → slice_get ports b ≡ Some port → ⊥
 all-other port [] b all at = absurd (cc)

@@ -5,12 +5,11 @@ use Rattle.std.{specs.Prelude.{All, filter, if◌then◌else◌, option_to_list}
 use Rattle.zr_kinds.specs.Limits.{most_records, longest_payload}
 use Rattle.frame_headers.specs.{FrameClass.{TcpSegment, class_of}, Seen.{segment_of}}
 use Rattle.flow_table.specs.{Flows.{Flow, flows_with}, Steered.{SteeredTcp, steer, steered_from, steered_of, segments_of}}
-use Rattle.frames_read.specs.Ending.{steered_in}
+use Rattle.card_feed.specs.{Ending.{steered_in}, Feed.{FeedState, FeedStands}, Offered.{AreSettled, Awaits, has_payload, offered_after, offers_of, offers_without}}
 use Rattle.board_face.specs.{Relay.{IsProper, as_taken}, declared.views.nic.{NicView.{NicView}, SentNote.{SentNote}}}
 use Rattle.page_pool.specs.Frames.{Offered}
 use Rattle.app_worker.specs.Core.{total}
 use Rattle.flow_queues.specs.Totals.{taken_len}
-use Rattle.card_feed.specs.{Feed.{FeedState, FeedStands}, Offered.{AreSettled, Awaits, has_payload, offered_after, offers_of, offers_without}}
 use Rattle.run_account.proofs.NoteSums.{note_len, AreFew, frames-few}
 
 -- ---- frames

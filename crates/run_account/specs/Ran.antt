@@ -7,7 +7,7 @@ use Rattle.zr_kinds.specs.declared.outcome.{AppLine.{AppLine}, FlowLine.{FlowLin
 use Rattle.zr_kinds.specs.declared.behaviour.Stopped.TheVariants as stop
 use Rattle.zr_io.specs.Moved.{Gained, Rose, ShelfCounts, Took, raised_by}
 use Rattle.flow_table.specs.{Flows.{Flow, flows_of}, Stream.{stream_of}}
-use Rattle.frames_read.specs.{Ending.{steered_in}, Reading.{HasEnded}, Tally.{tally_of}}
+use Rattle.card_feed.specs.{Ending.{steered_in}, FramesRead.{HasEnded}, Tally.{tally_of}}
 use Rattle.board_face.specs.{Ended.{HaveEnded}, Sides.{side_in}, declared.views.{nic.{NicSide.{NicSide}, NicView.{NicView}}, app.{AppSide.{AppSide}, AppView.{AppView}}}}
 use Rattle.flow_queues.specs.{Ends.{AppEnd, IsTorn, bytes_written_of}, Totals.{Quits}}
 use Rattle.card_feed.specs.{Account.{AccountsFor}, Feed.{FeedState, fault_of_stage}, Counts.{begins_fresh, found_in, long_in, searches_in, sweeping_in, sweeps_in}}

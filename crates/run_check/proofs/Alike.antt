@@ -2,11 +2,11 @@
 use Rattle.std.proofs.Common.{◌≡◌, ◌∙◌, ℕ, ◌+◌, ◌++◌, ◌≤◌, ◌-◌, List, [], ◌∷◌, length, eqb, ltb, Bool, true, false, not, ◌&&◌, ◌||◌}
 use Rattle.std.{proofs.Common.{Option, Some, None, refl, sym, ap, subst, arith, ⊎_elim}, specs.Prelude.{filter, ◌==◌, ◌%◌, option_map, option_and_then}}
 use Rattle.std.{specs.List.{list_any, list_all}, proofs.{lemmas.Bool.{cases_Bool, eqb-true}, Common.{length-append}}}
-use Rattle.run_records.specs.{declared.{event.Event.{Event}, holding.Holding.{Holding}}, Setting.{Setting}}
-use Rattle.run_records.specs.Holders.{Holdings, after, after_at, becomes, buffer_of_event, changed, has_counts, is_apart, is_in_range, is_same, is_pool_buffer, is_pool_count, is_reserve_of}
-use Rattle.run_records.{specs.Holders.{is_user, is_user_count, only_if, with_holders}, proofs.Weighing.{some_becomes, weight-length}}
-use Rattle.run_records.specs.declared.event.Event.TheVariants as event
-use Rattle.run_records.specs.declared.holding.Holding.TheVariants as holding
+use Rattle.zr_kinds.specs.{declared.{event.Event.{Event}, holding.Holding.{Holding}}, Setting.{Setting}}
+use Rattle.zr_kinds.specs.Holders.{Holdings, after, after_at, becomes, buffer_of_event, changed, has_counts, is_apart, is_in_range, is_same, is_pool_buffer, is_pool_count, is_reserve_of}
+use Rattle.zr_kinds.{specs.Holders.{is_user, is_user_count, only_if, with_holders}, proofs.Weighing.{some_becomes, weight-length}}
+use Rattle.zr_kinds.specs.declared.event.Event.TheVariants as event
+use Rattle.zr_kinds.specs.declared.holding.Holding.TheVariants as holding
 use Rattle.run_check.specs.Holding.{SameHolders, SameHoldings, can_place}
 use Rattle.run_check.proofs.Weighing.{all-same, any-same, count-same, filter-same, length-same, none_becomes, same-append}
 

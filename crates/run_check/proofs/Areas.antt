@@ -1,7 +1,7 @@
 -- What is tested of areas.
 use Rattle.std.{proofs.Common.{ℕ, ◌<◌, ◌≤◌, List, length, All, Bool, true, false, IsTrue, arith, refl, suc, [], ◌∷◌, if◌then◌else◌, ltb, ◌-◌}, specs.Bool.{MatchBool}}
 use Rattle.std.specs.List.{AllWithin, HoldsAt}
-use Rattle.run_records.specs.Setting.{IsRunArea, first_size, size_among, size_of_buffer}
+use Rattle.zr_kinds.specs.Setting.{IsRunArea, first_size, size_among, size_of_buffer}
 
 pub each_from_cases : (r : Bool) (areas : List (ℕ × ℕ))
     → MatchBool r (AllWithin IsRunArea areas 0 (length areas)) ((k : ℕ) × (k < length areas) × HoldsAt (λ area. IsRunArea area → ⊥) areas k)

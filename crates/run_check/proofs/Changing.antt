@@ -3,9 +3,9 @@ use Rattle.std.proofs.Common.{◌≡◌, ◌∙◌, ℕ, ◌+◌, ◌-◌, ◌*�
 use Rattle.std.proofs.{Common.{◌&&◌, Option, Some, refl, sym, ap, subst, arith, ⊎_elim, length-append, get_or-set_same}, lemmas.List.{nil_from_length, length-set}}
 use Rattle.std.specs.{Ordering.{nat_cmp}, Map.{lookup, remove_entry}, BTreeMap.{BTreeMap, insert_entry, is_at}, List.{list_any, list_all}, Prelude.{filter, ◌==◌, ◌%◌}}
 use Rattle.std.proofs.lemmas.Bool.{and_parts, cases_Bool, eq-eqb, le-ltb, lt-ltb, ltb-true}
-use Rattle.run_records.specs.{declared.holding.Holding.{Holding}, Holders.{becomes, is_apart, is_same, is_user, only_if}}
-use Rattle.run_records.proofs.Weighing.{Moves, one_if, weight-append, weight-count, weight-length}
-use Rattle.run_records.specs.declared.holding.Holding.TheVariants as holding
+use Rattle.zr_kinds.specs.{declared.holding.Holding.{Holding}, Holders.{becomes, is_apart, is_same, is_user, only_if}}
+use Rattle.zr_kinds.proofs.Weighing.{Moves, one_if, weight-append, weight-count, weight-length}
+use Rattle.zr_kinds.specs.declared.holding.Holding.TheVariants as holding
 use Rattle.run_check.specs.declared.{buffer.{Buffer.TheInside.{Inside}, Keeper.{Keeper}}, places.{Hand.{Hand}, OwnedPlace.{OwnedPlace}}}
 use Rattle.run_check.specs.{Holding.{Changes, can_place, weight}, Places.{ArePlacesApart, IsNoLoan, all_placed, held_by}}
 use Rattle.run_check.specs.Buffer.{IsSoundBuffer, LeavesNoPlace, holders_in, kept_by_keeper, owed_from}

@@ -1,7 +1,7 @@
 -- What is read of a line, byte by byte.
 use Rattle.std.proofs.Common.{◌≡◌, ℕ, ◌<◌, ◌∙◌, List, [], ◌∷◌, ◌++◌, length, get_or, Option, Some, None, IfSome, sym, ap, append-nil, length-append, arith, ⊎_elim}
 use Rattle.std.{proofs.{lemmas.{Bool.{cases_lt}, List.{get_or_append_left}}, Math.Seq.{get_or-append_seam}}, specs.Io.KnownBytes.{Consumes, IsAtEnd}}
-use Rattle.run_records.specs.RunText.{RecordText}
+use Rattle.zr_kinds.specs.RunText.{RecordText}
 use Rattle.run_check.specs.Coming.{IsOneLine, HasNoLine}
 
 -- so many bytes of a line were read, of what was ahead at first

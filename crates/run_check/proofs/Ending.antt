@@ -1,8 +1,8 @@
 -- How the reading of a record's lines goes on and ends.
 use Rattle.std.proofs.Common.{◌≡◌, ◌∙◌, ℕ, ◌+◌, ◌++◌, ◌≤◌, List, [], ◌∷◌, length, map, All, Bool, true, false, refl, sym, ap, subst, arith, ◌⊎◌, ⊎_elim}
 use Rattle.std.proofs.Common.{Some, None, IsTrue, append_assoc, append-nil, length-append, zero, suc}
-use Rattle.run_records.specs.{declared.event.Event.{Event}, Setting.{most_events, IsRunArea, IsSetting, Setting}, Holders.{Holdings, after, all_after, no_holdings}}
-use Rattle.run_records.{specs.{LegalRun.{IsLegalRun}, RunText.{RecordText, last_line, line_of, run_line, text_of_lines}}, proofs.Following.{all_after-more, small-more}}
+use Rattle.zr_kinds.specs.{declared.event.Event.{Event}, Setting.{most_events, IsRunArea, IsSetting, Setting}, Holders.{Holdings, after, all_after, no_holdings}}
+use Rattle.zr_kinds.{specs.{LegalRun.{IsLegalRun}, RunText.{RecordText, last_line, line_of, run_line, text_of_lines}}, proofs.Following.{all_after-more, small-more}}
 use Rattle.run_check.specs.{declared.checking.Checked.TheVariants.{Yes, No}, Coming.{HasNoLine, IsOneLine}, Judged.{BeginARun, IsWhy, Judges}, Reading.{event_of}, Unfit.{IsUnfit}}
 use Rattle.run_check.specs.declared.unfit.Unfit.{Unfit}
 use Rattle.run_check.specs.declared.unfit.Unfit.TheVariants as unfit

@@ -2,9 +2,9 @@
 use Rattle.std.proofs.Common.{◌≡◌, ◌∙◌, ℕ, zero, suc, ◌+◌, ◌++◌, ◌<◌, ◌≤◌, List, [], ◌∷◌, length, set, get_or, Bool, true, false}
 use Rattle.std.proofs.{Common.{Some, None, refl, sym, ap, arith, IsTrue, ⊎_elim}, lemmas.List.{get_or_default, get_or-set_same, get_or-set_other, nil_from_length}}
 use Rattle.std.{specs.{Bool.{MatchBool}, List.{AllWithin, HoldsAt}}, proofs.lemmas.Bool.{cases_eq, eq-eqb, ne_eqb, Decides.{nat_tests}}}
-use Rattle.run_records.specs.{declared.{holding.Holding.{Holding}, event.Event.{Event}}, Setting.{IsSetting, Setting, total_buffers}}
-use Rattle.run_records.specs.{Holders.{Holdings, after, buffer_of_event, changed, has_counts, is_in_range, only_if, with_holders}, EventFields.{bytes_of_event}}
-use Rattle.run_records.specs.declared.event.Event.TheVariants as event
+use Rattle.zr_kinds.specs.{declared.{holding.Holding.{Holding}, event.Event.{Event}}, Setting.{IsSetting, Setting, total_buffers}}
+use Rattle.zr_kinds.specs.{Holders.{Holdings, after, buffer_of_event, changed, has_counts, is_in_range, only_if, with_holders}, EventFields.{bytes_of_event}}
+use Rattle.zr_kinds.specs.declared.event.Event.TheVariants as event
 use Rattle.run_check.{specs.Holding.{HasSmallApp, SameHolders, SameHoldings, holdings_of, weight}, proofs.Areas.{size_most}}
 
 -- ---- the holders of all buffers

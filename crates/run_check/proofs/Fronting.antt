@@ -2,12 +2,12 @@
 use Rattle.std.proofs.Common.{◌≡◌, ◌∙◌, ℕ, ◌+◌, ◌-◌, ◌++◌, List, [], ◌∷◌, length, Bool, eqb, ◌&&◌, true, false, not, Option, Some, None, refl, sym, ap, arith, ⊎_elim}
 use Rattle.std.proofs.{Common.{subst}, lemmas.{Bool.{and_parts, cases_Bool, eq-eqb, eqb-true}, List.{nil_from_length}}}
 use Rattle.std.specs.Prelude.{count_by, filter, if◌then◌else◌, option_map, option_and_then}
-use Rattle.run_records.specs.{declared.{event.Event.{Event}, holding.Holding.{Holding}}, Setting.{Setting}}
-use Rattle.run_records.specs.Holders.{Holdings, after, after_at, all_after, becomes, buffer_of_event, changed, has_counts, held_after, is_in_range, is_same, is_user}
-use Rattle.run_records.specs.Holders.{no_holdings, only_if, weight, with_holders}
-use Rattle.run_records.proofs.{Following.{some_from}, Weighing.{Moves, one_if, same-equal, weight-append, weight-count, weight-filter, weight-length}}
-use Rattle.run_records.specs.declared.event.Event.TheVariants as event
-use Rattle.run_records.specs.declared.holding.Holding.TheVariants as holding
+use Rattle.zr_kinds.specs.{declared.{event.Event.{Event}, holding.Holding.{Holding}}, Setting.{Setting}}
+use Rattle.zr_kinds.specs.Holders.{Holdings, after, after_at, all_after, becomes, buffer_of_event, changed, has_counts, held_after, is_in_range, is_same, is_user}
+use Rattle.zr_kinds.specs.Holders.{no_holdings, only_if, weight, with_holders}
+use Rattle.zr_kinds.proofs.{Following.{some_from}, Weighing.{Moves, one_if, same-equal, weight-append, weight-count, weight-filter, weight-length}}
+use Rattle.zr_kinds.specs.declared.event.Event.TheVariants as event
+use Rattle.zr_kinds.specs.declared.holding.Holding.TheVariants as holding
 use Rattle.run_check.specs.Fronts.{FrontsLaw, is_of, pool_last, pool_said, said_or, user_last, user_said, user_said_or}
 
 -- what was asked holds

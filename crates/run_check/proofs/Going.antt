@@ -1,8 +1,8 @@
 -- What may follow the lines of a run that is legal so far.
 use Rattle.std.proofs.Common.{◌≡◌, ◌∙◌, ◌+◌, ◌++◌, ◌≤◌, List, [], ◌∷◌, length, map, Bool, false, refl, sym, ap, subst, arith, ◌⊎◌, inl, inr, ⊎_elim}
 use Rattle.std.{proofs.Common.{Some, None, append_assoc, length-append}, specs.List.{AllByRecursion}}
-use Rattle.run_records.specs.{declared.event.Event.{Event}, Setting.{most_events, IsSetting, Setting}, Holders.{Holdings, after, all_after, no_holdings}}
-use Rattle.run_records.{specs.{LegalRun.{HasSmallNumbers, IsLegalRun}, RunText.{RecordText, last_line, line_of, lines_of, run_line}}, proofs.Following.{some_from}}
+use Rattle.zr_kinds.specs.{declared.event.Event.{Event}, Setting.{most_events, IsSetting, Setting}, Holders.{Holdings, after, all_after, no_holdings}}
+use Rattle.zr_kinds.{specs.{LegalRun.{HasSmallNumbers, IsLegalRun}, RunText.{RecordText, last_line, line_of, lines_of, run_line}}, proofs.Following.{some_from}}
 use Rattle.run_check.{specs.{Judged.{BeginARun}, Reading.{event_of, setting_of}}, proofs.LineText.{event_of-line_of, last_line-no_event}}
 use Rattle.run_check.proofs.SettingText.{setting_of-run_line}
 

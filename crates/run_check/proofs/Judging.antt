@@ -1,8 +1,8 @@
 -- What is said of bytes, by the lines that a legal run may have.
 use Rattle.std.proofs.Common.{◌≡◌, ◌∙◌, ℕ, ◌+◌, ◌++◌, List, [], ◌∷◌, length, map, get_or, Bool, refl, sym, ap, subst, arith}
 use Rattle.std.{proofs.{Common.{append_assoc, append-nil, length-append, suc}, lemmas.Bool.{eqb-false}}, specs.List.{AllByRecursion}}
-use Rattle.run_records.specs.{declared.event.Event.{Event}, Setting.{Setting}, Holders.{Holdings}, LegalRun.{HasSmallNumbers, IsLegalRun}}
-use Rattle.run_records.specs.RunText.{RecordText, last_line, line_of, lines_of, run_line, text_of_lines}
+use Rattle.zr_kinds.specs.{declared.event.Event.{Event}, Setting.{Setting}, Holders.{Holdings}, LegalRun.{HasSmallNumbers, IsLegalRun}}
+use Rattle.zr_kinds.specs.RunText.{RecordText, last_line, line_of, lines_of, run_line, text_of_lines}
 use Rattle.run_check.specs.{declared.checking.Checked.TheVariants.{Yes, No}, Judged.{AreOfRun, BeginARun, IsRunText, IsWhy, Judges}, Coming.{IsOneLine}}
 use Rattle.run_check.specs.declared.unfit.Unfit.{Unfit}
 use Rattle.run_check.specs.declared.unfit.Unfit.TheVariants as unfit

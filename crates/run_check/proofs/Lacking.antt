@@ -1,9 +1,9 @@
 -- What an event lacks, and that it is the same of the same holders.
 use Rattle.std.proofs.{Common.{◌≡◌, ◌∙◌, ◌<◌, ℕ, set, List, [], length, true, false, refl, sym, ap, subst, Option, Some, None}, lemmas.List.{nil_from_length}}
 use Rattle.std.specs.Prelude.{count_by}
-use Rattle.run_records.specs.{declared.{event.Event.{Event}, holding.Holding.{Holding}}, Setting.{Setting}, RunText.{RecordText, last_line}}
-use Rattle.run_records.specs.Holders.{Holdings, after, buffer_of_event, changed, has_counts, is_in_range, is_user, with_holders}
-use Rattle.run_records.specs.declared.event.Event.TheVariants as event
+use Rattle.zr_kinds.specs.{declared.{event.Event.{Event}, holding.Holding.{Holding}}, Setting.{Setting}, RunText.{RecordText, last_line}}
+use Rattle.zr_kinds.specs.Holders.{Holdings, after, buffer_of_event, changed, has_counts, is_in_range, is_user, with_holders}
+use Rattle.zr_kinds.specs.declared.event.Event.TheVariants as event
 use Rattle.run_check.specs.{declared.unfit.{Lack.{Lack}, Unfit.{Unfit}}, Holding.{Changes, HasChanged, SameHolders, SameHoldings, holdings_of}, Reading.{event_of}}
 use Rattle.run_check.specs.Unfit.{IsLack, IsNoLast, IsUnfit, IsUnfitEvent, user_count_told}
 use Rattle.run_check.specs.declared.unfit.Lack.TheVariants as lack

@@ -2,8 +2,8 @@
 use Rattle.std.proofs.Common.{◌≡◌, ◌∙◌, ℕ, ◌<◌, ◌^◌, List, [], ◌∷◌, map, Bool, true, false, refl, sym, ap, subst, rules, inl, Option, Some, None, lit<}
 use Rattle.std.specs.{Prelude.{if◌then◌else◌, option_and_then, codes}, Fmt.{decimal}, List.{AllByRecursion, join_with_byte}, Str.{bytes_eq}}
 use Rattle.std.proofs.lemmas.{Slice.Eq.{bytes_eq-Decides}, List.Splits.{join_with_byte-slice_split}}
-use Rattle.run_records.specs.{declared.event.Event.{Event}, LegalRun.{HasSmallNumbers}, RunText.{RecordText, last_line, line_of, name_of, numbers_of}}
-use Rattle.run_records.specs.declared.event.Event.TheVariants as event
+use Rattle.zr_kinds.specs.{declared.event.Event.{Event}, LegalRun.{HasSmallNumbers}, RunText.{RecordText, last_line, line_of, name_of, numbers_of}}
+use Rattle.zr_kinds.specs.declared.event.Event.TheVariants as event
 use Rattle.run_check.{specs.Reading.{all_numbers, event_by, event_from, event_of, parts_of}, proofs.Numerals.{all_numbers-decimal, decimal-all_numbers}}
 use Rattle.run_check.proofs.Parting.{Lacks, lack_decimals, lacks_from_test, lacks_joined, parts_of-joined}
 

@@ -4,7 +4,7 @@ use Rattle.std.{proofs.Common.{⊎_elim, inl, inr, arith, Some, None}, specs.{Or
 use Rattle.std.specs.{Map.{lookup, remove_entry}, BTreeMap.{insert_entry, is_at, Range.{range_contains}}, declared.ops.Bound.TheVariants.{Excluded, Unbounded}}
 use Rattle.std.{specs.List.{list_any, list_all}, proofs.lemmas.Bool.Decides.{nat_tests}}
 use Rattle.std.proofs.lemmas.Bool.{cases_Bool, cases_lt, cases_eq, eq-eqb, ne_eqb, le-leb, lt-leb, leb-true, lt-ltb, le-ltb, and_parts}
-use Rattle.run_records.specs.{declared.holding.Holding.{Holding}, Holders.{is_apart, is_same}}
+use Rattle.zr_kinds.specs.{declared.holding.Holding.{Holding}, Holders.{is_apart, is_same}}
 use Rattle.run_check.specs.{declared.places.{Hand.{Hand}, OwnedPlace.{OwnedPlace}}, Holding.{weight}, Places.{ArePlacesApart, all_placed, held_by, is_same_hand}}
 use Rattle.run_check.specs.Places.{placed_holding}
 use Rattle.run_check.specs.declared.places.Hand.TheVariants as hand

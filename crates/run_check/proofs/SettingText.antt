@@ -2,7 +2,7 @@
 use Rattle.std.proofs.Common.{◌≡◌, ◌∙◌, ℕ, ◌<◌, ◌≤◌, ◌^◌, List, [], ◌∷◌, length, map, All, Bool, true, false, refl, sym, ap, arith, rules, inl, inr, suc}
 use Rattle.std.{proofs.Common.{Option, Some, None, option_map, lit<}, specs.{Prelude.{◌==◌, if◌then◌else◌, option_and_then, codes}, Fmt.{decimal}}}
 use Rattle.std.{specs.{List.{AllByRecursion, join_with_byte}, Str.{bytes_eq}}, proofs.lemmas.{Slice.Eq.{bytes_eq-Decides}, List.Splits.{join_with_byte-slice_split}}}
-use Rattle.run_records.specs.{Setting.{IsRunArea, IsSetting, Setting}, RunText.{RecordText, area_text, run_line}}
+use Rattle.zr_kinds.specs.{Setting.{IsRunArea, IsSetting, Setting}, RunText.{RecordText, area_text, run_line}}
 use Rattle.run_check.specs.Reading.{all_run_areas, all_of, area_by, area_in_line, number_in_word, parts_of, setting_by, setting_from, setting_of}
 use Rattle.run_check.proofs.AllOf.{first_and_rest}
 use Rattle.run_check.proofs.{Numerals.{decimal-number_of, number_of-decimal}, Parting.{Lacks, lacks_decimal, lacks_from_test, lacks_joined, parts_of-joined}}

@@ -1,9 +1,9 @@
 -- The lines of a run are short.
 use Rattle.std.proofs.Common.{◌≡◌, ℕ, ◌+◌, ◌*◌, ◌++◌, ◌<◌, ◌≤◌, ◌^◌, List, [], ◌∷◌, length, map, All, Bool, true, false, refl, ap, arith, lit<, length-append, suc}
 use Rattle.std.{specs.{Prelude.{codes}, Fmt.{decimal}, List.{AllByRecursion, join_with_byte}}, proofs.lemmas.Fmt.{length-decimal-le}}
-use Rattle.run_records.specs.{declared.event.Event.{Event}, Setting.{IsRunArea, IsSetting, Setting}, LegalRun.{HasSmallNumbers}}
-use Rattle.run_records.specs.RunText.{RecordText, area_text, last_line, line_of, name_of, numbers_of, run_line}
-use Rattle.run_records.specs.declared.event.Event.TheVariants as event
+use Rattle.zr_kinds.specs.{declared.event.Event.{Event}, Setting.{IsRunArea, IsSetting, Setting}, LegalRun.{HasSmallNumbers}}
+use Rattle.zr_kinds.specs.RunText.{RecordText, area_text, last_line, line_of, name_of, numbers_of, run_line}
+use Rattle.zr_kinds.specs.declared.event.Event.TheVariants as event
 use Rattle.run_check.proofs.Numerals.{AreSmall}
 
 joined_short : (byte most : ℕ) (word : RecordText) (words : List RecordText) → AllByRecursion (λ w. length w ≤ most) words

@@ -2,8 +2,8 @@
 use Rattle.std.proofs.Common.{◌≡◌, ◌∙◌, ℕ, ◌+◌, ◌++◌, ◌≤◌, List, [], ◌∷◌, length, Bool, true, false, refl, sym, ap, subst, arith, ◌⊎◌, ⊎_elim, inl, inr, Option, Some, None, Result, Ok, Err, IsTrue, IfSome, IfOk, rules}
 use Rattle.std.{specs.{Str.{bytes_eq}, Prelude.{codes}, Io.KnownBytes.{Consumes}}, proofs.{lemmas.Slice.Eq.{bytes_eq-Decides}, Common.{append_assoc, append-nil}}}
 use Rattle.std.proofs.lemmas.List.{nil_from_length}
-use Rattle.run_records.specs.{declared.event.Event.{Event}, Setting.{most_events, IsSetting, Setting}, Holders.{Holdings, after, no_holdings}}
-use Rattle.run_records.specs.RunText.{RecordText, last_line, run_line}
+use Rattle.zr_kinds.specs.{declared.event.Event.{Event}, Setting.{most_events, IsSetting, Setting}, Holders.{Holdings, after, no_holdings}}
+use Rattle.zr_kinds.specs.RunText.{RecordText, last_line, run_line}
 use Rattle.run_check.specs.{declared.checking.Checked.{Checked, TheVariants.{Yes, No}}, Coming.{HasNoLine, IsOneLine, ahead}}
 use Rattle.run_check.{specs.{Holding.{EndsRecord, LineChanges, SameHoldings, weight}, Unfit.{IsUnfit}, declared.unfit.Unfit.{Unfit}}, proofs.Alike.{after_some}}
 use Rattle.run_check.specs.declared.unfit.Unfit.TheVariants as unfit

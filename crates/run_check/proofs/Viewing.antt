@@ -2,9 +2,9 @@
 use Rattle.std.proofs.Common.{◌≡◌, ◌∙◌, ℕ, zero, suc, ◌+◌, ◌-◌, ◌*◌, ◌++◌, ◌<◌, ◌≤◌, List, [], ◌∷◌, length, if◌then◌else◌, eqb, ltb, get_or, set, replicate, Bool, true, false}
 use Rattle.std.{proofs.Common.{◌||◌, ◌&&◌, Option, Some, None, refl, sym, ap, subst, arith, ⊎_elim, get_or-set_same, get_or-set_other}, specs.Ordering.{nat_cmp}}
 use Rattle.std.{specs.{Map.{lookup}, BTreeMap.{is_at}, List.{list_any}}, proofs.lemmas.Bool.{and_parts, cases_eq, eq-eqb, eqb-true, ne_eqb}}
-use Rattle.run_records.specs.{declared.holding.Holding.{Holding}, Holders.{is_same, is_user}}
-use Rattle.run_records.proofs.Weighing.{Moves, one_if, weight-append, weight-count, weight-length}
-use Rattle.run_records.specs.declared.holding.Holding.TheVariants as holding
+use Rattle.zr_kinds.specs.{declared.holding.Holding.{Holding}, Holders.{is_same, is_user}}
+use Rattle.zr_kinds.proofs.Weighing.{Moves, one_if, weight-append, weight-count, weight-length}
+use Rattle.zr_kinds.specs.declared.holding.Holding.TheVariants as holding
 use Rattle.run_check.specs.{declared.{buffer.Keeper.{Keeper}, places.{Hand.{Hand}, OwnedPlace.{OwnedPlace}}}, Holding.{weight}}
 use Rattle.run_check.specs.{Places.{ArePlacesApart, all_placed, held_by, is_same_hand}, Buffer.{AreHoldersCounted, LeavesNoPlace, kept_by_keeper, owed_from}}
 use Rattle.run_check.proofs.{Placing.{none_there, one_there, place_is}, Weighing.{any-append, any-replicate, weight-replicate}}

@@ -2,8 +2,8 @@
 use Rattle.std.proofs.Common.{◌≡◌, ◌∙◌, ℕ, zero, suc, ◌+◌, ◌*◌, ◌++◌, ◌≤◌, List, [], ◌∷◌, length, if◌then◌else◌, ltb, Bool, true, false, not, ◌||◌, ◌&&◌}
 use Rattle.std.{proofs.Common.{None, refl, sym, ap, arith, ⊎_elim, replicate}, specs.{Prelude.{filter, count_by}, List.{list_any, list_all}}}
 use Rattle.std.proofs.lemmas.Bool.{cases_Bool, lt-ltb}
-use Rattle.run_records.specs.{declared.holding.Holding.{Holding}, Holders.{becomes, is_same, weight}}
-use Rattle.run_records.proofs.Weighing.{Moves, one_if, some_becomes, weight-append, weight-count, weight-filter, weight-length}
+use Rattle.zr_kinds.specs.{declared.holding.Holding.{Holding}, Holders.{becomes, is_same, weight}}
+use Rattle.zr_kinds.proofs.Weighing.{Moves, one_if, some_becomes, weight-append, weight-count, weight-filter, weight-length}
 use Rattle.run_check.specs.Holding.{Changes, SameHolders}
 
 pub weight-replicate : (f : Holding → ℕ) (n : ℕ) (h : Holding) → weight f (replicate n h) ≡ n * f h

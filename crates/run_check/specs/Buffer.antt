@@ -1,7 +1,7 @@
 -- The holders of a buffer, as the code keeps them.
 use Rattle.std.specs.Prelude.{◌≡◌, ℕ, ◌+◌, ◌<◌, List, [], ◌∷◌, ◌++◌, length, count_by, slice_index, replicate}
-use Rattle.run_records.specs.{declared.holding.Holding.{Holding}, Holders.{is_user}}
-use Rattle.run_records.specs.declared.holding.Holding.TheVariants as holding
+use Rattle.zr_kinds.specs.{declared.holding.Holding.{Holding}, Holders.{is_user}}
+use Rattle.zr_kinds.specs.declared.holding.Holding.TheVariants as holding
 use Rattle.run_check.specs.{declared.{buffer.{Keeper.{Keeper}, Buffer.TheInside.{Inside}}, places.OwnedPlace.{OwnedPlace}}, Places.{ArePlacesApart, all_placed}}
 use Rattle.run_check.specs.declared.buffer.Keeper.TheVariants as keeper
 

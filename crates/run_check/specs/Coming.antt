@@ -1,7 +1,7 @@
 -- What is still to come of a source's bytes, byte by byte and line by line.
 use Rattle.std.specs.Prelude.{◌≡◌, ◌≢◌, ℕ, ◌<◌, Bool, true, false, List, [], ◌∷◌, ◌++◌, length, All, Option, Some, None, option_map, IfSome}
 use Rattle.std.specs.Io.KnownBytes.{Consumes, IsAtEnd}
-use Rattle.run_records.specs.RunText.{RecordText}
+use Rattle.zr_kinds.specs.RunText.{RecordText}
 
 -- the bytes that were read and wait, and then those that the source has left, where it tells them
 abbrev pub ahead : List ℕ → Option (List ℕ) → Option (List ℕ)

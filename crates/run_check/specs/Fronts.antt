@@ -1,8 +1,7 @@
 -- What each front of a legal record says of the holders.
 use Rattle.std.specs.Prelude.{◌≡◌, ℕ, ◌==◌, if◌then◌else◌, Bool, false, List, [], ◌∷◌, ◌++◌, length, count_by, Option, Some, None}
-use Rattle.run_records.specs.{declared.event.Event.{Event}, Setting.{Setting}, LegalRun.{IsLegalRun}, Holders.{Holdings, all_after, buffer_of_event, is_user}}
-use Rattle.run_records.specs.Holders.{no_holdings}
-use Rattle.run_records.specs.declared.event.Event.TheVariants as event
+use Rattle.zr_kinds.specs.{declared.event.Event.{Event}, Setting.{Setting}, LegalRun.{IsLegalRun}, Holders.{Holdings, all_after, buffer_of_event, is_user, no_holdings}}
+use Rattle.zr_kinds.specs.declared.event.Event.TheVariants as event
 
 -- the pool count that an event says
 abbrev pub pool_said : Event → Option ℕ

@@ -1,13 +1,13 @@
 -- What the code keeps of the holders, and how it changes them.
 use Rattle.std.specs.{Prelude.{◌≡◌, ℕ, Bool, true, false, List, [], Option, Some, None, slice_index_or, nat_lt, ◌&&◌, ◌==◌, ◌%◌}, List.{list_any, list_all}}
 use Rattle.std.specs.{Io.KnownBytes.{IsAtEnd}, Prelude.{◌+◌, ◌<◌, IfSome}}
-use Rattle.run_records.specs.{declared.{event.Event.{Event}, holding.Holding.{Holding}}, RunText.{RecordText}, Setting.{Setting}}
-use Rattle.run_records.specs.Holders.{Holdings, after, is_apart, is_same}
-use Rattle.run_records.specs.declared.event.Event.TheVariants as event
-use Rattle.run_records.specs.declared.holding.Holding.TheVariants as holding
+use Rattle.zr_kinds.specs.{declared.{event.Event.{Event}, holding.Holding.{Holding}}, RunText.{RecordText}, Setting.{Setting}}
+use Rattle.zr_kinds.specs.Holders.{Holdings, after, is_apart, is_same}
+use Rattle.zr_kinds.specs.declared.event.Event.TheVariants as event
+use Rattle.zr_kinds.specs.declared.holding.Holding.TheVariants as holding
 use Rattle.run_check.specs.{Reading.{event_of}, Unfit.{IsLack, IsUnfitEvent}, declared.{checking.Checked.{Checked, TheVariants.{Yes, No}}, unfit.{Lack.{Lack}, Unfit.{Unfit}}}}
 use Rattle.run_check.specs.declared.unfit.Unfit.TheVariants as unfit
-pub use Rattle.run_records.specs.Holders.{weight}
+pub use Rattle.zr_kinds.specs.Holders.{weight}
 
 -- the holders of each buffer, of which a number past the last has none
 abbrev pub holdings_of : List (List Holding) → Holdings

@@ -3,8 +3,8 @@ use Rattle.std.specs.{Prelude.{◌≡◌, ℕ, ◌+◌, ◌≢◌, Bool, List, [
 use Rattle.zr_kinds.specs.declared.fault.Fault.{Fault}
 use Rattle.zr_kinds.specs.declared.fault.Fault.TheVariants as fault
 use Rattle.zr_io.specs.Moved.{Rose}
-use Rattle.run_records.specs.{declared.event.Event.{Event}, Setting.{Setting, IsSetting}, LegalRun.{IsLegalRun}, Holders.{Holdings, all_after, no_holdings}}
-use Rattle.run_records.specs.RunText.{RecordText, line_of, lines_of, run_line, text_of_lines}
+use Rattle.zr_kinds.specs.{declared.event.Event.{Event}, Setting.{Setting, IsSetting}, LegalRun.{IsLegalRun}, Holders.{Holdings, all_after, no_holdings}}
+use Rattle.zr_kinds.specs.RunText.{RecordText, line_of, lines_of, run_line, text_of_lines}
 use Rattle.run_check.specs.{declared.{checking.Checked.{Checked, TheVariants.{Yes, No}}, unfit.Unfit.{Unfit}}, Coming.{HasNoLine, IsOneLine}, Unfit.{IsUnfit}}
 use Rattle.run_check.specs.declared.unfit.Unfit.TheVariants as unfit
 

@@ -1,7 +1,7 @@
 -- The places of a buffer, as the holders that they are.
 use Rattle.std.specs.Prelude.{ℕ, ◌+◌, ◌<◌, ◌≤◌, ◌==◌, Bool, true, false, List, [], ◌∷◌, map}
-use Rattle.run_records.specs.declared.holding.Holding.{Holding}
-use Rattle.run_records.specs.declared.holding.Holding.TheVariants as holding
+use Rattle.zr_kinds.specs.declared.holding.Holding.{Holding}
+use Rattle.zr_kinds.specs.declared.holding.Holding.TheVariants as holding
 use Rattle.run_check.specs.declared.places.{Hand.{Hand}, OwnedPlace.{OwnedPlace}}
 use Rattle.run_check.specs.declared.places.Hand.TheVariants as hand
 

@@ -2,8 +2,8 @@
 use Rattle.std.specs.Prelude.{◌≡◌, ℕ, ◌^◌, nat_lt, nat_le, ◌==◌, ◌&&◌, ◌||◌, if◌then◌else◌, Bool, true, false, List, [], ◌∷◌, length}
 use Rattle.std.specs.{Prelude.{Option, Some, None, option_map, option_and_then, slice_index, codes}, Char.{is_ascii_digit}, List.{list_all, slice_split}}
 use Rattle.std.specs.Str.{bytes_eq, Parse.{digits_value}}
-use Rattle.run_records.specs.{declared.event.Event.{Event}, Setting.{Setting, IsSetting}, RunText.{RecordText}}
-use Rattle.run_records.specs.declared.event.Event.TheVariants as event
+use Rattle.zr_kinds.specs.{declared.event.Event.{Event}, Setting.{Setting, IsSetting}, RunText.{RecordText}}
+use Rattle.zr_kinds.specs.declared.event.Event.TheVariants as event
 
 -- 1 to 10 digits, the first of which is 0 only where it is the only one
 abbrev pub is_numeral : RecordText → Bool

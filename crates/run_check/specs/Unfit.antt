@@ -1,8 +1,8 @@
 -- Why a line isn't one that may follow.
 use Rattle.std.specs.Prelude.{◌≡◌, ℕ, ◌≤◌, Bool, true, false, List, [], length, count_by, Some, None}
-use Rattle.run_records.specs.{declared.{event.Event.{Event}, holding.Holding.{Holding}}, Setting.{Setting, most_events}, LegalRun.{HasSmallNumbers}}
-use Rattle.run_records.specs.{Holders.{Holdings, buffer_of_event, changed, has_counts, is_in_range, is_user}, RunText.{RecordText, last_line, line_of}}
-use Rattle.run_records.specs.declared.event.Event.TheVariants as event
+use Rattle.zr_kinds.specs.{declared.{event.Event.{Event}, holding.Holding.{Holding}}, Setting.{Setting, most_events}, LegalRun.{HasSmallNumbers}}
+use Rattle.zr_kinds.specs.{Holders.{Holdings, buffer_of_event, changed, has_counts, is_in_range, is_user}, RunText.{RecordText, last_line, line_of}}
+use Rattle.zr_kinds.specs.declared.event.Event.TheVariants as event
 use Rattle.run_check.specs.{declared.unfit.{Lack.{Lack}, Unfit.{Unfit}}, Reading.{event_of}}
 use Rattle.run_check.specs.declared.unfit.Lack.TheVariants as lack
 use Rattle.run_check.specs.declared.unfit.Unfit.TheVariants as unfit

@@ -1,7 +1,7 @@
 //! The holders of one buffer.
 ghost use Rattle.std.specs.{Prelude.{◌≡◌, ◌==◌, ◌&&◌, ◌<◌, ◌+◌, ◌-◌, ◌^◌, IfOk, [], ◌∷◌, ◌++◌, length, nat_lt, Some, not, filter, count_by}, List.{list_any}};
-ghost use Rattle.run_records.specs.declared.holding.Holding.TheVariants as holding;
-ghost use Rattle.run_records.specs.Holders.{becomes, is_pool_count, is_same, is_user, is_user_count, only_if};
+ghost use Rattle.zr_kinds.specs.declared.holding.Holding.TheVariants as holding;
+ghost use Rattle.zr_kinds.specs.Holders.{becomes, is_pool_count, is_same, is_user, is_user_count, only_if};
 ghost use Rattle.run_check.specs.{Holding.{Changes, can_place}, Places.{IsNoLoan, held_by}, Buffer.{kept_by_keeper}};
 
 use crate::places::{Hand, OwnedPlace, are_apart, is_there};
@@ -43,7 +43,7 @@ pub(crate) struct Buffer {
 
 impl Model for Buffer {
     ghost use Rattle.std.specs.Prelude.{List};
-    ghost use Rattle.run_records.specs.declared.holding.Holding.{Holding};
+    ghost use Rattle.zr_kinds.specs.declared.holding.Holding.{Holding};
 
     ghost Value = { List Holding };
 

@@ -1,6 +1,6 @@
 ghost use Rattle.std.specs.Prelude.{◌≡◌, ℕ, ◌+◌, ◌^◌, ◌<◌, [], ◌∷◌, ◌++◌, IfOk, IfErr, IfSome, length};
 ghost use Rattle.zr_kinds.specs.declared.fault.Fault.TheVariants as fault;
-ghost use Rattle.run_records.specs.{Setting.{total_buffers}, RunText.{run_line, text_of_lines}};
+ghost use Rattle.zr_kinds.specs.{Setting.{total_buffers}, RunText.{run_line, text_of_lines}};
 ghost use Rattle.run_check.specs.{Coming.{ahead}, Holding.{EndsRecord, LineChanges, holdings_of}, Judged.{HasCheckCause, Judges, YesAtEnd}};
 
 use crate::holders::Holders;
@@ -8,10 +8,9 @@ use crate::lines::Lines;
 use crate::setting::RunSetting;
 use crate::unfit::Unfit;
 use crate::words::{event_of, is_word};
-use run_records::MOST_EVENTS;
 use std::alloc::Global;
 use zr_io::Source;
-use zr_kinds::Fault;
+use zr_kinds::{Fault, MOST_EVENTS};
 
 /// What a check says of a record.
 #[derive(Clone, Copy, Debug, PartialEq, Eq)]

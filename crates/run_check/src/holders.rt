@@ -1,6 +1,6 @@
 //! The holders of a run's buffers.
 ghost use Rattle.std.specs.Prelude.{◌≡◌, ◌<◌, ◌+◌, ◌^◌, ℕ, [], IfOk, length, IsTrue, ◌↔◌};
-ghost use Rattle.run_records.specs.{Setting.{IsSetting, total_buffers}, Holders.{buffer_of_event, changed, has_counts, is_in_range}};
+ghost use Rattle.zr_kinds.specs.{Setting.{IsSetting, total_buffers}, Holders.{buffer_of_event, changed, has_counts, is_in_range}};
 ghost use Rattle.run_check.specs.{Holding.{Changes, HasChanged, HasSmallApp, holdings_of}, Unfit.{user_count_told}};
 ghost use Rattle.run_check.specs.declared.unfit.Lack.TheVariants as lack;
 
@@ -8,7 +8,7 @@ use crate::buffer::Buffer;
 use crate::places::Hand;
 use crate::setting::RunSetting;
 use crate::unfit::Lack;
-use run_records::Event;
+use zr_kinds::Event;
 use std::alloc::{AllocError, Global};
 
 /// The holders of each buffer.

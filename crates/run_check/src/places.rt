@@ -1,6 +1,6 @@
 //! The places of a buffer that somebody has, by their offsets. They have bytes and no byte in common.
 ghost use Rattle.std.specs.{Prelude.{◌≡◌, ◌==◌, ◌&&◌, ◌<◌, ◌+◌, ◌^◌}, List.{list_any, list_all}};
-ghost use Rattle.run_records.specs.Holders.{is_apart, is_same};
+ghost use Rattle.zr_kinds.specs.Holders.{is_apart, is_same};
 ghost use Rattle.run_check.specs.Places.{ArePlacesApart, all_placed, is_same_hand, placed_holding};
 
 use std::collections::BTreeMap;

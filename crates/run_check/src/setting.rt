@@ -1,6 +1,6 @@
 //! The setting that the first line of a record says.
 ghost use Rattle.std.specs.Prelude.{◌≡◌, ◌≤◌, ◌↔◌, IfOk, IsTrue, All, length, map, option_map, ◌==◌, ◌+◌};
-ghost use Rattle.run_records.specs.{Setting.{AreAreas, IsRunArea, IsSetting, IsSize, buffers_of_areas, pool_bytes, size_of_buffer, total_buffers}, Holders.{is_app, is_buffer, is_pool_buffer, is_reserve_of, is_within}};
+ghost use Rattle.zr_kinds.specs.{Setting.{AreAreas, IsRunArea, IsSetting, IsSize, buffers_of_areas, pool_bytes, size_of_buffer, total_buffers}, Holders.{is_app, is_buffer, is_pool_buffer, is_reserve_of, is_within}};
 ghost use Rattle.run_check.specs.Reading.{IsSettingOfLine, all_run_areas, area_by, area_in_line, setting_by, setting_from};
 
 use crate::words::{is_word, number_of, parts_of};
@@ -29,7 +29,7 @@ pub(crate) struct RunSetting {
 }
 
 impl Model for RunSetting {
-    ghost use Rattle.run_records.specs.Setting.{Setting, IsSetting};
+    ghost use Rattle.zr_kinds.specs.Setting.{Setting, IsSetting};
 
     ghost Value = { Setting };
 

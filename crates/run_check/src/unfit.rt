@@ -1,6 +1,6 @@
 //! Why a line isn't as in a legal run.
 
-use run_records::Event;
+use zr_kinds::Event;
 
 /// What an event lacks behind those before it.
 #[derive(Clone, Copy, Debug, PartialEq, Eq)]

@@ -2,7 +2,7 @@
 ghost use Rattle.std.specs.{Prelude.{◌≡◌, [], ◌∷◌, IfOk, map, option_map}, Char.{is_ascii_digit}, List.{list_all}, Str.{bytes_eq}};
 ghost use Rattle.run_check.specs.Reading.{all_numbers, event_by, event_from, event_of, is_numeral, number_in_word, parts_of};
 
-use run_records::Event;
+use zr_kinds::Event;
 use std::alloc::{AllocError, Global};
 
 /// The most digits of a number.

@@ -2,7 +2,7 @@
 use Rattle.std.proofs.Common.{◌≡◌, ◌≢◌, ℕ, List, [], ◌∷◌, ◌++◌, Option, Some, None, ap, ◌∙◌}
 use Rattle.zr_kinds.specs.declared.fault.Fault.{Fault, TheVariants.{TooManyFlows}}
 use Rattle.pcapng_reader.{specs.Records.{records_of}, proofs.BlocksGo.{capture-goes}}
-use Rattle.frames_read.{specs.Ending.{Ending, ended_after, ended_of, ended_or, ending_at, frames_of}, proofs.Reading.{frames-append}}
+use Rattle.card_feed.{specs.Ending.{Ending, ended_after, ended_of, ended_or, ending_at, frames_of}, proofs.FramesRead.{frames-append}}
 
 -- a reading that ends at one of these frames ends there whatever frames follow
 goes-by : (ending : Option Fault) (before : List (List ℕ)) (first later ended : Ending) → (first ≡ ended → later ≡ ended)

@@ -1,3 +1,6 @@
+mod Gathering
+mod Numbered
+mod Rows
 pub mod Found
 pub mod Flushed
 pub mod Recording

@@ -3,26 +3,26 @@ use Rattle.std.proofs.Common.{◌≡◌, ℕ, ◌+◌, ◌*◌, ◌-◌, ◌^◌
 use Rattle.std.proofs.Common.{Option, None, Some, Err, refl, sym, ap, subst, ◌∙◌, append_assoc, take-append-drop, arith, lt-ltb}
 use Rattle.std.{specs.{Prelude.{◌==◌, All, sum_by, if◌then◌else◌}, List.{AllByRecursion, slice_get}}, proofs.lemmas.Bool.{leb-false, leb-true}}
 use Rattle.std.{proofs.lemmas.List.{length-take-le, take_all, Sums.{count_by-le-length, sum_by-cons}}, specs.Io.KnownBytes.{Appends}}
-use Rattle.run_records.specs.{Setting.{most_events}, declared.{event.Event.{Event}, holding.Holding.{Holding}}, Holders.{all_after, no_holdings}}
-use Rattle.run_records.{specs.LegalRun.{HasSmallNumbers, IsLegalRun}, proofs.Weighing.{weight-length}}
+use Rattle.zr_kinds.specs.{Setting.{most_events}, declared.{event.Event.{Event}, holding.Holding.{Holding}}, Holders.{all_after, no_holdings}}
+use Rattle.zr_kinds.{specs.LegalRun.{HasSmallNumbers, IsLegalRun}, proofs.Weighing.{weight-length}}
 use Rattle.zr_io.specs.Moved.{Gained}
 use Rattle.zr_kinds.specs.declared.{behaviour.Behaviour.{Behaviour}, outcome.AppLine.{AppLine}}
 use Rattle.area_layout.specs.Layout.{IsLayout, MakeLayout, shape_of_areas}
-use Rattle.run_records.specs.declared.event.Event.TheVariants as event
+use Rattle.zr_kinds.specs.declared.event.Event.TheVariants as event
 use Rattle.board_face.{specs.{Laws.{AllSides, pool_of}, Blank.{blank_app}, Sides.{IsApp}, declared.views.nic.NicSide.{NicSide}}, proofs.SideLemmas.{IsApp-at}}
 use Rattle.board_face.specs.declared.views.{app.{AppSide.{AppSide}, LentPiece.{LentPiece}}, parts.Setting.{Setting as Shared}}
 use Rattle.flow_queues.specs.{Core.{total}, Totals.{lent_len}}
 use Rattle.flow_table.specs.Steered.{SteeredTcp}
-use Rattle.event_log.specs.{IsLogged.{IsLogged, setting_of_sides}, Logs.{KeptEvents, log_of}, Settings.{areas_of, setting_of_layout as run_setting}}
-use Rattle.event_log.specs.{Tallies.{IsTallied, bytes_lent_in, copies_in, is_copy_event, is_loan, is_stray_event, len_of_loan, loan_bytes, loans_in}, Plain.{weight}}
-use Rattle.event_log.proofs.Runs.{ended-law, no-holders}
+use Rattle.plain_board.specs.{IsLogged.{IsLogged, setting_of_sides}, Logs.{KeptEvents, log_of}, Settings.{areas_of, setting_of_layout as run_setting}}
+use Rattle.plain_board.specs.{Tallies.{IsTallied, bytes_lent_in, copies_in, is_copy_event, is_loan, is_stray_event, len_of_loan, loan_bytes, loans_in}, Plain.{weight}}
+use Rattle.plain_board.proofs.Runs.{ended-law, no-holders}
 use Rattle.plain_board.specs.{Board.{Board, sides_of, stand_of}, Finish.{IsBoardOver}, Recorded.{IsRecorded}, Sound.{IsPhased, IsSound}}
 use Rattle.plain_board.proofs.Ending.{boards-end_well}
 use Rattle.replay_turns.specs.Events.{log_room_of}
 use Rattle.card_feed.specs.{Account.{AccountsFor, AppAccounts}, Counts.{capped}, Plan.{IsPlan}, declared.plan.Plan.{Plan}}
 use Rattle.run_account.{specs.{Ran.{Ran, Told}, Views.{Ends, Streams}}, proofs.Places.{get-within}}
-use Rattle.run_report.specs.{Report.{Reports}, declared.report.Unreported.{Unreported}}
-use Rattle.run_report.specs.declared.report.Unreported.TheVariants as unreported
+use Rattle.top_call.specs.{Report.{Reports}, declared.report.Unreported.{Unreported}}
+use Rattle.top_call.specs.declared.report.Unreported.TheVariants as unreported
 use Rattle.top_call.specs.{Records.{HasRecord, IsLineOfEvents, IsReportOf, TellsRun, setting_of_plan}, declared.card.Card.{Card}}
 
 -- ---- the areas

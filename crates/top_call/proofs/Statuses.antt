@@ -7,7 +7,7 @@ use Rattle.zr_kinds.specs.declared.fault.Fault.{Fault, TheVariants.{Memory, Usag
 use Rattle.zr_kinds.specs.declared.{fault.Fault.TheVariants.{TooManyFrames, BadBlock, BadRun}, behaviour.Stopped.{Stopped}, outcome.AppLine.{AppLine}}
 use Rattle.zr_kinds.specs.declared.behaviour.Stopped.TheVariants as stop
 use Rattle.zr_io.{specs.Moved.{Rose, Took}, proofs.Moved.{Rose-earlier, Took-then, Took-weaker}}
-use Rattle.frames_read.{specs.{Ending.{Ending, ended_of, steered_in}, Reading.{ShowsEnding, BreaksOff, TakenEnds, IsEnding, IsReadToEnd}}, proofs.Endings.{some-weaker}}
+use Rattle.card_feed.{specs.{Ending.{Ending, ended_of, steered_in}, FramesRead.{ShowsEnding, BreaksOff, TakenEnds, IsEnding, IsReadToEnd}}, proofs.Endings.{some-weaker}}
 use Rattle.board_face.specs.declared.views.{nic.NicSide.{NicSide}, app.AppSide.{AppSide}}
 use Rattle.card_feed.specs.{Need.{buffers_of, need_in}, Offered.{offers_of, WantsRoom}, declared.plan.Plan.{Plan}, Plan.{how_of, plain_behaviour}}
 use Rattle.card_feed.proofs.OfFlow.{there}
@@ -19,8 +19,8 @@ use Rattle.top_call.{specs.{Planned.{IsPlanOf}, Records.{HasRecord, record_in}, 
 use Rattle.top_call.{specs.Flushing.{Flushes, HasLost}, proofs.ToldLines.{record-told, rose-or-same, told-appended, told-flow, told-others, told-streams}}
 use Rattle.top_call.specs.Status.{is_memory, is_write, any_stopped, end_number, status_from, status_of}
 use Rattle.top_call.specs.StreamTheorem.{Finishes, asked_by, IsStatusOf, IsStatus, IsBrokenOff, RanWith, Replays}
-use Rattle.run_report.specs.{Report.{Reports, answer_of}, declared.report.Unreported.{Unreported}}
-use Rattle.run_report.specs.declared.report.Unreported.TheVariants as unreported
+use Rattle.top_call.specs.{Report.{Reports, answer_of}, declared.report.Unreported.{Unreported}}
+use Rattle.top_call.specs.declared.report.Unreported.TheVariants as unreported
 
 -- ---- the ways in which a reading ends
 

@@ -1,14 +1,12 @@
 -- What is told behind the flush, by what the run left.
 use Rattle.std.proofs.Common.{◌≡◌, ◌≢◌, ℕ, ◌<◌, Bool, true, false, List, length, Option, Some, None, sym, ap, subst, ◌∙◌, ◌⊎◌, inl, inr, arith}
 use Rattle.std.{specs.{Prelude.{option_map}, List.{slice_get}, Io.KnownBytes.{Keeps}}, proofs.KnownBytes.{Keeps-trans}}
-use Rattle.zr_kinds.specs.declared.{behaviour.Stopped.{Stopped}, outcome.AppLine.{AppLine}}
+use Rattle.zr_kinds.specs.declared.{behaviour.Stopped.{Stopped}, outcome.AppLine.{AppLine}, event.Event.{Event}}
 use Rattle.zr_kinds.specs.declared.behaviour.Stopped.TheVariants as stop
 use Rattle.zr_io.{specs.Moved.{Gained, Rose, ShelfCounts, raised_by}, proofs.Moved.{Gained-weaker}}
-use Rattle.run_records.specs.declared.event.Event.{Event}
 use Rattle.flow_table.specs.{Flows.{Flow, flows_of}, Stream.{stream_of}}
-use Rattle.frames_read.specs.Ending.{steered_in}
+use Rattle.card_feed.{specs.{Ending.{steered_in}, Account.{kept_in}, declared.plan.Plan.{Plan}}, proofs.OfFlow.{there}}
 use Rattle.board_face.specs.declared.views.{nic.NicSide.{NicSide}, app.AppSide.{AppSide}}
-use Rattle.card_feed.{specs.{Account.{kept_in}, declared.plan.Plan.{Plan}}, proofs.OfFlow.{there}}
 use Rattle.run_account.specs.{Ran.{HaveWholeStreams, IsLineOf, IsStreamed, Ran, There, Told}, Views.{Ends, Streams, counts_at, ends_at, kept_at, shelf_seen}}
 use Rattle.run_account.proofs.{AppLines.{found-there, is-there, one-value}, Places.{get-within}}
 use Rattle.top_call.specs.{Flushing.{Flushes, HasFlushed, stopped_or_lost}, declared.card.Card.{Card}}

@@ -1,3 +1,5 @@
+pub mod Gathered
+pub mod Report
 pub mod Status
 pub mod Cards
 pub mod Worlds

@@ -2,11 +2,10 @@
 use Rattle.std.specs.{Prelude.{◌≡◌, ℕ, ◌≤◌, ⊤, true, false, if◌then◌else◌, List, [], length, Some}, List.{slice_get}}
 use Rattle.zr_kinds.specs.declared.behaviour.Stopped.TheVariants as stop
 use Rattle.zr_kinds.specs.declared.outcome.AppLine.{AppLine}
-use Rattle.run_records.specs.{declared.event.Event.{Event}, Setting.{most_events, Setting}, Holders.{Holdings, all_after, no_holdings}, LegalRun.{IsLegalRun}}
-use Rattle.run_records.specs.RunText.{run_text_of}
-use Rattle.event_log.specs.{Logs.{KeptEvents, log_of}, Tallies.{AreTallied, bytes_lent_in, copies_in, loans_in, stray_events_in}}
+use Rattle.zr_kinds.specs.{declared.event.Event.{Event}, Setting.{most_events, Setting}, Holders.{Holdings, all_after, no_holdings}, LegalRun.{IsLegalRun}}
+use Rattle.zr_kinds.specs.RunText.{run_text_of}
+use Rattle.plain_board.specs.{Logs.{KeptEvents, log_of}, Tallies.{AreTallied, bytes_lent_in, copies_in, loans_in, stray_events_in}, Board.{sides_of}}
 use Rattle.board_face.specs.Laws.{AllSides}
-use Rattle.plain_board.specs.Board.{sides_of}
 use Rattle.card_feed.specs.{Counts.{capped}, declared.plan.Plan.{Plan}}
 use Rattle.run_account.specs.Ran.{Told}
 use Rattle.top_call.specs.declared.card.Card.{Card}

@@ -6,14 +6,14 @@ use Rattle.zr_io.specs.Moved.{Gained, Rose, Took, raised_by}
 use Rattle.flow_table.specs.{Flows.{Flow, flows_of}, Stream.{stream_of}}
 use Rattle.board_face.specs.declared.views.{nic.NicSide.{NicSide}, app.AppSide.{AppSide}}
 use Rattle.command_words.specs.Words.{ReplayShown, Shown, replay, make, check}
-use Rattle.frames_read.specs.{Ending.{ended_of, steered_in}, Reading.{IsEnding, IsReadToEnd}}
+use Rattle.card_feed.specs.{Ending.{ended_of, steered_in}, FramesRead.{IsEnding, IsReadToEnd}}
 use Rattle.zr_kinds.specs.declared.behaviour.Stopped.TheVariants as stop
 use Rattle.card_feed.specs.{declared.{plan.Plan.{Plan}, outcome.Outcome.{Outcome}}, Counts.{sweeping_in, sweeps_in}, Need.{buffers_of, need_in}, Offered.{offers_of}}
 use Rattle.card_feed.specs.Plan.{TakesTurns}
 use Rattle.run_account.specs.Ran.{HasReadOn, HaveWholeStreams, IsLineOf, IsStreamed, RunLacksMemory, LacksMemoryBeside, Ran, There, Told, told_of}
 use Rattle.run_account.specs.Views.{Ends, ShelfSeen, Streams, ends_at}
 use Rattle.replay_turns.specs.Following.{RunsBy}
-use Rattle.run_report.specs.{Report.{report_of, Reports, answer_of}, declared.report.Unreported.{Unreported}}
+use Rattle.top_call.specs.{Report.{report_of, Reports, answer_of}, declared.report.Unreported.{Unreported}}
 use Rattle.top_call.specs.{Cards.{HasOver, HasSides, IsClosed, IsOfWay, IsUncounted}, Flushing.{Flushes, HasLost}, Planned.{IsPlanOf}, Records.{HasRecord, record_in}}
 use Rattle.top_call.specs.{Status.{end_number, status_of}, Making.{Makes}, Checking.{Checks}, declared.card.Card.{Card}}
 use Rattle.top_call.specs.Worlds.{IsUntouched, Seen, Sunk, World, counts_by, failed_in, kept_by, left_in, sink_in}

@@ -15,7 +15,6 @@ mod records;
 mod unfit;
 
 use descriptors::{hold_closed_streams, spare_files};
-use file_shelf::FileShelf;
 use front::Front;
 use messages::{say_lost, say_none, say_status, say_unfit, say_usage};
 use progress::{Input, Progress};
@@ -30,7 +29,7 @@ use std::sync::atomic::{AtomicU64, Ordering};
 use std::thread::Threads;
 use std::{env, fs, io};
 use top_call::{Card, SHELVES, zcrx};
-use zr_io::{StdSink, StdSource};
+use zr_io::{FileShelf, StdSink, StdSource};
 use zr_kinds::Fault;
 
 /// How many bytes of standard input are read at a time.

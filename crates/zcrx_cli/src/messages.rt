@@ -3,7 +3,7 @@
 use crate::records::LastSeen;
 use crate::unfit::Words;
 use command_words::{USAGE, what_is_wrong};
-use file_shelf::FileShelf;
+use zr_io::FileShelf;
 use run_check::Checked;
 use std::fmt;
 use std::rt::Files;

@@ -1,7 +1,7 @@
 //! Why a line of a run's record is bad, in words.
 
 use run_check::{Lack, Unfit};
-use run_records::{Event, MOST_EVENTS};
+use zr_kinds::{Event, MOST_EVENTS};
 use std::fmt;
 
 /// The words for it.

@@ -1,7 +1,7 @@
 //! Commands that need no threads.
 use super::checks::{check_number, check_text};
+use run_driver::samples::{PSH_ACK, capture_of, to_9000};
 use run_driver::{free_buffers, shelves_for};
-use sample_captures::{PSH_ACK, capture_of, to_9000};
 use std::collections::hash_map::RandomState;
 use std::random::RandomSource;
 use std::test::Fail;

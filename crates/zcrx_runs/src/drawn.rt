@@ -1,6 +1,6 @@
 //! Small captures that are drawn, and compared with the plain slow programs.
 use super::plain::check_by;
-use sample_captures::{ACK, FIN, PSH_ACK, RST, SYN, Sent, frame, over_ipv6, tagged};
+use run_driver::samples::{ACK, FIN, PSH_ACK, RST, SYN, Sent, frame, over_ipv6, tagged};
 use std::alloc::Global;
 use std::random::RandomSource;
 use std::sync::Wait;

@@ -2,8 +2,8 @@
 use super::checks::{Stream, bytes_from, check_left, check_text, words_of};
 use super::gates::Delay;
 use replay_threads::{Gate, NoGate};
+use run_driver::samples::{PSH_ACK, SYN, capture, frame, to_9000};
 use run_driver::{Given, faultless, run_behind};
-use sample_captures::{PSH_ACK, SYN, capture, frame, to_9000};
 use std::alloc::Global;
 use std::random::RandomSource;
 use std::sync::Wait;

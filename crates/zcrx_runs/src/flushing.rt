@@ -3,7 +3,7 @@ ghost use Rattle.std.specs.{Prelude.{◌≡◌, ℕ, ◌≢◌, None}, Io.KnownB
 ghost use Rattle.zr_io.specs.Moved.{AddsPiece, CountsPiece, HasCause};
 
 use replay_threads::NoGate;
-use sample_captures::{PSH_ACK, capture_of, to_9000, to_9001};
+use run_driver::samples::{PSH_ACK, capture_of, to_9000, to_9001};
 use std::alloc::Global;
 use std::collections::hash_map::RandomState;
 use std::random::RandomSource;

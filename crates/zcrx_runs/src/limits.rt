@@ -2,8 +2,8 @@
 use super::checks::{check_free, check_number, check_text};
 use super::gates::{Names, TOGETHER};
 use replay_threads::{Gate, NoGate};
+use run_driver::samples::{FILE_HEADER, SYN, Sent, frame, record_of, to_9000};
 use run_driver::{free_buffers, shelves_for};
-use sample_captures::{FILE_HEADER, SYN, Sent, frame, record_of, to_9000};
 use std::alloc::Global;
 use std::collections::hash_map::RandomState;
 use std::io::{self, Read};

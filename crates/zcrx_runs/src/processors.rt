@@ -1,8 +1,8 @@
 //! Over which board a replay without a text of turns goes.
 
 use super::gates::{APART, Names, TOGETHER};
+use run_driver::samples::{PSH_ACK, capture_of, to_9000};
 use run_driver::shelves_for;
-use sample_captures::{PSH_ACK, capture_of, to_9000};
 use std::collections::hash_map::RandomState;
 use std::random::RandomSource;
 use std::sync::Wait;

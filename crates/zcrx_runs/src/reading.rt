@@ -5,7 +5,7 @@ use super::checks::check_number;
 use super::gates::{APART, waits_for};
 use super::limits::{check_report, report_of_syns, syns};
 use replay_threads::{Gate, NoGate};
-use sample_captures::{SYN, frame, record_of, to_9000};
+use run_driver::samples::{SYN, frame, record_of, to_9000};
 use std::alloc::Global;
 use std::random::RandomSource;
 use std::sync::Wait;

@@ -5,8 +5,8 @@ use super::checks::{
 use super::gates::{Delay, Meeting};
 use super::making::{LONG, bytes_of, made};
 use replay_threads::Gate;
+use run_driver::samples::{PSH_ACK, capture_of, to_9000, to_9001};
 use run_driver::{Given, faultless, run_behind};
-use sample_captures::{PSH_ACK, capture_of, to_9000, to_9001};
 use std::alloc::Global;
 use std::random::RandomSource;
 use std::sync::Wait;

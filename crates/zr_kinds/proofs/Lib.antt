@@ -1,3 +1,5 @@
+pub mod Weighing
+pub mod Following
 mod SignedDistance
 pub mod InOrder
 mod Numbers

@@ -1,3 +1,8 @@
+pub mod Setting
+pub mod Holders
+pub mod EventFields
+pub mod RunText
+pub mod LegalRun
 pub mod Counting
 pub mod CopyingReceiver
 pub mod Fault

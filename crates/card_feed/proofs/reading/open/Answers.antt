@@ -2,8 +2,7 @@
 use Rattle.std.proofs.{Common.{Err, ap, refl, sym, []}, lemmas.Result.{err_from_is_err_and}}
 use Rattle.zr_io.proofs.Moved.{Took-weaker}
 use Rattle.pcapng_reader.proofs.Goings.{opening-breaks, opening-stops}
-use Rattle.frames_read.proofs.Endings.{ends-opening, reads-nothing}
-use Rattle.card_feed.{specs.Offered.{WantsRoom}, proofs.Further.{took-opening}}
+use Rattle.card_feed.{proofs.{Endings.{ends-opening, reads-nothing}, Further.{took-opening}}, specs.Offered.{WantsRoom}}
 use Rattle.card_feed.proofs.reading.open.Goals as goal
 
 pub returns-in_err-open-clause-opens : goal.returns-in_err-open-clause-opens

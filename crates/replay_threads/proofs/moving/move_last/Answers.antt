@@ -1,6 +1,6 @@
 -- One more was moved.
 use Rattle.std.proofs.Common.{arith, ◌∙◌}
-use Rattle.app_lanes.proofs.Reversed.{moved-one}
+use Rattle.replay_threads.proofs.Reversed.{moved-one}
 use Rattle.replay_threads.proofs.moving.move_last.Goals as goal
 
 pub loop-from-preserved : goal.loop-from-preserved

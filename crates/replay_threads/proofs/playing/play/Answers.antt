@@ -1,5 +1,5 @@
 -- Turns side by side, and rounds behind them.
-use Rattle.capture_beside.proofs.{CardTurns.{goes_more, goes_same}, ReaderTurns.{reads_more, reads_same}}
+use Rattle.replay_threads.proofs.{CardTurns.{goes_more, goes_same}, ReaderTurns.{reads_more, reads_same}}
 use Rattle.replay_threads.proofs.playing.play.Goals as goal
 
 pub loop-init : goal.loop-init

@@ -1,5 +1,5 @@
 -- One round more.
-use Rattle.capture_beside.proofs.{CardTurns.{goes_more, goes_same}, ReaderTurns.{reads_more, reads_same}}
+use Rattle.replay_threads.proofs.{CardTurns.{goes_more, goes_same}, ReaderTurns.{reads_more, reads_same}}
 use Rattle.replay_threads.proofs.playing.play_rounds.Goals as goal
 
 pub loop-init : goal.loop-init

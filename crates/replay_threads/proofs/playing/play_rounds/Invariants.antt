@@ -1,6 +1,5 @@
 -- The turns so far.
-use Rattle.capture_beside.specs.{Cards.{CardGoes}, Reader.{ReaderGoes}}
-use Rattle.app_lanes.specs.Lanes.{AllGo}
+use Rattle.replay_threads.specs.{Cards.{CardGoes}, Reader.{ReaderGoes}, Lanes.{AllGo}}
 use Rattle.replay_threads.proofs.playing.play_rounds.Given as goal
 
 abbrev pub invariant-loop : goal.invariant-loop

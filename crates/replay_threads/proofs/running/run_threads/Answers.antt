@@ -2,8 +2,7 @@
 use Rattle.std.{proofs.{Common.{rules, ◌≡◌, Option, Some, ◌++◌, [], length, map, ap, ◌∙◌, subst, sym, arith}, lemmas.List.{length-map}}, specs.Prelude.{IfSome, reverse}}
 use Rattle.run_account.specs.{Ran.{TellsOfEnds}, Views.{ends_at, streams}}
 use Rattle.word_board.specs.{Board.{TheBoard, TheDesk}, Desk.{AllAreBack}}
-use Rattle.app_lanes.{specs.Seated.{left_end}, proofs.Reversed.{put-back, set-aside}}
-use Rattle.replay_threads.proofs.Told.{on-err, run-lacks, run-told}
+use Rattle.replay_threads.{specs.Seated.{left_end}, proofs.{Reversed.{put-back, set-aside}, Told.{on-err, run-lacks, run-told}}}
 use Rattle.replay_threads.proofs.running.run_threads.Goals as goal
 
 -- what an option has, where it has some

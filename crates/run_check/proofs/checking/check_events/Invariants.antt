@@ -1,6 +1,6 @@
 -- What was read behind the first line are the lines of so many events, and the holders are the same as those after them.
 use Rattle.std.proofs.Common.{◌≡◌, ℕ, ◌≤◌, length}
-use Rattle.run_records.specs.Setting.{total_buffers}
+use Rattle.zr_kinds.specs.Setting.{total_buffers}
 use Rattle.run_check.{specs.{Coming.{ahead}, Holding.{holdings_of}}, proofs.Telling.{ComesWith}}
 use Rattle.run_check.proofs.checking.check_events.Given as goal
 

@@ -1,5 +1,5 @@
 use Rattle.std.proofs.Common.{◌≡◌, ◌∙◌, ap, arith, refl}
-use Rattle.run_records.specs.EventFields.{bytes_of_event}
+use Rattle.zr_kinds.specs.EventFields.{bytes_of_event}
 use Rattle.run_check.proofs.Events.{bytes_near}
 use Rattle.run_check.proofs.holders.change.Goals as goal
 

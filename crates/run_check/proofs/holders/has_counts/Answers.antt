@@ -1,6 +1,6 @@
 -- Four events say both counts.
 use Rattle.std.proofs.Common.{◌∙◌, sym, ap, ⊎_elim}
-use Rattle.run_records.specs.Holders.{has_counts}
+use Rattle.zr_kinds.specs.Holders.{has_counts}
 use Rattle.run_check.proofs.holders.has_counts.Goals as goal
 
 pub returns-in-Lend : goal.returns-in-Lend

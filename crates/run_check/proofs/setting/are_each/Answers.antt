@@ -1,5 +1,5 @@
 use Rattle.std.proofs.{Common.{rules}, lemmas.Iterator.{YieldsList-from_slice, cases_from_all}}
-use Rattle.run_records.specs.Setting.{IsRunArea}
+use Rattle.zr_kinds.specs.Setting.{IsRunArea}
 use Rattle.run_check.proofs.Areas.{each_from_cases}
 use Rattle.run_check.proofs.setting.are_each.Goals as goal
 

@@ -1,5 +1,5 @@
 use Rattle.std.proofs.Common.{◌≡◌, ◌≤◌, ◌*◌, take}
-use Rattle.run_records.specs.Setting.{buffers_of_areas}
+use Rattle.zr_kinds.specs.Setting.{buffers_of_areas}
 use Rattle.run_check.proofs.setting.pool_buffers.Given as goal
 
 abbrev pub invariant-loop-area : goal.invariant-loop-area

@@ -1,5 +1,5 @@
 use Rattle.std.proofs.Common.{◌≡◌, ◌≤◌, ◌*◌, take}
-use Rattle.run_records.specs.Setting.{pool_bytes}
+use Rattle.zr_kinds.specs.Setting.{pool_bytes}
 use Rattle.run_check.proofs.setting.pool_bytes.Given as goal
 
 abbrev pub invariant-loop-area : goal.invariant-loop-area

@@ -1,5 +1,5 @@
 use Rattle.std.proofs.Common.{◌≡◌, drop}
-use Rattle.run_records.specs.Setting.{first_size, size_among}
+use Rattle.zr_kinds.specs.Setting.{first_size, size_among}
 use Rattle.run_check.proofs.setting.size_of_buffer.Given as goal
 
 abbrev pub invariant-loop-area : goal.invariant-loop-area

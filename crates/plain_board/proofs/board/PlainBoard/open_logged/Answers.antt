@@ -1,6 +1,6 @@
 -- An empty log tells of a board on which nothing has happened.
 use Rattle.board_face.specs.declared.views.parts.Setting.{Setting}
-use Rattle.event_log.proofs.{Runs.{opened-law}, ShortFills.{fills-law}}
+use Rattle.plain_board.proofs.{Runs.{opened-law}, ShortFills.{fills-law}}
 use Rattle.plain_board.proofs.board.PlainBoard.open_logged.Goals as goal
 
 pub invariant_of-result : goal.invariant_of-result

@@ -1,8 +1,7 @@
 -- The buffers below this one are logged, and the contents stand.
 use Rattle.std.specs.Prelude.{◌≡◌}
 use Rattle.board_face.specs.Laws.{AllSides, Scrubs}
-use Rattle.event_log.specs.ScrubLaw.{scrub_logged}
-use Rattle.plain_board.specs.Stand.{sides_of}
+use Rattle.plain_board.specs.{ScrubLaw.{scrub_logged}, Stand.{sides_of}}
 use Rattle.plain_board.proofs.logged.Logged.log_scrub.Given as goal
 
 abbrev pub invariant-loop-buffer : goal.invariant-loop-buffer

@@ -1,6 +1,6 @@
 use Rattle.std.{proofs.{Common.{◌≡◌, ◌∙◌, ◌+◌, ◌-◌, ◌<◌, [], ◌∷◌, true, sym, arith}, lemmas.Bool.{lt-ltb}}, specs.List.{list_any}}
-use Rattle.run_records.specs.declared.holding.Holding.TheVariants as holding
-use Rattle.run_records.specs.Holders.{is_same}
+use Rattle.zr_kinds.specs.declared.holding.Holding.TheVariants as holding
+use Rattle.zr_kinds.specs.Holders.{is_same}
 use Rattle.run_check.specs.declared.places.Hand.TheVariants as hand
 use Rattle.run_check.{specs.Places.{all_placed}, proofs.Changing.{by_flag, none_there_then, not_changed, shortened, were_cut}}
 use Rattle.run_check.proofs.buffer.Buffer.cut.Goals as goal

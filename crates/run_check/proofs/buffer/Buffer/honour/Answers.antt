@@ -1,5 +1,5 @@
 use Rattle.std.proofs.{lemmas.Bool.{le-ltb, lt-ltb}, Common.{get_or, [], ◌∙◌, arith}}
-use Rattle.run_records.specs.declared.holding.Holding.TheVariants as holding
+use Rattle.zr_kinds.specs.declared.holding.Holding.TheVariants as holding
 use Rattle.run_check.proofs.Changing.{by_flag, honoured, not_changed, owed_counted, owed_there, owed_used}
 use Rattle.run_check.proofs.buffer.Buffer.honour.Goals as goal
 

@@ -1,6 +1,6 @@
 use Rattle.std.{proofs.{Common.{◌≡◌, ◌∙◌, ◌<◌, [], ◌∷◌, true, sym, arith}, lemmas.Bool.{lt-ltb}}, specs.List.{list_any}}
-use Rattle.run_records.specs.declared.holding.Holding.TheVariants as holding
-use Rattle.run_records.specs.Holders.{is_same}
+use Rattle.zr_kinds.specs.declared.holding.Holding.TheVariants as holding
+use Rattle.zr_kinds.specs.Holders.{is_same}
 use Rattle.run_check.{specs.Buffer.{kept_by_keeper}, proofs.Changing.{by_flag, not_changed, own_lent, spare_there}}
 use Rattle.run_check.proofs.buffer.Buffer.own.Goals as goal
 

@@ -1,5 +1,5 @@
 use Rattle.std.{proofs.Common.{◌≡◌, [], ◌∷◌, ◌∙◌, true, sym}, specs.List.{list_any}}
-use Rattle.run_records.specs.Holders.{is_same}
+use Rattle.zr_kinds.specs.Holders.{is_same}
 use Rattle.run_check.{specs.Places.{all_placed, held_by}, proofs.Changing.{by_flag, none_there_then, not_changed, passed}}
 use Rattle.run_check.proofs.buffer.Buffer.pass.Goals as goal
 

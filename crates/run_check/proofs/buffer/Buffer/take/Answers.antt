@@ -1,5 +1,5 @@
 use Rattle.std.proofs.Common.{arith}
-use Rattle.run_records.specs.declared.holding.Holding.TheVariants as holding
+use Rattle.zr_kinds.specs.declared.holding.Holding.TheVariants as holding
 use Rattle.run_check.proofs.Changing.{begun}
 use Rattle.run_check.proofs.buffer.Buffer.take.Goals as goal
 

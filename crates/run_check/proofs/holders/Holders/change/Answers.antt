@@ -1,6 +1,6 @@
 -- An event out of range, one of no buffer, one whose buffer isn't as it needs, and the others.
 use Rattle.std.proofs.Common.{◌≡◌, ◌<◌, ◌∙◌, sym, ap, refl, subst, Some, length, arith, true, false}
-use Rattle.run_records.specs.Holders.{buffer_of_event, changed, is_in_range}
+use Rattle.zr_kinds.specs.Holders.{buffer_of_event, changed, is_in_range}
 use Rattle.run_check.specs.{Holding.{Changes, holdings_of}, Unfit.{IsLack}}
 use Rattle.run_check.proofs.{Events.{after_nowhere, buffer_below, held_here, small_app}, Lacking.{counted_right, miscounted}}
 use Rattle.run_check.proofs.holders.Holders.change.Goals as goal

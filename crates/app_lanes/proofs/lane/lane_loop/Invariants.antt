@@ -1,5 +1,0 @@
--- The turns so far.
-use Rattle.app_lanes.proofs.lane.lane_loop.Given as goal
-
-abbrev pub invariant-loop : goal.invariant-loop
-invariant-loop g l = g.W.Sits.goes l.fn.lane l.lane

@@ -1,5 +1,0 @@
-use Rattle.capture_beside.proofs.Carrying.{carried-law}
-use Rattle.capture_beside.proofs.laws.carried_in_order.Goals as goal
-
-pub returns : goal.returns
-returns g c = carried-law g.S.Source.left g.S.Source.faults

@@ -1,6 +1,0 @@
--- The turns so far.
-use Rattle.capture_beside.specs.Reader.{ReaderGoes}
-use Rattle.capture_beside.proofs.reading.read_loop.Given as goal
-
-abbrev pub invariant-loop : goal.invariant-loop
-invariant-loop g l = ReaderGoes g.S.Source.left g.S.Source.faults l.fn.source l.source l.fn.reader l.reader

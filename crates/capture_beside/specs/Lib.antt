@@ -1,5 +1,0 @@
-pub mod Cards
-pub mod Carried
-pub mod Made
-pub mod Reader
-pub mod Laws

@@ -1,4 +1,0 @@
-pub mod Reading
-pub mod Endings
-pub mod Tallies
-pub mod Framing

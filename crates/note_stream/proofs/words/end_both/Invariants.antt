@@ -1,6 +1,0 @@
--- What is out stays with the receiver.
-use Rattle.note_stream.specs.Halves.{IsReceiver}
-use Rattle.note_stream.proofs.words.end_both.Given as goal
-
-abbrev pub invariant-loop : goal.invariant-loop
-invariant-loop g l = IsReceiver (g.A.AppFace.seen l.seat) l.receiver.loan

@@ -1,0 +1,5 @@
+use Rattle.plain_board.proofs.Runs.{ended-law}
+use Rattle.plain_board.proofs.laws.run.ended.Goals as goal
+
+pub returns : goal.returns
+returns c = ended-law

@@ -1,0 +1,5 @@
+use Rattle.plain_board.proofs.Scrubs.{scrubbed-law}
+use Rattle.plain_board.proofs.laws.step.scrubbed.Goals as goal
+
+pub returns : goal.returns
+returns c = scrubbed-law

@@ -1,5 +1,0 @@
-pub mod Setting
-pub mod Holders
-pub mod EventFields
-pub mod RunText
-pub mod LegalRun

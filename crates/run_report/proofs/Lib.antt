@@ -1,3 +1,0 @@
-mod Gathering
-mod Numbered
-mod Rows

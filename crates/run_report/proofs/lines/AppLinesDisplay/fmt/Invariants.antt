@@ -1,7 +1,0 @@
-use Rattle.std.{proofs.Common.{take}, specs.Fmt.{HasWritten, IsPlainFormatter}}
-use Rattle.run_report.specs.Report.{app_line, numbered_lines}
-use Rattle.run_report.proofs.lines.AppLinesDisplay.fmt.Given as goal
-
-abbrev pub invariant-loop-number : goal.invariant-loop-number
-invariant-loop-number g l = IsPlainFormatter l.initial.f → HasWritten g.W.Write.write_str_gives l.initial.f
-    (numbered_lines app_line (take l.number l.app-items)) l.f
