@@ -1,7 +1,8 @@
 -- The reading at words whose reading was worked out by hand, without options and with some.
 use Rattle.std.{specs.Prelude.{◌≡◌, ℕ, true, false, List, [], ◌∷◌, Option, Some, None, codes}, proofs.Common.{refl}}
 use Rattle.command_words.specs.{Assigned.{Text, assigned, sorted}, Options.{behaviour_of, options_of, stand_together}, Areas.{pool_areas_of}}
-use Rattle.command_words.specs.{Words.{Shown, make, reading_of, replay}, declared.options.Options.{Options}}
+use Rattle.zr_kinds.specs.declared.options.Options.{Options}
+use Rattle.command_words.specs.Words.{Shown, make, reading_of, replay}
 
 -- what stands for options that aren't said
 abbrev usual : Options

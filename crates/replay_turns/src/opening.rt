@@ -9,10 +9,10 @@ ghost use Rattle.replay_turns.specs.{Events.{log_room_of}, Following.{IsNewRun},
 use card_feed::{Feed, Plan, new_feeds_stand};
 use plain_board::PlainBoard;
 use run_account::{Run, new_workers};
-use zr_kinds::MOST_EVENTS;
 use std::alloc::{AllocError, Global};
 use std::collections::hash_map::RandomState;
 use zr_io::{Shelf, Source};
+use zr_kinds::MOST_EVENTS;
 
 /// For how many events the board's log has room.
 fn room(plan: &Plan) -> u32

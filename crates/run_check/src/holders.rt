@@ -8,8 +8,8 @@ use crate::buffer::Buffer;
 use crate::places::Hand;
 use crate::setting::RunSetting;
 use crate::unfit::Lack;
-use zr_kinds::Event;
 use std::alloc::{AllocError, Global};
+use zr_kinds::Event;
 
 /// The holders of each buffer.
 #[derive(Drop)]

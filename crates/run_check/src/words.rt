@@ -2,8 +2,8 @@
 ghost use Rattle.std.specs.{Prelude.{◌≡◌, [], ◌∷◌, IfOk, map, option_map}, Char.{is_ascii_digit}, List.{list_all}, Str.{bytes_eq}};
 ghost use Rattle.run_check.specs.Reading.{all_numbers, event_by, event_from, event_of, is_numeral, number_in_word, parts_of};
 
-use zr_kinds::Event;
 use std::alloc::{AllocError, Global};
+use zr_kinds::Event;
 
 /// The most digits of a number.
 const MOST_DIGITS: usize = 10;

@@ -3,10 +3,10 @@
 use crate::records::LastSeen;
 use crate::unfit::Words;
 use command_words::{USAGE, what_is_wrong};
-use zr_io::FileShelf;
 use run_check::Checked;
 use std::fmt;
 use std::rt::Files;
+use zr_io::FileShelf;
 use zr_kinds::Fault;
 
 /// What the first bytes of standard input look like, where they are no capture's.

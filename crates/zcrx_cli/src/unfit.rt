@@ -1,8 +1,8 @@
 //! Why a line of a run's record is bad, in words.
 
 use run_check::{Lack, Unfit};
-use zr_kinds::{Event, MOST_EVENTS};
 use std::fmt;
+use zr_kinds::{Event, MOST_EVENTS};
 
 /// The words for it.
 #[derive(Clone, Copy)]
