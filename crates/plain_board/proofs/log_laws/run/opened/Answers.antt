@@ -1,5 +1,5 @@
 use Rattle.plain_board.proofs.Runs.{opened-law}
-use Rattle.plain_board.proofs.laws.run.opened.Goals as goal
+use Rattle.plain_board.proofs.log_laws.run.opened.Goals as goal
 
 pub returns : goal.returns
 returns c = opened-law

@@ -1,5 +1,5 @@
 use Rattle.plain_board.proofs.Scrubs.{scrubbed-law}
-use Rattle.plain_board.proofs.laws.step.scrubbed.Goals as goal
+use Rattle.plain_board.proofs.log_laws.step.scrubbed.Goals as goal
 
 pub returns : goal.returns
 returns c = scrubbed-law
