@@ -1,5 +1,5 @@
 -- What a replay leaves: the streams on their shelves, the report, the status, and the board of the run.
-use Rattle.std.specs.Prelude.{◌≡◌, ◌≢◌, ℕ, ◌≤◌, List, [], ◌∷◌, ◌++◌, length, Bool, true, Option, Some, None, Result, IfOk, IfSome, OnErr, OnOk, ◌⊎◌, ⊤, option_map}
+use Rattle.std.specs.Prelude.{◌≡◌, ◌≢◌, ℕ, ◌≤◌, List, [], ◌++◌, length, Bool, true, Option, Some, None, Result, IfOk, IfSome, OnErr, OnOk, ◌⊎◌, ⊤, option_map}
 use Rattle.std.specs.{List.{slice_get}, Io.KnownBytes.{Keeps}}
 use Rattle.zr_kinds.specs.{Fault.{number_of}, declared.{fault.Fault.{Fault, TheVariants.{Cut, Write}}, outcome.AppLine.{AppLine}}}
 use Rattle.zr_io.specs.Moved.{Gained, Rose, Took, raised_by}

@@ -1,6 +1,6 @@
 //! The top call: a command's words, a source, eight shelves and a sink.
 
-ghost use Rattle.std.specs.{Prelude.{◌≡◌, ℕ, ◌≤◌, ◌<◌, ◌⊎◌, true, List, Option, None, Some, IfOk, IfErr, MatchResult, OnErr, OnOk, Ok, ◌++◌, map, length, take, vec_len}, Io.KnownBytes.{Appends}};
+ghost use Rattle.std.specs.{Prelude.{◌≡◌, ℕ, ◌≤◌, ◌<◌, ◌⊎◌, true, Option, None, Some, IfOk, IfErr, MatchResult, OnErr, OnOk, Ok, ◌++◌, map, length, take, vec_len}, Io.KnownBytes.{Appends}};
 ghost use Rattle.zr_kinds.specs.Options.{BehavesPlainly};
 ghost use Rattle.zr_io.specs.Moved.{AddsPiece, HasCause, Rose};
 ghost use Rattle.cap_make.specs.GeneratedCapture.{generated_capture};
@@ -9,7 +9,7 @@ ghost use Rattle.card_feed.specs.Plan.{IsPlan, TakesTurns};
 ghost use Rattle.run_account.specs.{Ran.{told_of}, Views.{ends_at, shelf_seen, streams}};
 ghost use Rattle.top_call.specs.Report.{Reports, report_of};
 ghost use Rattle.replay_turns.specs.Schedule.{AreTurns};
-ghost use Rattle.top_call.specs.{Planned.{IsPlanOf}, Records.{record_in}, StreamTheorem.{Answers, AnswersAlone, Finishes, IsThreaded, Plays, RepliesTo, TellsOutcome, asked_by}, Worlds.{IsUntouched, seen, sink_seen, sunk, world_at}};
+ghost use Rattle.top_call.specs.{Records.{record_in}, StreamTheorem.{Answers, AnswersAlone, Finishes, IsThreaded, Plays, RepliesTo, TellsOutcome, asked_by}, Worlds.{IsUntouched, seen, sink_seen, sunk, world_at}};
 
 use crate::card::Card;
 use crate::checking::check_record;

@@ -1,5 +1,5 @@
 -- The outcome is told, and the board is in the card; or there was no memory for a board or an outcome.
-use Rattle.std.proofs.Common.{inl, inr, refl, ◌∙◌, Some, None, arith}
+use Rattle.std.proofs.Common.{inl, inr, refl, ◌∙◌, Some, arith}
 use Rattle.top_call.{specs.StreamTheorem.{asked_by}, proofs.Statuses.{replays, same_plan}}
 use Rattle.top_call.proofs.top.replay_alone.Goals as goal
 
