@@ -15,7 +15,7 @@ use crate::seating::{close_lanes, open_lanes};
 use crate::starting::new_starts;
 use area_layout::Layout;
 use card_feed::{Feed, Outcome, Plan, new_feeds_stand};
-use run_account::{Gate, Gate, runs_are_told, runs_end_well, tell};
+use run_account::{Gate, runs_are_told, runs_end_well, tell};
 use std::alloc::{AllocError, Global};
 use std::collections::hash_map::RandomState;
 use std::sync::Wait;

@@ -10,7 +10,7 @@ use crate::playing::{play_rounds, play_text};
 use crate::waiting::play_waiting;
 use card_feed::{Outcome, Plan};
 use plain_board::PlainBoard;
-use run_account::{Gate, Gate, Run, tell};
+use run_account::{Gate, Run, tell};
 use std::alloc::{AllocError, Global};
 use std::collections::hash_map::RandomState;
 use zr_io::{Shelf, Source};

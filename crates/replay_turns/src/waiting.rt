@@ -11,7 +11,7 @@ use crate::board_turns::card_keeps_up;
 use crate::playing::play_round;
 use crate::stepping::step;
 use plain_board::PlainBoard;
-use run_account::{Gate, Gate, Run};
+use run_account::{Gate, Run};
 use zr_io::{Shelf, Source};
 
 /// How many turns the card has had, and each application that hasn't left.
