@@ -8,8 +8,8 @@ bench/RESULTS.md:
 
 - the options of `replay`, with their ranges and defaults: docs/USE.md, docs/zcrx.1, and options.rt of command_words, with the
   bounds of layout.rt of area_layout; their names and the commands in completions/ too, and the usage in wrong.rt;
-- the statuses: docs/USE.md, docs/zcrx.1, fault.rt and Fault.antt of zr_kinds, and how a reading may end by Reading.antt of
-  frames_read, from which the top call's theorem has the statuses of a replay;
+- the statuses: docs/USE.md, docs/zcrx.1, fault.rt and Fault.antt of zr_kinds, and how a reading may end by FramesRead.antt of
+  card_feed, from which the top call's theorem has the statuses of a replay;
 - the limits that the documents name (LIMITS below): each number is that of its constant; the words of slots in docs/BOARDS.md are
   those of slots.rt of word_rings;
 - the lines of the report: docs/USE.md, docs/zcrx.1, and top_call; each report that is shown has them, and README's is the

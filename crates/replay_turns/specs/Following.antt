@@ -103,7 +103,7 @@ pub record RunsBy {S T : Type 0} {m : Streams S T} (was now : Ends m) (plan : Pl
 -- ---- what whole runs leave
 
 -- The stream theorem, what the outcome says, and that all is over at the board and it accounts for the run. The board is sound, and its
--- log tells of it, which has room for 1,000,000 events where the plan asks for a log.
+-- log tells of it, which has room for `most_events` where the plan asks for a log.
 pub record RanAlone {S T : Type 0} {m : Streams S T} (was now : Ends m) (plan : Plan) (told : Told) (board : Board) : Type 0 where
   pub ran : Ran was now plan told board.nic board.apps
   pub leaves : LeavesBoard plan board
