@@ -9,8 +9,7 @@ use Rattle.zr_kinds.specs.declared.behaviour.Stopped.TheVariants as stop
 use Rattle.zr_io.{specs.Moved.{Rose, Took}, proofs.Moved.{Rose-earlier, Took-then, Took-weaker}}
 use Rattle.card_feed.{specs.{Ending.{Ending, ended_of, steered_in}, FramesRead.{ShowsEnding, BreaksOff, TakenEnds, IsEnding, IsReadToEnd}}, proofs.Endings.{some-weaker}}
 use Rattle.board_face.specs.declared.views.{nic.NicSide.{NicSide}, app.AppSide.{AppSide}}
-use Rattle.card_feed.specs.{Need.{buffers_of, need_in}, Offered.{offers_of, WantsRoom}, declared.plan.Plan.{Plan}, Plan.{how_of}}
-use Rattle.card_feed.proofs.OfFlow.{there}
+use Rattle.card_feed.{specs.{Need.{buffers_of, need_in}, Offered.{offers_of, WantsRoom}, declared.plan.Plan.{Plan}, Plan.{how_of}}, proofs.OfFlow.{there}}
 use Rattle.run_account.{specs.{Ran.{HasReadOn, HaveWholeStreams, IsAppLine, Ran, Told}, Views.{Ends, Streams, counts_at, ends_at, failed_at, left_at, losses_in, losses_or}}, proofs.WholeStreams.{whole-streams}}
 use Rattle.run_account.proofs.{AppLines.{found-there, one-value}, Places.{get-within}}
 use Rattle.zr_kinds.specs.Options.{BehavesPlainly, plain_behaviour}
