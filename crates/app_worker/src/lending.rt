@@ -34,7 +34,7 @@ fn post<F: AppFace>(face: &F, st: &mut Stack, lending: Lending)
 /// spare for that, and counted.
 pub fn deliver_one<F: AppFace>(face: &mut F, st: &mut Stack) -> Delivery
     requires works { Works (state_of st.old) (F.seen face.old) }
-    requires more { st.old.ended ≡ false }
+    requires more { st.old.phase.ended ≡ false }
     ensures works { StillWorks (state_of st.old) (state_of st.new) (F.seen face.old)
         (F.seen face.new) }
     ensures lends { Lends (state_of st.old) (state_of st.new) (F.seen face.old) (F.seen face.new)

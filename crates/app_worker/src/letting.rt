@@ -70,5 +70,5 @@ pub fn let_go<F: AppFace>(face: &mut F, st: &mut Stack)
     abandon_due(face, &mut st.due);
     abandon_leaked(face, &mut st.leaked);
     release_all(face, &mut st.queues.flows);
-    st.bare = true;
+    st.phase.bare = true;
 }

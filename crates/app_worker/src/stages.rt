@@ -68,7 +68,7 @@ pub fn drain<F: AppFace, T: Shelf>(
     keep: usize,
 ) -> Drained
     requires none { NoneDue (state_of st.old) (F.seen face.old) }
-    requires keep { st.old.ended ≡ false → st.old.how.hold ≤ keep }
+    requires keep { st.old.phase.ended ≡ false → st.old.how.hold ≤ keep }
     ensures reads { ReadsTo keep (state_of st.old) (state_of st.new) (F.seen face.old)
         (F.seen face.new) (T.kept shelf.old) (T.kept shelf.new)
         (T.counts shelf.old).faults (T.counts shelf.new).faults result }
@@ -82,7 +82,7 @@ pub fn drain<F: AppFace, T: Shelf>(
         match read_one(face, st, shelf) {
             Read::Failed => {
                 let_go(face, st);
-                st.stopped = Stopped::Write;
+                st.phase.stopped = Stopped::Write;
                 return Drained::Failed;
             }
             Read::Quit => {
@@ -104,7 +104,7 @@ pub fn drain<F: AppFace, T: Shelf>(
 /// Lends pieces of the active flow, up to one that can't be lent: whether it lent one, and what ended it.
 fn lend_some<F: AppFace>(face: &mut F, st: &mut Stack) -> (bool, Delivery)
     requires works { Works (state_of st.old) (F.seen face.old) }
-    requires more { st.old.ended ≡ false }
+    requires more { st.old.phase.ended ≡ false }
     ensures lends { LentSome (state_of st.old) (state_of st.new) (F.seen face.old) (F.seen face.new)
         result.0 result.1 }
     ensures told { IsSoOfDelivery (λ look.

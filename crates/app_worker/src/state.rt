@@ -4,7 +4,7 @@ ghost use Rattle.board_face.specs.{AppCalls.{IsHere}, AppEvents.{app_gist}, decl
 ghost use Rattle.app_worker.specs.{declared.turn.{Why.{Why}, Turn.TheVariants.{Idle}}, State.{AppStands}, Kept.{new_state, IsFreshApp, flow_bytes}, Turns.{look_of}, TurnMakes.{TurnMakes, at_work}};
 ghost use Rattle.flow_queues.specs.{Shelves.{AreShelved}, Totals.{queue_bytes_of}};
 
-use crate::stack::{Reader, Stack, Stray, Tally};
+use crate::stack::{Phase, Reader, Stack, Stray, Tally};
 use crate::turn::Turn;
 use crate::working::turn;
 use board_face::AppFace;
@@ -48,7 +48,6 @@ impl AppState {
         let reader = Reader::new(alloc, room)?;
         let posted = CqRing::new(alloc, places as usize)?;
         let leaked = HeapCircularBuffer::with_capacity(alloc, how.leak as usize)?;
-        let at_once = how.quit == Some(0);
         let stack = Stack {
             app,
             how,
@@ -71,10 +70,7 @@ impl AppState {
                 loans: 0,
                 copied: 0,
             },
-            stopped: if at_once { Stopped::Quit } else { Stopped::No },
-            ended: false,
-            bare: at_once,
-            scrubbed: false,
+            phase: Phase::new(how.quit),
         };
         Ok(AppState { stack })
     }
@@ -104,7 +100,7 @@ impl AppState {
     pub fn stopped(&self) -> Stopped
         ensures { result ≡ self.now.stopped }
     {
-        self.stack.stopped
+        self.stack.phase.stopped
     }
 
     /// How many bytes of a flow the appends that went well took.

@@ -67,7 +67,7 @@ fn wanted(quit: Option<u64>, written: u64, len: u32) -> u32
 /// loan is due.
 pub fn read_one<F: AppFace, T: Shelf>(face: &mut F, st: &mut Stack, shelf: &mut T) -> Read
     requires none { NoneDue (state_of st.old) (F.seen face.old) }
-    requires more { st.old.ended ≡ false → st.old.reader.flush ≡ false
+    requires more { st.old.phase.ended ≡ false → st.old.reader.flush ≡ false
         → st.old.how.hold < length st.old.reader.unread.items }
     ensures reads { Reads (state_of st.old) (state_of st.new) (F.seen face.old) (F.seen face.new)
         (T.kept shelf.old) (T.kept shelf.new) (T.counts shelf.old).faults
@@ -107,7 +107,7 @@ pub fn read_one<F: AppFace, T: Shelf>(face: &mut F, st: &mut Stack, shelf: &mut 
         return Read::Failed;
     }
     if st.how.quit == Some(st.tally.written) {
-        st.stopped = Stopped::Quit;
+        st.phase.stopped = Stopped::Quit;
         return Read::Quit;
     }
     Read::Did
