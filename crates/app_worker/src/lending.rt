@@ -24,17 +24,17 @@ fn post<F: AppFace>(face: &F, st: &mut Stack, lending: Lending)
         flags: 2,
         off: face.off(&place),
     };
-    st.flush = st.flush || place.buffer == face.reserve();
+    st.reader.flush = st.reader.flush || place.buffer == face.reserve();
     // There is room, so this posts it.
     let _ = st.posted.post(completion, lending);
-    st.loans = st.loans.saturating_add(1);
+    st.tally.loans = st.tally.loans.saturating_add(1);
 }
 
 /// Lends what is next in the stream of the active flow, and posts it. Bytes that came with their note are copied into a
 /// spare for that, and counted.
 pub fn deliver_one<F: AppFace>(face: &mut F, st: &mut Stack) -> Delivery
     requires works { Works (state_of st.old) (F.seen face.old) }
-    requires more { st.old.ended ≡ false }
+    requires more { st.old.phase.ended ≡ false }
     ensures works { StillWorks (state_of st.old) (state_of st.new) (F.seen face.old)
         (F.seen face.new) }
     ensures lends { Lends (state_of st.old) (state_of st.new) (F.seen face.old) (F.seen face.new)
@@ -52,7 +52,7 @@ pub fn deliver_one<F: AppFace>(face: &mut F, st: &mut Stack) -> Delivery
             Delivery::Did
         }
         Next::LentCopy(lending) => {
-            st.copied = st.copied.saturating_add(1);
+            st.tally.copied = st.tally.copied.saturating_add(1);
             post(face, st, lending);
             Delivery::Did
         }

@@ -66,9 +66,9 @@ pub fn let_go<F: AppFace>(face: &mut F, st: &mut Stack)
     ensures done { LetGo (state_of st.old) (state_of st.new) (F.seen face.old) (F.seen face.new) }
     ensures beside { F.beside face.new ≡ F.beside face.old }
 {
-    abandon_all(face, &mut st.unread);
+    abandon_all(face, &mut st.reader.unread);
     abandon_due(face, &mut st.due);
     abandon_leaked(face, &mut st.leaked);
     release_all(face, &mut st.queues.flows);
-    st.bare = true;
+    st.phase.bare = true;
 }

@@ -2,7 +2,7 @@
 ghost use Rattle.std.specs.Prelude.{◌≡◌, false, ◌+◌, ◌≤◌, [], ◌++◌, length};
 ghost use Rattle.completion_ring.specs.Ring.{ring};
 ghost use Rattle.board_face.specs.AppEvents.{app_gist};
-ghost use Rattle.app_worker.specs.{StateOf.{state_of}, Works.{Works, NoneDue, MayLend}, ShelfWent.{ShelfWent}, Steps.{IsSoOfDelivery}, Stages.{kept_unread, ReadsTo, LentSome, LendsAll, IsSoOfLent}};
+ghost use Rattle.app_worker.specs.{StateOf.{state_of}, Works.{Works, NoneDue, MayLend}, ShelfWent.{ShelfWent}, Steps.{IsSoOfDelivery}, Stages.{ReadsTo, LentSome, LendsAll, IsSoOfLent}};
 
 use crate::lending::deliver_one;
 use crate::letting::let_go;
@@ -47,22 +47,16 @@ pub enum Lent {
 
 /// Reaps all that is posted.
 fn reap_all(st: &mut Stack)
-    requires { length st.old.unread.items + length st.old.posted.entries ≤ st.old.unread.capacity }
+    requires { length st.old.reader.unread.items + length st.old.posted.entries
+        ≤ st.old.reader.unread.capacity }
     ensures { state_of st.new ≡ record (state_of st.old) {
-      unread = st.old.unread.items ++ st.old.posted.entries;
+      unread = st.old.reader.unread.items ++ st.old.posted.entries;
       posted = ring [] st.old.posted.places;
     } }
 {
     while let Some(entry) = st.posted.reap() {
-        let _ = st.unread.try_push_back(entry);
+        let _ = st.reader.unread.try_push_back(entry);
     }
-}
-
-/// How many may stay unread: none, while all is to be read.
-fn least_kept(st: &Stack, keep: usize) -> usize
-    ensures { result ≡ kept_unread keep (state_of st.now) }
-{
-    if st.flush { 0 } else { keep }
 }
 
 /// Reads and gives back the oldest loans, down to as many that it may keep unread, or all where a loan in the reserve
@@ -74,7 +68,7 @@ pub fn drain<F: AppFace, T: Shelf>(
     keep: usize,
 ) -> Drained
     requires none { NoneDue (state_of st.old) (F.seen face.old) }
-    requires keep { st.old.ended ≡ false → st.old.how.hold ≤ keep }
+    requires keep { st.old.phase.ended ≡ false → st.old.how.hold ≤ keep }
     ensures reads { ReadsTo keep (state_of st.old) (state_of st.new) (F.seen face.old)
         (F.seen face.new) (T.kept shelf.old) (T.kept shelf.new)
         (T.counts shelf.old).faults (T.counts shelf.new).faults result }
@@ -82,13 +76,13 @@ pub fn drain<F: AppFace, T: Shelf>(
         (T.counts shelf.new) result }
     ensures beside { F.beside face.new ≡ F.beside face.old }
 {
-    let least = least_kept(st, keep);
+    let least = st.reader.least_kept(keep);
     let mut did = false;
-    while st.unread.len() > least {
+    while st.reader.unread.len() > least {
         match read_one(face, st, shelf) {
             Read::Failed => {
                 let_go(face, st);
-                st.stopped = Stopped::Write;
+                st.phase.stopped = Stopped::Write;
                 return Drained::Failed;
             }
             Read::Quit => {
@@ -110,7 +104,7 @@ pub fn drain<F: AppFace, T: Shelf>(
 /// Lends pieces of the active flow, up to one that can't be lent: whether it lent one, and what ended it.
 fn lend_some<F: AppFace>(face: &mut F, st: &mut Stack) -> (bool, Delivery)
     requires works { Works (state_of st.old) (F.seen face.old) }
-    requires more { st.old.ended ≡ false }
+    requires more { st.old.phase.ended ≡ false }
     ensures lends { LentSome (state_of st.old) (state_of st.new) (F.seen face.old) (F.seen face.new)
         result.0 result.1 }
     ensures told { IsSoOfDelivery (λ look.

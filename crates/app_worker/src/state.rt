@@ -4,13 +4,13 @@ ghost use Rattle.board_face.specs.{AppCalls.{IsHere}, AppEvents.{app_gist}, decl
 ghost use Rattle.app_worker.specs.{declared.turn.{Why.{Why}, Turn.TheVariants.{Idle}}, State.{AppStands}, Kept.{new_state, IsFreshApp, flow_bytes}, Turns.{look_of}, TurnMakes.{TurnMakes, at_work}};
 ghost use Rattle.flow_queues.specs.{Shelves.{AreShelved}, Totals.{queue_bytes_of}};
 
-use crate::stack::{Stack, Stray};
+use crate::stack::{Phase, Reader, Stack, Stray, Tally};
 use crate::turn::Turn;
 use crate::working::turn;
 use board_face::AppFace;
 use circular_buffer::HeapCircularBuffer;
 use completion_ring::CqRing;
-use flow_queues::{CHUNK, Queues, find};
+use flow_queues::{Queues, find};
 use std::alloc::{AllocError, Global};
 use std::marker::Model;
 use zr_io::Shelf;
@@ -45,16 +45,14 @@ impl AppState {
             (λ st. (kept : ℕ → Option (List ℕ)) → (v : AppView) → AreShelved kept kept st.flows v) }
     {
         let room = how.hold as usize + places as usize;
-        let unread = HeapCircularBuffer::with_capacity(alloc, room)?;
+        let reader = Reader::new(alloc, room)?;
         let posted = CqRing::new(alloc, places as usize)?;
         let leaked = HeapCircularBuffer::with_capacity(alloc, how.leak as usize)?;
-        let chunk = Box::new(alloc, [0; CHUNK])?;
-        let at_once = how.quit == Some(0);
         let stack = Stack {
             app,
             how,
             queues: Queues::new(alloc),
-            unread,
+            reader,
             posted,
             due: None,
             leaked,
@@ -67,15 +65,12 @@ impl AppState {
                 buffer: 0,
                 left: 0,
             },
-            written: 0,
-            loans: 0,
-            stopped: if at_once { Stopped::Quit } else { Stopped::No },
-            ended: false,
-            bare: at_once,
-            scrubbed: false,
-            copied: 0,
-            flush: false,
-            chunk,
+            tally: Tally {
+                written: 0,
+                loans: 0,
+                copied: 0,
+            },
+            phase: Phase::new(how.quit),
         };
         Ok(AppState { stack })
     }
@@ -84,28 +79,28 @@ impl AppState {
     pub fn written(&self) -> u64
         ensures { result ≡ self.now.written }
     {
-        self.stack.written
+        self.stack.tally.written
     }
 
     /// How many completions were posted.
     pub fn loans(&self) -> u64
         ensures { result ≡ self.now.loans }
     {
-        self.stack.loans
+        self.stack.tally.loans
     }
 
     /// How many of these were of bytes that had to be copied.
     pub fn copied(&self) -> u64
         ensures { result ≡ self.now.copied }
     {
-        self.stack.copied
+        self.stack.tally.copied
     }
 
     /// What stopped it.
     pub fn stopped(&self) -> Stopped
         ensures { result ≡ self.now.stopped }
     {
-        self.stack.stopped
+        self.stack.phase.stopped
     }
 
     /// How many bytes of a flow the appends that went well took.

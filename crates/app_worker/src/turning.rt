@@ -67,8 +67,8 @@ fn wanted(quit: Option<u64>, written: u64, len: u32) -> u32
 /// loan is due.
 pub fn read_one<F: AppFace, T: Shelf>(face: &mut F, st: &mut Stack, shelf: &mut T) -> Read
     requires none { NoneDue (state_of st.old) (F.seen face.old) }
-    requires more { st.old.ended ≡ false → st.old.flush ≡ false
-        → st.old.how.hold < length st.old.unread.items }
+    requires more { st.old.phase.ended ≡ false → st.old.reader.flush ≡ false
+        → st.old.how.hold < length st.old.reader.unread.items }
     ensures reads { Reads (state_of st.old) (state_of st.new) (F.seen face.old) (F.seen face.new)
         (T.kept shelf.old) (T.kept shelf.new) (T.counts shelf.old).faults
         (T.counts shelf.new).faults result }
@@ -76,10 +76,10 @@ pub fn read_one<F: AppFace, T: Shelf>(face: &mut F, st: &mut Stack, shelf: &mut 
         (T.counts shelf.new) result }
     ensures beside { F.beside face.new ≡ F.beside face.old }
 {
-    let Some((completion, lending)) = st.unread.pop_front() else {
+    let Some((completion, lending)) = st.reader.unread.pop_front() else {
         return Read::NoneUnread;
     };
-    st.flush = still_flushes(st.flush, &st.unread);
+    st.reader.flush = still_flushes(st.reader.flush, &st.reader.unread);
     let Some(i) = find(&st.queues.index, completion.user_data) else {
         // Each completion is of a flow that has a queue, so this is never reached.
         st.due = Some(lending);
@@ -89,8 +89,8 @@ pub fn read_one<F: AppFace, T: Shelf>(face: &mut F, st: &mut Stack, shelf: &mut 
     // Only its answer says that the queue is sound, so that the count of bytes stays in its type.
     let _next = own.queue.next_position();
     let before = own.bytes;
-    let most = wanted(st.how.quit, st.written, lending.loan.place().len);
-    let chunk = &mut *st.chunk;
+    let most = wanted(st.how.quit, st.tally.written, lending.loan.place().len);
+    let chunk = &mut *st.reader.chunk;
     let result = read_loan(
         face,
         &lending,
@@ -101,13 +101,13 @@ pub fn read_one<F: AppFace, T: Shelf>(face: &mut F, st: &mut Stack, shelf: &mut 
         shelf,
     );
     let gained = own.bytes - before;
-    st.written = st.written.saturating_add(gained);
+    st.tally.written = st.tally.written.saturating_add(gained);
     st.due = Some(lending);
     if let Err(Failed) = result {
         return Read::Failed;
     }
-    if st.how.quit == Some(st.written) {
-        st.stopped = Stopped::Quit;
+    if st.how.quit == Some(st.tally.written) {
+        st.phase.stopped = Stopped::Quit;
         return Read::Quit;
     }
     Read::Did

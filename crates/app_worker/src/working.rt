@@ -51,7 +51,7 @@ fn pass_note<F: AppFace>(face: &mut F) -> Option<Turn>
 fn bare_turn<F: AppFace>(face: &mut F, st: &mut Stack) -> Turn
     requires here { IsHere (F.seen face.old) }
     requires bare { Bare (state_of st.old) (F.seen face.old) }
-    requires is_bare { st.old.bare ≡ true }
+    requires is_bare { st.old.phase.bare ≡ true }
     requires common { Common (state_of st.old) (F.seen face.old) }
     requires reaped { st.old.posted.entries ≡ [] }
     ensures turns { (kept : ℕ → Option (List ℕ)) (faults : ℕ)
@@ -61,32 +61,32 @@ fn bare_turn<F: AppFace>(face: &mut F, st: &mut Stack) -> Turn
         → F.tells (look_of why) (app_gist (F.seen face.new)) (F.beside face.new) }
     ensures beside { F.beside face.new ≡ F.beside face.old }
 {
-    if st.ended {
-        return if leave(face, &mut st.scrubbed) {
+    if st.phase.ended {
+        return if leave(face, &mut st.phase.scrubbed) {
             Turn::Finished
         } else {
             Turn::Idle(Why::NotQuiet)
         };
     }
     let Some(turn) = pass_note(face) else {
-        st.ended = true;
-        return if leave(face, &mut st.scrubbed) {
+        st.phase.ended = true;
+        return if leave(face, &mut st.phase.scrubbed) {
             Turn::Finished
         } else {
             Turn::Did
         };
     };
-    if st.scrubbed {
+    if st.phase.scrubbed {
         return turn;
     }
-    let did = scrub(face, &mut st.scrubbed);
+    let did = scrub(face, &mut st.phase.scrubbed);
     after(did, turn)
 }
 
 /// Reads all that is unread, gives all up and leaves.
 fn close<F: AppFace, T: Shelf>(face: &mut F, st: &mut Stack, shelf: &mut T) -> Turn
     requires none { NoneDue (state_of st.old) (F.seen face.old) }
-    requires ended { st.old.ended ≡ true }
+    requires ended { st.old.phase.ended ≡ true }
     ensures turns { Turns (state_of st.old) (state_of st.new) (F.seen face.old) (F.seen face.new)
         (T.kept shelf.old) (T.kept shelf.new) (T.counts shelf.old).faults
         (T.counts shelf.new).faults result }
@@ -103,7 +103,7 @@ fn close<F: AppFace, T: Shelf>(face: &mut F, st: &mut Stack, shelf: &mut T) -> T
         _ => {}
     }
     let_go(face, st);
-    if leave(face, &mut st.scrubbed) {
+    if leave(face, &mut st.phase.scrubbed) {
         Turn::Finished
     } else {
         Turn::Did
@@ -130,12 +130,12 @@ fn look<F: AppFace, T: Shelf>(face: &mut F, st: &mut Stack, shelf: &mut T) -> Tu
         },
         Taken::NoNote => Turn::Idle(Why::NoNote),
         Taken::Ended => {
-            st.ended = true;
+            st.phase.ended = true;
             close(face, st, shelf)
         }
         Taken::Memory => {
             let_go(face, st);
-            st.stopped = Stopped::Memory;
+            st.phase.stopped = Stopped::Memory;
             Turn::Failed(Fault::Memory)
         }
     }
@@ -175,7 +175,7 @@ fn work<F: AppFace, T: Shelf>(face: &mut F, st: &mut Stack, shelf: &mut T) -> Tu
         (T.counts shelf.new) result }
     ensures beside { F.beside face.new ≡ F.beside face.old }
 {
-    if st.ended {
+    if st.phase.ended {
         return close(face, st, shelf);
     }
     match drain(face, st, shelf, st.how.hold as usize) {
@@ -203,7 +203,7 @@ pub fn turn<F: AppFace, T: Shelf>(face: &mut F, st: &mut Stack, shelf: &mut T) -
         (T.counts shelf.new) result }
     ensures beside { F.beside face.new ≡ F.beside face.old }
 {
-    if st.bare {
+    if st.phase.bare {
         return bare_turn(face, st);
     }
     match give_back(face, st) {

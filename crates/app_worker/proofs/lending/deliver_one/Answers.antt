@@ -24,7 +24,7 @@ post-requires-in-LentCopy-clause-active g c = still-active c.in-LentCopy.ensures
 pub returns-in-Lent : goal.returns-in-Lent
 returns-in-Lent g c =
     let lends = c.in-Lent.ensures.lends in
-    let copies : c.args.st.now.copied ≡ capped (g.F.AppFace.seen c.lend.new.face).spares =
+    let copies : c.args.st.now.tally.copied ≡ capped (g.F.AppFace.seen c.lend.new.face).spares =
     omega (arith, c.requires.works.common.copied, lends.0.lent.spares, lends.0.lent.copy, lends.1) in
     assumption (posted-one _ _ _ _ _ _ c.requires.more c.requires.works lends.0 copies (search rules) _ c.post.ensures)
 

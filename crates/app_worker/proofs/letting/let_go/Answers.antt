@@ -20,7 +20,7 @@ abandon_leaked-requires-clause-out g c = leaked-still-out (state_of c.args.st.no
 pub returns-clause-done : goal.returns-clause-done
 returns-clause-done g c =
     let items : c.abandon_all.new.unread.items ≡ [] = ap (λ (b : Buffer (Completion × Lending)). b.items) c.abandon_all.ensures.empty in
-    let capacity : c.abandon_all.new.unread.capacity ≡ c.args.st.now.unread.capacity = ap
+    let capacity : c.abandon_all.new.unread.capacity ≡ c.args.st.now.reader.unread.capacity = ap
     (λ (b : Buffer (Completion × Lending)). b.capacity) c.abandon_all.ensures.empty in
     rw (items, capacity, c.abandon_due.ensures.none, c.abandon_leaked.ensures.empty) (gone-all (state_of c.args.st.now) c.release_all.new.flows.items
     (g.F.AppFace.seen c.args.face.now)

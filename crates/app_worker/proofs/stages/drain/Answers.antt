@@ -79,7 +79,7 @@ read-one : (g : _) (c : After-give_back g)
     → ReadOne (state_of c.loop-face.st) (state_of c.read_one.new.st) (g.F.AppFace.seen c.loop-face.face) (g.F.AppFace.seen c.read_one.new.face)
     (g.T.Shelf.kept c.loop-face.shelf) (g.T.Shelf.kept c.read_one.new.shelf)
 read-one g c =
-    let some : 0 < length c.loop-face.st.unread.items = omega (arith, c.loop-face-test.true, c.len.ensures.len) in
+    let some : 0 < length c.loop-face.st.reader.unread.items = omega (arith, c.loop-face-test.true, c.len.ensures.len) in
     read-did _ _ _ _ _ _ _ _ c.read_one.result c.in_default.not-Failed c.in_default.not-Quit some c.read_one.ensures.reads
 
 pub returns-in-Part-clause-reads : goal.returns-in-Part-clause-reads

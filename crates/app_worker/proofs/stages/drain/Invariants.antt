@@ -13,11 +13,11 @@ invariant-loop-face g l =
     × ((g.T.Shelf.counts l.shelf).faults ≡ (g.T.Shelf.counts l.fn.shelf).faults)
     × (g.F.AppFace.beside l.face ≡ g.F.AppFace.beside l.fn.face)
     × (l.least ≡ kept_unread l.fn.keep (state_of l.fn.st))
-    × (l.did ≡ true → l.least ≤ length l.st.unread.items)
-    × (l.st.flush ≡ true → (l.fn.st.flush ≡ true) × (l.did ≡ true → l.st.unread.items ≢ []))
-    × (l.st.flush ≡ false → (l.fn.st.flush ≡ false) ⊎ (l.st.unread.items ≡ []))
+    × (l.did ≡ true → l.least ≤ length l.st.reader.unread.items)
+    × (l.st.reader.flush ≡ true → (l.fn.st.reader.flush ≡ true) × (l.did ≡ true → l.st.reader.unread.items ≢ []))
+    × (l.st.reader.flush ≡ false → (l.fn.st.reader.flush ≡ false) ⊎ (l.st.reader.unread.items ≡ []))
     × (l.st.stray.left ≡ 0)
-    × CountsOn l.fn.st.written l.st.written (g.T.Shelf.counts l.fn.shelf).appended (g.T.Shelf.counts l.shelf).appended
+    × CountsOn l.fn.st.tally.written l.st.tally.written (g.T.Shelf.counts l.fn.shelf).appended (g.T.Shelf.counts l.shelf).appended
 
 abbrev pub decreases-loop-face : goal.decreases-loop-face
-decreases-loop-face g l = length l.st.unread.items
+decreases-loop-face g l = length l.st.reader.unread.items

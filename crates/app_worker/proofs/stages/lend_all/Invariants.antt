@@ -13,11 +13,11 @@ invariant-loop-end g l =
     (g.T.Shelf.kept l.shelf))
     × ((g.T.Shelf.counts l.shelf).faults ≡ (g.T.Shelf.counts l.fn.shelf).faults)
     × (g.F.AppFace.beside l.face ≡ g.F.AppFace.beside l.fn.face)
-    × (length l.st.unread.items ≤ l.st.how.hold)
+    × (length l.st.reader.unread.items ≤ l.st.how.hold)
     × (l.st.stray.left ≡ 0)
-    × (l.st.flush ≡ false)
+    × (l.st.reader.flush ≡ false)
     × (l.did ≡ true → HasNext (queues_of (state_of l.fn.st)))
-    × CountsOn l.fn.st.written l.st.written (g.T.Shelf.counts l.fn.shelf).appended (g.T.Shelf.counts l.shelf).appended
+    × CountsOn l.fn.st.tally.written l.st.tally.written (g.T.Shelf.counts l.fn.shelf).appended (g.T.Shelf.counts l.shelf).appended
 
 abbrev pub decreases-loop-end : goal.decreases-loop-end
 decreases-loop-end g l = furthest l.st.how.stray (g.F.AppFace.seen l.face) - app_steps (state_of l.st) (g.F.AppFace.seen l.face)

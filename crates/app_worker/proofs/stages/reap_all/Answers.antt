@@ -18,27 +18,27 @@ pub loop-entry-preserved : goal.loop-entry-preserved
 loop-entry-preserved c =
     let inv = c.loop-entry.invariant in
     let e : Completion × Lending = c.in-Some.entry in
-    let xs : List (Completion × Lending) = c.loop-entry.st.unread.items in
+    let xs : List (Completion × Lending) = c.loop-entry.st.reader.unread.items in
     let rest : List (Completion × Lending) = c.reap.new.self.entries in
     let oldest : c.loop-entry.st.posted ≡ ring (e ∷ rest) c.reap.new.self.places = search rules in
     let entries : c.loop-entry.st.posted.entries ≡ e ∷ rest = ap (λ (r : Ring (Completion × Lending)). r.entries) oldest in
     let places : c.loop-entry.st.posted.places ≡ c.reap.new.self.places = ap (λ (r : Ring (Completion × Lending)). r.places) oldest in
-    let capacity : c.loop-entry.st.unread.capacity ≡ c.args.st.now.unread.capacity = ap (λ (s : State). s.room) inv.1 in
-    let sum : length (xs ++ c.loop-entry.st.posted.entries) ≡ length (c.args.st.now.unread.items ++ c.args.st.now.posted.entries) = ap length inv.0 in
-    let room : length xs < c.loop-entry.st.unread.capacity =
+    let capacity : c.loop-entry.st.reader.unread.capacity ≡ c.args.st.now.reader.unread.capacity = ap (λ (s : State). s.room) inv.1 in
+    let sum : length (xs ++ c.loop-entry.st.posted.entries) ≡ length (c.args.st.now.reader.unread.items ++ c.args.st.now.posted.entries) = ap length inv.0 in
+    let room : length xs < c.loop-entry.st.reader.unread.capacity =
     omega (
       arith,
       sum,
       length-append xs c.loop-entry.st.posted.entries,
-      length-append c.args.st.now.unread.items c.args.st.now.posted.entries,
+      length-append c.args.st.now.reader.unread.items c.args.st.now.posted.entries,
       ap length entries,
       capacity,
       c.requires,
     ) in
-    let pushed : c.try_push_back.new.self ≡ buffer (xs ++ e ∷ []) c.loop-entry.st.unread.capacity = on-ok c.try_push_back.result _
+    let pushed : c.try_push_back.new.self ≡ buffer (xs ++ e ∷ []) c.loop-entry.st.reader.unread.capacity = on-ok c.try_push_back.result _
     (c.try_push_back.ensures.variant.1 room) c.try_push_back.ensures.ok in
     let items : c.try_push_back.new.self.items ≡ xs ++ e ∷ [] = ap (λ (b : Buffer (Completion × Lending)). b.items) pushed in
-    let same_capacity : c.try_push_back.new.self.capacity ≡ c.loop-entry.st.unread.capacity = ap
+    let same_capacity : c.try_push_back.new.self.capacity ≡ c.loop-entry.st.reader.unread.capacity = ap
     (λ (b : Buffer (Completion × Lending)). b.capacity) pushed in
     rw (items, same_capacity) (
       append_assoc xs (e ∷ []) rest ∙ ap (λ es. xs ++ es) (sym entries) ∙ inv.0,

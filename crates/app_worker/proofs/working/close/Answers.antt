@@ -7,8 +7,8 @@ use Rattle.app_worker.proofs.working.close.Goals as goal
 -- all is read
 all-read : (g : _) (c : After-drain g) → c.drain.result ≢ InUse → c.drain.result ≢ Quit → c.drain.result ≢ Failed
     → Through (state_of c.args.st.now) (state_of c.drain.new.st) (g.F.AppFace.seen c.args.face.now) (g.F.AppFace.seen c.drain.new.face)
-    (g.T.Shelf.kept c.args.shelf.now) (g.T.Shelf.kept c.drain.new.shelf) × (c.drain.new.st.due ≡ None) × (length c.drain.new.st.unread.items ≤ 0)
-    × (c.drain.new.st.flush ≡ false) × (c.drain.new.st.stray.left ≡ 0)
+    (g.T.Shelf.kept c.args.shelf.now) (g.T.Shelf.kept c.drain.new.shelf) × (c.drain.new.st.due ≡ None) × (length c.drain.new.st.reader.unread.items ≤ 0)
+    × (c.drain.new.st.reader.flush ≡ false) × (c.drain.new.st.stray.left ≡ 0)
 all-read g c free quit fail = drained 0 (state_of c.args.st.now) (state_of c.drain.new.st) (g.F.AppFace.seen c.args.face.now)
     (g.F.AppFace.seen c.drain.new.face) (g.T.Shelf.kept c.args.shelf.now) (g.T.Shelf.kept c.drain.new.shelf) (g.T.Shelf.counts c.args.shelf.now).faults
     (g.T.Shelf.counts c.drain.new.shelf).faults c.drain.result free quit fail c.requires.none.due c.requires.none.pushed c.requires.none.works.working c.requires.none.works.common
