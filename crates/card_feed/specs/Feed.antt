@@ -1,5 +1,5 @@
 -- What the card keeps between its turns, and how that stands to the source and to what its face has seen.
-use Rattle.std.specs.Prelude.{◌≡◌, ◌≢◌, ℕ, ◌+◌, ◌<◌, Bool, true, false, if◌then◌else◌, List, [], length, Option, None}
+use Rattle.std.specs.Prelude.{◌≡◌, ◌≢◌, ℕ, ◌+◌, ◌<◌, Bool, true, false, List, [], length, Option, None}
 use Rattle.zr_kinds.specs.declared.{fault.Fault.{Fault}, outcome.Tally.{Tally}}
 pub use Rattle.zr_kinds.specs.Counting.{one_if}
 use Rattle.flow_table.specs.Flows.{Flow, flows_of}

@@ -1,5 +1,5 @@
 -- The options and flags of `replay`: each option with its range, and what stands for it where it isn't said.
-use Rattle.std.specs.Prelude.{ℕ, ◌≤◌, ◌<◌, ◌≡◌, ◌+◌, ◌⊎◌, Bool, List, [], ◌∷◌, length, nat_le, nat_lt, ◌==◌, ◌&&◌, ◌||◌, true, false, not, is_some, IfSome}
+use Rattle.std.specs.Prelude.{ℕ, ◌≤◌, ◌<◌, ◌≡◌, ◌+◌, ◌⊎◌, Bool, List, [], ◌∷◌, length, nat_le, nat_lt, ◌==◌, ◌&&◌, ◌||◌, not, is_some}
 use Rattle.std.specs.{Prelude.{if◌then◌else◌, Option, Some, None, option_map, option_and_then, codes, All}, List.{list_all, list_any}}
 use Rattle.zr_kinds.specs.declared.{behaviour.Behaviour.{Behaviour}, options.Options.{Options}}
 use Rattle.command_words.specs.{Assigned.{Text}, Numbers.{in_range, up_to, value_of}}

@@ -26,7 +26,7 @@ impl Model for PlainApp {
 }
 
 impl PlainApp {
-    /// Gives the board back with all that it holds, tokens that are out included. The application is one of its.
+    /// Gives the board back with all that it holds, tokens that are out included. The application is one of the board's.
     pub fn back(self) -> PlainBoard
         ensures board { result ≡ self.board }
         ensures sound { IsSound (stand_of result) }

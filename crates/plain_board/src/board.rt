@@ -17,7 +17,8 @@ use zr_kinds::{Ended, Log};
 ///
 /// Between any two calls every board is sound (`IsSound`): counts are holders, each pool buffer is free once or held, the area has
 /// each text at its place, what lies in the slots is what is on its way, what was read is what was sent, and no entry of a loan was
-/// a stray. And its log tells how that came about (`IsRecorded`). So says each call that gives a board: `open`, and `back` of a part.
+/// a stray. And its log tells how that came about (`IsRecorded`). So says each call that gives a
+/// board: `open`, `open_logged`, and `back` of a part.
 #[derive(Drop)]
 pub struct PlainBoard {
     pub(crate) board: Box<Logged>,

@@ -1,8 +1,8 @@
 //! The board for one thread: counts, rings and free buffers in plain arrays. The card and each application reach it through
-//! a part that holds the whole board and gives it back. A board logs what happens to the holders of its buffers, as far as
-//! its log has room: an `EventLog` takes its memory as it is opened, and closes for good at the first event for which it
-//! has no room. What a log keeps true of a board's sides is `IsLogged`, whether it is whole or not. Begin with `board.rt`
-//! and `contents.rt`.
+//! a part that holds the whole board and gives it back; each board that a call gives is sound (`IsSound`). A board logs
+//! what happens to the holders of its buffers, as far as its log has room: an `EventLog` takes its memory as it is opened,
+//! and closes for good at the first event for which it has no room. What a log keeps true of a board's sides is `IsLogged`,
+//! whether it is whole or not. Begin with `board.rt` and `contents.rt`.
 #![tactic(auto)]
 
 mod app;
