@@ -15,10 +15,10 @@ use zr_kinds::{Ended, Log};
 /// A board for one thread: counts, rings and free buffers in plain arrays, and a log of its events. All its memory is taken
 /// at opening. It stands behind a pointer, since it goes into a role's hands for each turn, and back.
 ///
-/// Between any two calls every board is sound (`IsSound`): counts are holders, each pool buffer is free once or held, the area has
-/// each text at its place, what lies in the slots is what is on its way, what was read is what was sent, and no entry of a loan was
-/// a stray. And its log tells how that came about (`IsRecorded`). So says each call that gives a
-/// board: `open`, `open_logged`, and `back` of a part.
+/// Between any two calls every board is sound (`IsSound`): counts are holders, each pool buffer is free once or held, the
+/// area has each text at its place, what lies in the slots is what is on its way, what was read is what was sent, and no
+/// entry of a loan was a stray. And its log tells how that came about (`IsRecorded`). So says each call that gives a board:
+/// `open`, `open_logged`, and `back` of a part.
 #[derive(Drop)]
 pub struct PlainBoard {
     pub(crate) board: Box<Logged>,
