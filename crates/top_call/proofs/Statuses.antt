@@ -295,7 +295,7 @@ module _ {S T : Type 0} {m : Streams S T} {first : Ends m} (last : Ends m) {at :
   unfolding IsNumbered
   whole-of zero = ⊎_elim (λ one. absurd (omega arith)) (λ others. ⊎_elim (λ (nine, why). absurd (omega arith))
       (λ number.
-      let at_end : outcome.end ≡ None = (numbered outcome.end replayed.ended.kind).3 (sym number ∙ zero) in
+      let at_end : outcome.end ≡ None = (numbered outcome.end replayed.ended.kind).2 (sym number ∙ zero) in
       subst (λ s. IsReadToEnd (left_at first) (m.source.left s)) (ahead.same (λ e. cc) (λ e. cc)) (replayed.ended.at_end at_end)) others) causes.cases
 
   read-of : answer ≡ 8 → Rose (failed_at first) (failed_at last)
@@ -303,7 +303,7 @@ module _ {S T : Type 0} {m : Streams S T} {first : Ends m} (last : Ends m) {at :
   unfolding IsNumbered
   read-of eight = ⊎_elim (λ one. absurd (omega arith)) (λ others. ⊎_elim (λ (nine, why). absurd (omega arith))
       (λ number.
-      let by_read : outcome.end ≡ Some Read = (numbered outcome.end replayed.ended.kind).2 (sym number ∙ eight) in
+      let by_read : outcome.end ≡ Some Read = (numbered outcome.end replayed.ended.kind).1 (sym number ∙ eight) in
       subst (λ s. Rose (failed_at first) (m.source.failed s) × Took (left_at first) (m.source.left s) (λ taken. IsBrokenOff (ended_of plan.ports.items taken).fault))
       (ahead.same (λ e. cc) (λ e. cc)) (
         replayed.ended.cause by_read,
@@ -551,7 +551,7 @@ module _ {S T O : Type 0} {m : Seen S T O} (before : World m) (ends : Ends m.str
         done = λ zero all told_all. record {
           all_read = rw (← same) (all_read-of ends ran ahead flushes is zero all told_all);
           enough = rw (← same) (enough-of ends ran ahead flushes is zero all told_all);
-          streams = rw (← same, ← how-said told plan in_range planned) (streams-of ends ran ahead flushes is zero all told_all);
+          streams = rw (← same, ← how-said told plan plainly planned) (streams-of ends ran ahead flushes is zero all told_all);
         };
       }
 
