@@ -3,8 +3,7 @@ ghost use Rattle.std.specs.Prelude.{◌≡◌, All, IfOk, IfSome};
 ghost use Rattle.board_face.specs.{NicCalls.{apps_of}, Opened.{new_app}};
 ghost use Rattle.board_race.specs.{Halves.{IsReceiver}, Lanes.{AreReady, LaneHasRun, HaveRun}};
 
-use crate::Receiver;
-use crate::app::receive_all;
+use crate::app::{Receiver, receive_all};
 use crate::plan::LOOKS;
 use std::alloc::{AllocError, Global};
 use std::thread::{self, Threads};

@@ -4,10 +4,9 @@ ghost use Rattle.zr_kinds.specs.Limits.{longest_payload};
 ghost use Rattle.board_race.specs.Halves.{IsSender, IsReceiver};
 ghost use Rattle.plain_board.specs.Board.{side_of};
 
-use crate::app::{leave, take_all};
-use crate::card::gather;
-use crate::plan::LOOKS;
-use crate::{Plan, Receiver, Sender};
+use crate::app::{Receiver, leave, take_all};
+use crate::card::{Sender, gather};
+use crate::plan::{LOOKS, Plan};
 use plain_board::PlainBoard;
 use std::alloc::{AllocError, Global};
 

@@ -5,10 +5,9 @@ ghost use Rattle.board_face.specs.NicCalls.{apps_of};
 ghost use Rattle.board_race.specs.{Halves.{IsSender, IsReceiver}, Lanes.{AreAt, SayLeft, HaveRun}};
 ghost use Rattle.word_board.specs.Desk.{AllAreBack};
 
-use crate::card::send_all;
+use crate::card::{Sender, send_all};
 use crate::lanes::{Lane, open_lanes, run_lanes};
-use crate::plan::LOOKS;
-use crate::{Plan, Sender};
+use crate::plan::{LOOKS, Plan};
 use std::alloc::{AllocError, Global};
 use std::thread::{Threads, join_mut};
 use word_board::{Desk, NicSeat, WordBoard};

@@ -3,10 +3,9 @@ ghost use Rattle.std.specs.Prelude.{◌≡◌, ◌≤◌, length, None};
 ghost use Rattle.zr_kinds.specs.Limits.{longest_payload};
 ghost use Rattle.board_race.specs.Halves.{IsSender, IsReceiver};
 
-use crate::app::{leave, take_all};
-use crate::card::gather;
-use crate::plan::LOOKS;
-use crate::{Plan, Receiver, Sender};
+use crate::app::{Receiver, leave, take_all};
+use crate::card::{Sender, gather};
+use crate::plan::{LOOKS, Plan};
 use board_face::{AppFace, NicFace};
 use std::alloc::{AllocError, Global};
 use word_board::WordBoard;
