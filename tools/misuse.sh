@@ -30,9 +30,9 @@ for file in "$top"/tools/misuse/*.refused; do
     fi
 done
 said=$(said_with "$top/tools/misuse/used_once.good")
-if grep -q 'error' <<< "$said"; then
+if grep -qw 'error' <<< "$said"; then
     echo "misuse: used_once: refused, and must not be"
-    grep 'error' <<< "$said"
+    grep -w 'error' <<< "$said"
     status=1
 else
     echo "misuse: used_once: not refused, as it must be"
