@@ -1,6 +1,6 @@
 //! A loan is read, and what was read is appended; and a loan is given back.
 ghost use Rattle.std.specs.Prelude.{◌≡◌, false, ◌+◌, ◌-◌, ◌^◌, ◌<◌, ◌≤◌, IfSome, MatchBool, Some, ◌⊎◌};
-ghost use Rattle.area_layout.specs.Layout.{judged};
+ghost use Rattle.area_layout.specs.Layout.{IsLayout, judged};
 ghost use Rattle.board_face.specs.{AppCalls.{IsHere, IsLive, AppOnlySaw}, AppEvents.{app_gist, pushed_raw}, declared.views.app.AppLook.TheVariants.{RefillInUse}};
 ghost use Rattle.flow_queues.specs.Core.{LieApart, IsIn, lent_piece};
 ghost use Rattle.app_worker.specs.Steps.{MayRead, as_front, ReadsThrough, CountsFront, AppendsFront, CountsShelf, Given, KeptDue, NotKept, MayPushStrays, Pushes};
@@ -75,6 +75,13 @@ pub fn keep_due(
     }
 }
 
+/// The layout is one, so that an entry names its place. Only the answer of `size` says so.
+fn has_layout<F: AppFace>(face: &F)
+    ensures layout { IsLayout (F.seen face.now).setting.layout }
+{
+    let _ = face.size();
+}
+
 /// Gives a loan back that is due, if there is one: whether there is none any more. `false` says that the next refill
 /// slot was seen in use. `most` further entries are to follow it.
 pub fn give_due<F: AppFace>(
@@ -102,8 +109,7 @@ pub fn give_due<F: AppFace>(
         len: place.len,
         pad: 0,
     };
-    // Only its answer says that the layout is one, so that the entry names the place.
-    let _size = face.size();
+    has_layout(face);
     let Lending { note, at, loan } = lending;
     match face.give(loan) {
         Ok(()) => {

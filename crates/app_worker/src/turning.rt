@@ -86,8 +86,7 @@ pub fn read_one<F: AppFace, T: Shelf>(face: &mut F, st: &mut Stack, shelf: &mut 
         return Read::Failed;
     };
     let own = &mut st.queues.flows[i];
-    // Only its answer says that the queue is sound, so that the count of bytes stays in its type.
-    let _next = own.queue.next_position();
+    own.has_sound_queue();
     let before = own.bytes;
     let most = wanted(st.how.quit, st.tally.written, lending.loan.place().len);
     let chunk = &mut *st.reader.chunk;

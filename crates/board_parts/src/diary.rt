@@ -71,12 +71,11 @@ impl<V, B: Next<V>> Diary<V, B> {
         Ok(Diary { table, seat })
     }
 
-    /// One step on the table. `about` is what the step is about, from which the caller's proof picks what the diary
+    /// One step on the table. `_about` is what the step is about, from which the caller's proof picks what the diary
     /// says then.
-    pub fn note<N: Next<V>, X: Copy>(&mut self, about: X)
+    pub fn note<N: Next<V>, X: Copy>(&mut self, _about: X)
         ensures { self.new ≡ N.next }
     {
-        let _ = about;
         let table = &self.table;
         table.shared.load::<Turn<V, N>>(&mut self.seat, 0);
     }

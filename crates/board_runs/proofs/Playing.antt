@@ -4,7 +4,7 @@ use Rattle.std.proofs.lemmas.List.{get_or-set_other}
 use Rattle.board_face.specs.{declared.views.parts.Setting.{Setting}, Blank.{blank_app}, Sides.{side_in}}
 use Rattle.board_parts.specs.Opened.{new_apps}
 use Rattle.plain_board.specs.Board.{Board, side_of, others_of}
-use Rattle.board_runs.specs.Played.{IsIdleApp, IsBoardPlayed}
+use Rattle.board_runs.specs.Played.{IsIdleApp, IsIdleBoard}
 
 pub new_apps-idle : (setting : Setting) (first n a : ℕ) → IsIdleApp (side_in (new_apps setting first n) a).view
 new_apps-idle setting first zero a = record { nothing = record { helds = refl; loans = refl; spares = refl }; here = refl; counted = refl }
@@ -12,8 +12,8 @@ new_apps-idle setting first (suc n) zero = record { nothing = record { helds = r
 new_apps-idle setting first (suc n) (suc a) = new_apps-idle setting (suc first) n a
 
 -- what one application does leaves the others idle, and the card as it was
-pub IsPlayed-app : (old new : Board) (a b : ℕ) → others_of new b ≡ others_of old a → IsBoardPlayed old → IsIdleApp (side_of new b).view → IsBoardPlayed new
-IsPlayed-app old new a b beside was one =
+pub IsIdleBoard-app : (old new : Board) (a b : ℕ) → others_of new b ≡ others_of old a → IsIdleBoard old → IsIdleApp (side_of new b).view → IsIdleBoard new
+IsIdleBoard-app old new a b beside was one =
     let card : new.nic ≡ old.nic = ap (λ o. o.card) beside in
     let number : b ≡ a = ap (λ o. o.number) beside in
     record {

@@ -21,7 +21,7 @@ pub record IsIdleApp (v : AppView) : Type 0 where
   pub counted : v.scrubbed ≡ false
 
 -- No role has a token out.
-pub record IsBoardPlayed (board : Board) : Type 0 where
+pub record IsIdleBoard (board : Board) : Type 0 where
   pub card : HasNoToken board.nic.view
   pub going : IsOpen board.nic.view
   pub idle : (a : ℕ) → IsIdleApp (side_of board a).view

@@ -1,6 +1,6 @@
 //! Plays of searches for fresh buffers, with some applications: where a search ends, and what refill rings bring.
 ghost use Rattle.std.specs.Prelude.{◌≡◌, IfOk};
-ghost use Rattle.board_runs.specs.Played.{IsBoardPlayed};
+ghost use Rattle.board_runs.specs.Played.{IsIdleBoard};
 
 mod lists;
 mod steps;
@@ -41,8 +41,8 @@ fn one_step(
     stats: &mut PoolStats,
     step: Step,
 ) -> Result<(PlainBoard, Told), Fail>
-    requires { IsBoardPlayed board }
-    ensures { IfOk result (λ told. IsBoardPlayed told.0) }
+    requires { IsIdleBoard board }
+    ensures { IfOk result (λ told. IsIdleBoard told.0) }
 {
     let mut nic = board.nic();
     let Some(app) = step.app() else {

@@ -8,15 +8,7 @@ use Rattle.page_pool.specs.{declared.offer.Offer.{Offer}, Frames.{Offered, offer
 use Rattle.page_pool.specs.{Searching.{CountsEnd, LooksAhead, joint_end}, Pool.{PoolState, Closes}}
 use Rattle.page_pool.specs.declared.search_end.SearchEnd.{SearchEnd, TheVariants.{Fast, Refill, Slow, Empty}}
 use Rattle.page_pool.specs.Offer.{payload_of, needed_for, LooksFor, not_needed, searched, Accepts, Refuses}
-use Rattle.card_feed.{specs.Counts.{capped, is_long, long_in, searches_in, AreOffersCounted}, proofs.PlayLemmas.{closed-dealt}}
-
--- each count fits its type
-pub record AreInType (stats : PoolStats) : Type 0 where
-  pub fast : stats.fast ≤ 2 ^ 64 - 1
-  pub refill : stats.refill ≤ 2 ^ 64 - 1
-  pub slow : stats.slow ≤ 2 ^ 64 - 1
-  pub empty : stats.empty ≤ 2 ^ 64 - 1
-  pub strays : stats.strays ≤ 2 ^ 64 - 1
+use Rattle.card_feed.{specs.Counts.{AreInType, capped, is_long, long_in, searches_in, AreOffersCounted}, proofs.PlayLemmas.{closed-dealt}}
 
 -- ---- one count
 

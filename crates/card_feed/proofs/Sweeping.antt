@@ -8,7 +8,7 @@ use Rattle.page_pool.specs.{declared.offer.{Offer.{Offer}, Verdict.{Verdict, The
 use Rattle.page_pool.specs.{declared.search_end.SearchEnd.{SearchEnd, TheVariants.{Fast, Refill, Slow, Empty}}, Pool.{PoolState, OnlySends, Closes}}
 use Rattle.page_pool.specs.{Searching.{CountsEnd, LooksAhead, Searches, joint_end}, Offer.{needed_for, ClosesCurrent, LooksFor, not_needed, searched, Accepts, Refuses}}
 use Rattle.card_feed.specs.{Feed.{FeedState}, Turns.{FeedPlays, drains, offers, finishes, rests, KeepsUp, Settles}}
-use Rattle.card_feed.{specs.Counts.{AreAllSwept, HaveSwept, is_first_word, sweeping_in, sweeps_in, sweeps_of}, proofs.Counting.{AreInType, raised-most}}
+use Rattle.card_feed.{specs.Counts.{AreAllSwept, AreInType, HaveSwept, is_first_word, sweeping_in, sweeps_in, sweeps_of}, proofs.Counting.{raised-most}}
 
 -- ---- the words that a search swept
 

@@ -9,12 +9,12 @@ use Rattle.card_feed.specs.{Ending.{steered_in}, FramesRead.{EndsAt}, declared.{
 use Rattle.card_feed.specs.{Offered.{offers_of, offer_next, AreSettled, WantsRoom}, Hand.{at_hand}, declared.intake.Route.{Route}}
 use Rattle.card_feed.specs.{Intake.{Knows, OnlyOpens, TakesIn, IsReadable, IsTimely, counts_as}, Feed.{FeedState, FeedKnows, FeedStands, WantsRecord}}
 use Rattle.card_feed.specs.Turns.{ReadsOne, OnlyReadsFrames, MayArrive, ReceivesArrived, Settles, FeedPlays, drains, offers, finishes, rests, KeepsUp, IsAwaiting}
-use Rattle.card_feed.specs.{Turns.{FeedSteps, FeedTurns, HasLooked}, Parts.{feed_of}, Counts.{AreOffersCounted, AreFound, HaveSwept, found_in}, Need.{AreNeeded}}
+use Rattle.card_feed.specs.{Turns.{FeedSteps, FeedTurns, HasLooked}, Parts.{feed_of}, Counts.{AreInType, AreOffersCounted, AreFound, HaveSwept, found_in}, Need.{AreNeeded}}
 use Rattle.card_feed.proofs.OffersRise.{RiseFrom, offers-rise, offers-more}
 use Rattle.card_feed.proofs.Needing.{AreUnused, unused-trans, sends-unused, drains-unused, closes-unused, needed-read, needed-accepted}
 use Rattle.card_feed.proofs.{Needing.{needed-refused, needed-same, keeps-setting}, Settling.{hand-last, next-last, settled-read, settled-accepted, settled-refused}}
 use Rattle.card_feed.proofs.{Sweeping.{keeps_up-swept, plays-swept, prepared-swept}, Finding.{found-same, found-closed, found-accepted, found-refused}}
-use Rattle.card_feed.proofs.Counting.{AreInType, counted-read, counted-same, counted-drained, counted-looked, counted-accepted, counted-refused, closes-dealt}
+use Rattle.card_feed.proofs.Counting.{counted-read, counted-same, counted-drained, counted-looked, counted-accepted, counted-refused, closes-dealt}
 use Rattle.card_feed.specs.declared.arrived.Arrived.TheVariants as arrived
 
 known_is : (k : KnownFlows) (known_ports : List ℕ) (flows : List Flow) → k.ports ≡ known_ports → k.flows ≡ flows

@@ -17,6 +17,14 @@ long_in split offers = count_by (is_long split) offers
 abbrev pub searches_in : PoolStats → ℕ
 searches_in stats = stats.fast + stats.refill + stats.slow + stats.empty
 
+-- each count fits its type
+pub record AreInType (stats : PoolStats) : Type 0 where
+  pub fast : stats.fast ≤ 2 ^ 64 - 1
+  pub refill : stats.refill ≤ 2 ^ 64 - 1
+  pub slow : stats.slow ≤ 2 ^ 64 - 1
+  pub empty : stats.empty ≤ 2 ^ 64 - 1
+  pub strays : stats.strays ≤ 2 ^ 64 - 1
+
 -- No more searches were counted than one for each frame with a payload longer than `split`, but for the one at hand. Those
 -- that found too few are the refused frames, and the strays are those among the entries.
 pub record AreOffersCounted (split : ℕ) (offers : List Offered) (refused : List ℕ) (hand : Option Offered) (dealt : List Dealt) (stats : PoolStats) :

@@ -93,6 +93,13 @@ impl Feed {
         self.intake.spare()
     }
 
+    /// No more records were read than are read at most. Only the answer of `records` says so.
+    pub fn has_few_records(&self)
+        ensures { self.now.tally.records ≤ most_records }
+    {
+        let _ = self.records();
+    }
+
     /// How many records were read so far.
     pub fn records(&self) -> u32
         ensures count { result ≡ self.now.tally.records }

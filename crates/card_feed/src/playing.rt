@@ -4,7 +4,7 @@ ghost use Rattle.std.specs.Prelude.{◌≡◌, ◌≢◌, ◌⊎◌, ℕ, ◌<�
 ghost use Rattle.zr_kinds.specs.Limits.{longest_payload};
 ghost use Rattle.board_face.specs.{Looks.{NicRose}, NicCalls.{apps_of, IsOpen}, NicEvents.{nic_gist}, declared.views.nic.NicLook.TheVariants.{NoteInUse}};
 ghost use Rattle.page_pool.specs.{declared.offer.Offer.{Offer as TheOffer}, Frames.{offered}, Offer.{Offers, KeepsRest}, Pool.{PoolStands, HasNonePending, IsNextApp, pending_count}};
-ghost use Rattle.card_feed.specs.{Offered.{payload_in}, Hand.{HandFits, offered_by}, Intake.{ReadsNothing}, Coming.{is_over}, Feed.{FeedFits, IsFeedReady, card_steps}, Turns.{KeepsSetting, OffersHand, FinishesCard, KeepsUp, FeedPlays, HasLooked, IsIdle}, Parts.{feed_of}, declared.intake.Intake.{Intake as TheIntake}};
+ghost use Rattle.card_feed.specs.{Offered.{payload_in}, Hand.{HandFits, offered_by}, Intake.{ReadsNothing}, Coming.{is_over}, Feed.{FeedFits, IsFeedReady, card_steps}, Turns.{KeepsSetting, OffersHand, FinishesCard, KeepsUp, FeedPlays, HasLooked, IsIdle}, Parts.{feed_of}, declared.intake.Intake.{Intake as TheIntake}, Counts.{AreInType}};
 
 use crate::intake::{Intake, Route};
 use board_face::NicFace;
@@ -20,6 +20,13 @@ pub fn payload_in(frame: &[u8]) -> &[u8]
         Seen::Tcp(segment) => segment.payload,
         _ => &[],
     }
+}
+
+/// Each count of the pool fits its type. Only the answer of `stats` says so.
+pub fn counts_fit(pool: &Pool)
+    ensures { AreInType pool.now.stats }
+{
+    let _ = pool.stats();
 }
 
 /// Offers what counts of a frame.

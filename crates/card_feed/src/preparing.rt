@@ -6,7 +6,7 @@ ghost use Rattle.page_pool.specs.{Offer.{fresh_for}, Pool.{pending_count}, Searc
 ghost use Rattle.card_feed.specs.{Feed.{IsFeedReady, FeedKnows}, Offered.{payload_in}};
 
 use crate::Feed;
-use crate::playing::payload_in;
+use crate::playing::{counts_fit, payload_in};
 use board_face::NicFace;
 use page_pool::nic_gather;
 use zr_kinds::PoolStats;
@@ -53,7 +53,6 @@ pub fn nic_prepare<F: NicFace>(feed: &mut Feed, face: &mut F, needed: u32) -> bo
     ensures beside { F.beside face.new ≡ F.beside face.old }
 {
     let found = nic_gather(face, &mut feed.pool, needed);
-    // Its answer says that each count fits its type.
-    let _ = feed.pool.stats();
+    counts_fit(&feed.pool);
     found
 }

@@ -3,7 +3,7 @@
 ghost use Rattle.std.specs.Prelude.{◌≡◌, ◌≢◌, ℕ, ◌<◌, List, MatchBool, true};
 ghost use Rattle.card_feed.specs.{Feed.{IsFeedReady, FeedKnows, FeedStands, WantsRecord, feed_steps}, declared.arrived.Arrived.TheVariants.{Nothing}, Turns.{FeedSteps, FeedTurns, HasLooked, HasRested, IsIdle, MayArrive}};
 
-use crate::playing::{keep_up, play};
+use crate::playing::{counts_fit, keep_up, play};
 use crate::{Arrived, Feed};
 use board_face::NicFace;
 use zr_io::Source;
@@ -36,8 +36,7 @@ pub fn nic_step<F: NicFace>(feed: &mut Feed, arrived: Arrived, face: &mut F) -> 
     } else {
         play(&mut feed.intake, &mut feed.pool, &mut feed.closed, face)
     };
-    // Its answer says that each count fits its type.
-    let _ = feed.pool.stats();
+    counts_fit(&feed.pool);
     !nothing || plays
 }
 

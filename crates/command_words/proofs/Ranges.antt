@@ -5,7 +5,7 @@ use Rattle.std.{proofs.lemmas.Option.{option_and_then_some, same_Some}, specs.Bo
 use Rattle.std.proofs.lemmas.Bool.{Decides.{nat_tests, Decides-and, Decides-or, Decides-eqb, Decides-ltb, Decides-by_and}, and_parts}
 use Rattle.zr_kinds.specs.declared.behaviour.Behaviour.{Behaviour}
 use Rattle.command_words.specs.{Assigned.{Text}, Numbers.{value_of, within}}
-use Rattle.command_words.specs.Options.{IsTurnsText, are_turns, behaviour_of, is_turn, number_or, quit_of, buffer_size_of, sizes, turns_of}
+use Rattle.command_words.specs.Options.{IsTextOfTurns, are_turns, behaviour_of, is_turn, number_or, quit_of, buffer_size_of, sizes, turns_of}
 
 abbrev Within : ℕ → ℕ → ℕ → Type 0
 Within least most n = (least ≤ n) × (n ≤ most)
@@ -95,7 +95,7 @@ letters : (apps : ℕ) (text : Text) → list_all (is_turn apps) text ≡ true �
 letters apps text all =
     (Decides-by_and (is_turn apps) (IsLetter apps) (list_all (is_turn apps)) (is_turn-decides apps) refl (λ x xs. refl) text).0 all
 
-are_turns-turns : (apps : ℕ) (text : Text) → are_turns apps text ≡ true → IsTurnsText apps text
+are_turns-turns : (apps : ℕ) (text : Text) → are_turns apps text ≡ true → IsTextOfTurns apps text
 are_turns-turns apps text are =
     let parts = and_parts (nat_le 1 (length text) && nat_le (length text) 4096) (list_all (is_turn apps) text) are in
     let sizes = and_parts (nat_le 1 (length text)) (nat_le (length text) 4096) parts.0 in
@@ -107,8 +107,8 @@ are_turns-turns apps text are =
       letters = letters apps text parts.1;
     }
 
-pub turns_of-turns : (apps : ℕ) (said turns : Option Text) → turns_of apps said ≡ Some turns → IfSome turns (IsTurnsText apps)
-turns_of-turns apps None turns is = subst (λ (t : Option Text). IfSome t (IsTurnsText apps)) (same_Some None turns is) tt
+pub turns_of-turns : (apps : ℕ) (said turns : Option Text) → turns_of apps said ≡ Some turns → IfSome turns (IsTextOfTurns apps)
+turns_of-turns apps None turns is = subst (λ (t : Option Text). IfSome t (IsTextOfTurns apps)) (same_Some None turns is) tt
 turns_of-turns apps (Some text) turns is =
     let through = passed (are_turns apps text) (Some text) turns is in
-    subst (λ (t : Option Text). IfSome t (IsTurnsText apps)) through.1 (are_turns-turns apps text through.0)
+    subst (λ (t : Option Text). IfSome t (IsTextOfTurns apps)) through.1 (are_turns-turns apps text through.0)

@@ -3,12 +3,12 @@ use Rattle.std.proofs.Common.{ℕ, ◌≡◌, ◌∙◌, true, false, refl, sym,
 use Rattle.std.{specs.{Prelude.{IfSome, IsSome, Bool, option_and_then, is_some, if◌then◌else◌}, Borrow.{Bor}}, proofs.lemmas.Option.{option_and_then_some, same_Some}}
 use Rattle.clap.specs.{Matches.{found_of, first_value, matched_of, raw_values}, declared.parser.matches.ArgMatches.{ArgMatches}}
 use Rattle.command_words.specs.{Asking.{AreMatched, flag_in, port_id}, Assigned.{Text, Said, if_any, is_among, value_said}, Numbers.{ports_of}}
-use Rattle.command_words.specs.{Options.{IsTurnsText, are_turns, behaviour_of, flag_names, option_names, options_of, stand_together, turns_of}, Areas.{pool_areas_of}}
+use Rattle.command_words.specs.{Options.{IsTextOfTurns, are_turns, behaviour_of, flag_names, option_names, options_of, stand_together, turns_of}, Areas.{pool_areas_of}}
 use Rattle.command_words.specs.{Words.{IsReplay, ReplayShown, replay_of, replay_shown, told_by_words, told_with}, declared.reading.Replay.{Replay as Told}}
 use Rattle.command_words.proofs.{Porting.{ports_read}, AreaRanges.{pool-makes}, Ranges.{turns_of-turns}, Ways.{logged-turns, options_of-in_range, options_of-plain, own-turns}}
 
-its_turns : (apps : ℕ) (turns : Option (Bor Text)) → IfSome (option_map (λ text. text.now) turns) (IsTurnsText apps)
-    → IfSome turns (λ text. IsTurnsText apps text.now)
+its_turns : (apps : ℕ) (turns : Option (Bor Text)) → IfSome (option_map (λ text. text.now) turns) (IsTextOfTurns apps)
+    → IfSome turns (λ text. IsTextOfTurns apps text.now)
 its_turns apps None are = tt
 its_turns apps (Some text) are = are
 

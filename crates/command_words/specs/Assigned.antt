@@ -22,13 +22,13 @@ pub data Look : Type 0 where
   plain : Look
 
 -- what stands after `--`, cut at its first `=`
-abbrev pub look_behind_dashes : Text → Look
-look_behind_dashes text =
+abbrev pub option_behind_dashes : Text → Look
+option_behind_dashes text =
     named (before_first is_equals text) (if list_any is_equals text then Some (after_first is_equals text) else None)
 
 abbrev pub after_dashes : Text → Look
 after_dashes [] = closing
-after_dashes (byte ∷ rest) = look_behind_dashes (byte ∷ rest)
+after_dashes (byte ∷ rest) = option_behind_dashes (byte ∷ rest)
 
 abbrev pub after_dash : Text → Look
 after_dash [] = plain

@@ -95,7 +95,7 @@ turns_of apps (Some text) = if are_turns apps text then Some (Some text) else No
 -- ---- what these may be
 
 -- 1 to 4,096 characters, each `n` or the digit of one of so many applications
-pub record IsTurnsText (apps : ℕ) (text : Text) : Type 0 where
+pub record IsTextOfTurns (apps : ℕ) (text : Text) : Type 0 where
   pub some : 1 ≤ length text
   pub most : length text ≤ 4096
   pub letters : All (λ letter. (letter ≡ 110) ⊎ ((48 ≤ letter) × (letter < 48 + apps))) text

@@ -5,7 +5,7 @@ use Rattle.zr_kinds.specs.{Options.{AreInRange, BehavesPlainly, GoesByTurns}, de
 use Rattle.area_layout.specs.Layout.{MakeLayout}
 use Rattle.command_words.specs.{declared.{reading.{Command.{Command}, Replay.{Replay}}, making.Make.{Make}}, Numbers.{ports_of, up_to}}
 use Rattle.command_words.specs.Assigned.{Text, Said, is_among, sorted, value_said}
-use Rattle.command_words.specs.{Options.{IsTurnsText, flag_names, given, option_names, options_of, stand_together, turns_of}, Areas.{pool_areas_of}}
+use Rattle.command_words.specs.{Options.{IsTextOfTurns, flag_names, given, option_names, options_of, stand_together, turns_of}, Areas.{pool_areas_of}}
 
 -- what `replay` is told: its ports, in the order given, its areas, each by its number of buffers and their size, its other
 -- numbers, and whose turns it goes by, if that is said
@@ -88,7 +88,7 @@ pub record IsReplay (told : Replay) : Type 0 where
   pub areas : MakeLayout told.areas.items (length told.ports.items)
   pub options : AreInRange told.options
   pub plain : BehavesPlainly told.options
-  pub turns : IfSome told.turns (λ text. IsTurnsText (length told.ports.items) text.now)
+  pub turns : IfSome told.turns (λ text. IsTextOfTurns (length told.ports.items) text.now)
   pub own : IfSome told.turns (λ text. GoesByTurns told.options)
   -- the record of a run is asked for only with a text of turns
   pub logged : told.options.events ≡ true → IsSome told.turns

@@ -1,7 +1,7 @@
 //! What waits in the queues of flows: pieces are cut by what the flow still wants, and enter.
 ghost use Rattle.std.specs.Prelude.{◌≡◌, true, false, ◌+◌, ◌-◌, ◌^◌, ◌<◌, ◌≤◌, IfSome, OnOk, List, Some, slice_get};
 ghost use Rattle.zr_kinds.specs.CopyingReceiver.{Placed};
-ghost use Rattle.tcp_reorder.specs.Values.{Holds};
+ghost use Rattle.tcp_reorder.specs.{Queue.{IsSound}, Values.{Holds}};
 ghost use Rattle.board_face.specs.declared.views.app.TakenNote.{TakenNote};
 ghost use Rattle.flow_queues.specs.{Marks.{Mark}, Core.{HoldsApart, IsIn, held_piece, marks_of_waiting, received_note, IsOfNote, Each}, Pieces.{CameWith, OnlyHelds, GaveFront, CutFirst, whole_piece, over_others, IsOut, given_back}, Lent.{is_short}, Taking.{EntersPiece}};
 
@@ -60,6 +60,15 @@ pub struct FlowQueue {
     pub number: u32,
     pub queue: RecvQueue<Waiting>,
     pub bytes: u64,
+}
+
+impl FlowQueue {
+    /// The queue is sound, and so no position of it is wider than its type. Only an answer of its own says so.
+    pub fn has_sound_queue(&self)
+        ensures { IsSound self.now.queue }
+    {
+        let _ = self.queue.next_position();
+    }
 }
 
 /// Gives the first bytes of a piece up.

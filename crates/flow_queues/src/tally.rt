@@ -99,7 +99,8 @@ impl LoanTally {
         }
     }
 
-    /// How many bytes of each flow that was written, by ascending flow. Takes no memory: the room for them goes with them.
+    /// The flows of which bytes were written, each with how many, by ascending number. Takes no memory: the room for them goes with
+    /// them.
     pub fn written_flows(&mut self, alloc: Global) -> Vec<(u32, u64)>
         requires room { HasRoomForFlows (tally_state_of self.old) }
         ensures flows { result.items ≡ with_bytes self.old.counts.entries }

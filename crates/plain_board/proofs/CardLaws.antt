@@ -14,7 +14,7 @@ use Rattle.board_face.specs.NicEvents.{took, placed, sent, gave_up, shut, passed
 use Rattle.board_face.specs.{Places.{places_of, ends_behind}, Tokens.{FitsBuffer}, declared.views.parts.Setting.{Setting as Shared}}
 use Rattle.board_face.{specs.declared.views.{parts.Filling.{Filling}, nic.{Dealt.{Dealt}, NicView.{NicView}, SentNote.{SentNote}}}, proofs.Tallies.{one_if as one}}
 use Rattle.plain_board.specs.IsLogged.{AreSound, KeepsLog, Logs, setting_of_sides}
-use Rattle.plain_board.specs.{Settings.{setting_of_layout}, Plain.{HasHoldersOf, weight}, Tallies.{dealt_as, is_stray_event, sent_as, strays_of, was_stray}}
+use Rattle.plain_board.specs.{Settings.{setting_of_layout}, Plain.{AreHoldersOf, weight}, Tallies.{dealt_as, is_stray_event, sent_as, strays_of, was_stray}}
 use Rattle.plain_board.proofs.{EventCounting.{buffer-there, ends, ends-weight, held-some, length-held}, Following.{Becomes, Shifts, follows-by, logged-same, logs-by, was-there}}
 use Rattle.plain_board.proofs.Needs.{NoneReturns-card, app-there, both-said, one-ends, pool-said, within-by, within-there}
 use Rattle.plain_board.proofs.{Settings.{pool_buffers-same}, Shifts.{here-more, step-same, step-shifts}}
@@ -32,11 +32,11 @@ none-weigh f [] none = refl
 none-weigh f (x ∷ held) none = absurd (omega (arith, none))
 
 -- these are the holders of a buffer that had none
-pub from-none : (s : AllSides) → AreSound s → (h : Holdings) → HasHoldersOf h s → (b : ℕ) → pool_of s b ≡ 0 → (news : List Holding)
+pub from-none : (s : AllSides) → AreSound s → (h : Holdings) → AreHoldersOf h s → (b : ℕ) → pool_of s b ≡ 0 → (news : List Holding)
     → Moves (h b) [] news news
 from-none s sound h same b none news f = omega (arith, none-weigh f (h b) (length-held s sound h same b ∙ none))
 
-pub no-length : (s : AllSides) → AreSound s → (h : Holdings) → HasHoldersOf h s → (b : ℕ) → pool_of s b ≡ 0 → eqb (length (h b)) 0 ≡ true
+pub no-length : (s : AllSides) → AreSound s → (h : Holdings) → AreHoldersOf h s → (b : ℕ) → pool_of s b ≡ 0 → eqb (length (h b)) 0 ≡ true
 no-length s sound h same b none = eq-eqb (length (h b)) 0 (length-held s sound h same b ∙ none)
 
 pub took-logs : (s : AllSides) → AreSound s → (buffer : ℕ) → buffer < pool_buffers s.nic.view.setting.layout → pool_of s buffer ≡ 0
@@ -78,7 +78,7 @@ not-apart o l (holding.Spare a) = omega arith
 not-apart o l (holding.Loan a p m) = apart-case o l p m
 not-apart o l (holding.Owed a) = omega arith
 
-module _ (s : AllSides) (sound : AreSound s) (it : Filling) (out : HasOwn s.nic.view it) (h : Holdings) (same : HasHoldersOf h s) where
+module _ (s : AllSides) (sound : AreSound s) (it : Filling) (out : HasOwn s.nic.view it) (h : Holdings) (same : AreHoldersOf h s) where
   -- the card is among the holders of a buffer that it fills
   own-there : list_any (is_same holding.Own) (h it.buffer) ≡ true
   own-there = was-there it.buffer holding.Own [] s (apply (card (shuts it false)) s) (step-shifts (card (shuts it false)) s out it.buffer (refl, tt) tt) refl refl h same

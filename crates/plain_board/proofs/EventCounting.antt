@@ -10,7 +10,7 @@ use Rattle.board_face.specs.Holders.{Kind, own, piece, sent, held, spare, loan, 
 use Rattle.board_face.specs.{Counts.{is_user_kind}, Laws.{AllSides, pool_of, user_of}, Places.{kind_place, filled_places, places_of, ends_behind}}
 use Rattle.board_face.{specs.declared.views.{nic.NicSide.{NicSide}, app.AppSide.{AppSide}}, proofs.Parts.{nic_count, app_count, pool_count-parts, count-tally}}
 use Rattle.board_face.proofs.Tallies.{one_if as one, tally, total, tally-append, tally-flat, total-agree, total-le}
-use Rattle.plain_board.specs.{IsLogged.{AreSound, NoneReturns, setting_of_sides}, Plain.{HasHoldersOf, plain_holders, weight}}
+use Rattle.plain_board.specs.{IsLogged.{AreSound, NoneReturns, setting_of_sides}, Plain.{AreHoldersOf, plain_holders, weight}}
 use Rattle.plain_board.proofs.{Parts.{card_weight, app_weight, kind_weight, weight-kinds, weight-parts}, Settings.{total-same}, Weighing.{weight-among}}
 
 pub tally-total : {A : Type 0} (test : A → Bool) (xs : List A) → tally test xs ≡ total (λ x. one (test x)) xs
@@ -117,7 +117,7 @@ ends-weight s b x =
       count-tally (ends_behind x) (places_of b s.nic s.apps),
     )
 
-module _ (s : AllSides) (sound : AreSound s) (h : Holdings) (same : HasHoldersOf h s) where
+module _ (s : AllSides) (sound : AreSound s) (h : Holdings) (same : AreHoldersOf h s) where
   pub length-held : (b : ℕ) → length (h b) ≡ pool_of s b
   length-held b = sym (weight-length (h b)) ∙ same b (λ k. 1) ∙ pool-weight s sound.returns b
 

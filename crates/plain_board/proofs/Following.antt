@@ -5,7 +5,7 @@ use Rattle.zr_kinds.specs.{declared.{event.Event.{Event}, holding.Holding.{Holdi
 use Rattle.zr_kinds.specs.Holders.{Holdings, after, all_after, no_holdings, buffer_of_event, changed, has_counts, is_in_range, is_same, is_user, with_holders}
 use Rattle.zr_kinds.{specs.LegalRun.{HasSmallNumbers}, proofs.{Following.{all_after-more, small-more}, Weighing.{Moves, one_if, weight-count, weight-length}}}
 use Rattle.board_face.specs.Laws.{AllSides, pool_of, user_of}
-use Rattle.plain_board.specs.{IsLogged.{IsLogged, KeepsLog, Logs, NoneReturns, setting_of_sides}, Logs.{KeptEvents, log_of, logged}, Plain.{HasHoldersOf, plain_holders}}
+use Rattle.plain_board.specs.{IsLogged.{IsLogged, KeepsLog, Logs, NoneReturns, setting_of_sides}, Logs.{KeptEvents, log_of, logged}, Plain.{AreHoldersOf, plain_holders}}
 use Rattle.plain_board.{specs.{Plain.{weight}, Tallies.{AreTallied}}, proofs.{FirstEvents.{first-events}, Parts.{here}, EventCounting.{pool-weight, user-weight}}}
 use Rattle.plain_board.proofs.{Tallying.{KeepsTallies, Tallies}, Weighing.{any-some}}
 
@@ -137,7 +137,7 @@ Counts e buffer s =
 -- where the event finds in the buffer's holders what it needs, these become
 abbrev pub Becomes : Event → ℕ → List Holding → List Holding → AllSides → Type 0
 Becomes e buffer olds news s =
-    (h : Holdings) → HasHoldersOf h s → (is_in_range (setting_of_sides s) e ≡ true)
+    (h : Holdings) → AreHoldersOf h s → (is_in_range (setting_of_sides s) e ≡ true)
     × ((later : List Holding) × (changed (setting_of_sides s) (h buffer) e ≡ Some later) × Moves (h buffer) olds news later)
 
 pub after-is : (s : Setting) (h : Holdings) (e : Event) (b : ℕ) (later : List Holding) → is_in_range s e ≡ true → buffer_of_event e ≡ Some b
@@ -171,7 +171,7 @@ follows-by e buffer olds news old new names none shifts counts becoming h same =
 
 -- the holder that ends is there, since it isn't among those that begin
 pub was-there : (buffer : ℕ) (one : Holding) (news : List Holding) (old new : AllSides) → Shifts buffer (one ∷ []) news old new
-    → is_same one one ≡ true → weight (one_if (is_same one)) news ≡ 0 → (h : Holdings) → HasHoldersOf h old
+    → is_same one one ≡ true → weight (one_if (is_same one)) news ≡ 0 → (h : Holdings) → AreHoldersOf h old
     → list_any (is_same one) (h buffer) ≡ true
 was-there buffer one news old new shifts self none h same =
     let f = one_if (is_same one) in

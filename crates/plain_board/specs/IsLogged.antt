@@ -3,7 +3,7 @@ use Rattle.std.specs.{Prelude.{◌≡◌, ℕ, ◌≤◌, List, All, slice_index
 use Rattle.area_layout.specs.Layout.{IsLayout}
 use Rattle.zr_kinds.specs.{declared.event.Event.{Event}, Setting.{most_events, Setting}, Holders.{Holdings, no_holdings, all_after}, LegalRun.{HasSmallNumbers}}
 use Rattle.board_face.specs.{Fillings.{IsFilledByOne, FillingsFit}, Laws.{AllSides, FitTogether}, Places.{ArePlaced}, Sides.{HaveOneSetting}}
-use Rattle.plain_board.specs.{Logs.{KeptEvents, log_of, logged}, Plain.{HasHoldersOf}, Settings.{setting_of_layout}, Tallies.{AreTallied}}
+use Rattle.plain_board.specs.{Logs.{KeptEvents, log_of, logged}, Plain.{AreHoldersOf}, Settings.{setting_of_layout}, Tallies.{AreTallied}}
 
 -- the setting of the board that has these sides
 abbrev pub setting_of_sides : AllSides → Setting
@@ -18,7 +18,7 @@ pub record IsLogged (s : AllSides) (kept : KeptEvents) : Type 0 where
   pub small : AllByRecursion HasSmallNumbers all
   pub holdings : Holdings
   pub reached : all_after (setting_of_sides s) no_holdings all ≡ Some holdings
-  pub same : HasHoldersOf holdings s
+  pub same : AreHoldersOf holdings s
   pub tallied : AreTallied s all
 
 -- the log goes on to tell of the board, once this event was logged

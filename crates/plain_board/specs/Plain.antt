@@ -20,5 +20,5 @@ abbrev pub plain_holders : AllSides → ℕ → List Holding
 plain_holders s b = filter_map plain (holders_of b s.nic s.apps)
 
 -- The same holders, each as often, in any order: those of each buffer weigh the same, whatever each weighs.
-abbrev pub HasHoldersOf : Holdings → AllSides → Type 0
-HasHoldersOf holdings s = (b : ℕ) (weigh : Holding → ℕ) → weight weigh (holdings b) ≡ weight weigh (plain_holders s b)
+abbrev pub AreHoldersOf : Holdings → AllSides → Type 0
+AreHoldersOf holdings s = (b : ℕ) (weigh : Holding → ℕ) → weight weigh (holdings b) ≡ weight weigh (plain_holders s b)

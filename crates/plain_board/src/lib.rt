@@ -2,7 +2,7 @@
 //! a part that holds the whole board and gives it back; each board that a call gives is sound (`IsSound`). A board logs
 //! what happens to the holders of its buffers, as far as its log has room: an `EventLog` takes its memory as it is opened,
 //! and closes for good at the first event for which it has no room. What a log keeps true of a board's sides is `IsLogged`,
-//! whether it is whole or not. Begin with `board.rt` and `contents.rt`.
+//! whether it is whole or not; `log_laws` has its laws. Begin with `board.rt` and `contents.rt`.
 #![tactic(auto)]
 
 mod app;
@@ -21,7 +21,7 @@ mod counts;
 mod finish;
 mod laws;
 mod log;
-mod log_laws;
+pub mod log_laws;
 mod logged;
 mod nic;
 mod others;
@@ -31,8 +31,5 @@ pub use app::PlainApp;
 pub use board::PlainBoard;
 pub use laws::{boards_end_well, lent_texts_stand, users_are_loans};
 pub use log::EventLog;
-pub use log_laws::{
-    ended, fills, first_events, one_side, opened, scrubbed, setting, sound, steps, told,
-};
 pub use nic::PlainNic;
 pub use others::{Applications, Others};

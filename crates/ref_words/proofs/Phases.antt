@@ -2,7 +2,7 @@
 use Rattle.std.proofs.{Common.{◌≡◌, ℕ, true, false, List, set, sym, ◌∙◌, subst}, lemmas.{Bool.{false≢true}, List.Elements.{All-set, All-weaker}}}
 use Rattle.board_face.specs.{OwnBuffers.{CardLiesInPool, AppLiesInOwn, LieInOwn}, Sides.{IsApp}, declared.views.{parts.Setting.{Setting}, nic.NicSide.{NicSide}}}
 use Rattle.board_face.specs.declared.views.app.AppSide.{AppSide}
-use Rattle.ref_words.specs.{Words.{Words}, Rule.{RefRule}, PhaseRule.{IsAppPhased, HasPhases, CardHasStopped, IsMadeInPool, PhaseRule}}
+use Rattle.ref_words.specs.{Words.{Words}, Rule.{RefRule}, PhaseRule.{IsAppPhased, HasPhases, CardHasNone, IsMadeInPool, PhaseRule}}
 
 -- ---- the card's side changed
 
@@ -18,7 +18,7 @@ module _ (phases : List ℕ) (nic : NicSide) (apps : List AppSide) (was : HasPha
   }
 
   -- not by a note that it sent
-  pub phases-card : now.view.sent ≡ nic.view.sent → (now.view.ended ≡ true → CardHasStopped now) → CardLiesInPool now.view → IsMadeInPool now
+  pub phases-card : now.view.sent ≡ nic.view.sent → (now.view.ended ≡ true → CardHasNone now) → CardLiesInPool now.view → IsMadeInPool now
       → HasPhases phases now apps
   phases-card sents stopped lies made = record {
     word = rw ended was.word;

@@ -14,7 +14,7 @@ abbrev pub with_phase : Words → ℕ → Words
 with_phase w r = record w { phases = slice_set w.phases r 1 }
 
 -- A card that has ended has no token out and no piece in the making.
-pub record CardHasStopped (nic : NicSide) : Type 0 where
+pub record CardHasNone (nic : NicSide) : Type 0 where
   pub none : HasNoToken nic.view
   pub idle : nic.inside.making ≡ None
 
@@ -36,7 +36,7 @@ IsMadeInPool nic = IfSome nic.inside.making (λ making. making.place.buffer < po
 -- in the making too, and the notes that it sent lie in pool buffers.
 pub record HasPhases (phases : List ℕ) (nic : NicSide) (apps : List AppSide) : Type 0 where
   pub word : slice_index phases 0 ≡ phase_word nic.view.ended
-  pub ended : nic.view.ended ≡ true → CardHasStopped nic
+  pub ended : nic.view.ended ≡ true → CardHasNone nic
   pub gone : All (λ a. slice_index phases (1 + a) ≡ 1) nic.view.gone
   pub lies : CardLiesInPool nic.view
   pub made : IsMadeInPool nic

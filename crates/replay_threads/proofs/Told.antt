@@ -2,7 +2,7 @@
 use Rattle.std.{proofs.Common.{◌≡◌, List, ◌++◌, inr, sym, subst}, specs.Prelude.{Result, Ok, Err, OnErr}}
 use Rattle.flow_queues.specs.Ends.{AppEnd}
 use Rattle.card_feed.specs.{Feed.{FeedState}, declared.{outcome.Outcome.{Outcome}, plan.Plan.{Plan}}}
-use Rattle.run_account.specs.{Laws.{RunsAreTold, RunsEndWell}, Ran.{HasReadOn, LacksMemoryBeside, RanBeside, TellsOfEnds, told_of}, Running.{HasRun}, Views.{Ends, Streams, ends_at}}
+use Rattle.run_account.specs.{Laws.{RunsAreTold, RunsEndWell}, Ran.{HasReadOn, RunLacksMemoryBeside, RanBeside, TellsOfEnds, told_of}, Running.{HasRun}, Views.{Ends, Streams, ends_at}}
 use Rattle.word_board.specs.Board.{TheDesk, card_of_seat}
 use Rattle.replay_threads.specs.Played.{HasPlayed}
 
@@ -30,7 +30,7 @@ module _ {S T : Type 0} {m : Streams S T} (was now : Ends m) (mid mid_now more :
     ran = law was there plan (card_of_seat desk.view) desk.view.apps feed ends outcome played.ended all-ran tells;
   }
 
-  pub run-lacks : RunsAreTold m → LacksMemoryBeside was now plan
+  pub run-lacks : RunsAreTold m → RunLacksMemoryBeside was now plan
   run-lacks law =
       let told = law was there plan (card_of_seat desk.view) desk.view.apps feed ends played.ended all-ran in
       inr (

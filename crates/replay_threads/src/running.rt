@@ -1,7 +1,7 @@
 //! A whole run.
 ghost use Rattle.std.specs.Prelude.{◌≡◌, ◌≤◌, [], length, map, vec_len, vec_capacity, IfOk, OnErr};
 ghost use Rattle.card_feed.specs.Plan.{IsPlan};
-ghost use Rattle.run_account.specs.{Ran.{LacksMemoryBeside, told_of}, Views.{ends_at, streams}};
+ghost use Rattle.run_account.specs.{Ran.{RunLacksMemoryBeside, told_of}, Views.{ends_at, streams}};
 ghost use Rattle.replay_threads.specs.{Played.{BeginWith, HasPlayed, IsOpenedFor, RanByThreads}, Reader.{IsReaderOpened}, Seated.{left_end}};
 
 use crate::card::CardLane;
@@ -124,8 +124,7 @@ fn play_seated<'b, S: Source + Send, T: Shelf + Send, G: Gate + Sync, R: Threads
     );
     drop_rest(&mut reader, &mut card);
     let CardLane { seat, feed, .. } = card;
-    // Its answer says that no more records were read than are read at most.
-    let _ = feed.records();
+    feed.has_few_records();
     seat.back(desk);
     close_lanes(lanes, desk, &mut lefts, shelves);
     (feed, lefts)
@@ -157,7 +156,7 @@ pub fn run_threads<S: Source + Send, T: Shelf + Send, G: Gate + Sync, R: Threads
         (ends_at m source.new shelves.new.items) plan.now (told_of it.0) it.1 it.2) }
     // Want of memory comes before the first turn or behind the last.
     ensures lacks { let m = streams S.left S.faults T.kept T.counts in
-        OnErr result (LacksMemoryBeside (ends_at m source.old shelves.old.items)
+        OnErr result (RunLacksMemoryBeside (ends_at m source.old shelves.old.items)
         (ends_at m source.new shelves.new.items) plan.now) }
 {
     let layout = plan.layout().unwrap();

@@ -56,8 +56,7 @@ pub fn step<S: Source, T: Shelf>(
     match role {
         Role::Card => {
             let turn = card_step(board, &mut run.feed, source);
-            // Its answer says that no more records were read than are read at most.
-            let _ = run.feed.records();
+            run.feed.has_few_records();
             turn
         }
         Role::App(app) => app_turn::<S, T>(board, run, shelves, app),

@@ -214,6 +214,6 @@ pub record RanBeside {S T : Type 0} {m : Streams S T} (was now : Ends m) (plan :
   pub ran : Ran was (ends_at m at now.shelves) plan told nic apps
 
 -- `RunLacksMemory` of a run whose capture is read beside the card.
-abbrev pub LacksMemoryBeside : {S T : Type 0} → {m : Streams S T} → Ends m → Ends m → Plan → Type 0
-LacksMemoryBeside was now plan =
+abbrev pub RunLacksMemoryBeside : {S T : Type 0} → {m : Streams S T} → Ends m → Ends m → Plan → Type 0
+RunLacksMemoryBeside was now plan =
     IsRunUntouched was now ⊎ ((told : Told) × (nic : NicSide) × (apps : List AppSide) × RanBeside was now plan told nic apps)

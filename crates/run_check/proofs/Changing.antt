@@ -8,7 +8,7 @@ use Rattle.zr_kinds.proofs.Weighing.{Moves, one_if, weight-append, weight-count,
 use Rattle.zr_kinds.specs.declared.holding.Holding.TheVariants as holding
 use Rattle.run_check.specs.declared.{buffer.{Buffer.TheInside.{Inside}, Keeper.{Keeper}}, places.{Hand.{Hand}, OwnedPlace.{OwnedPlace}}}
 use Rattle.run_check.specs.{Holding.{Changes, can_place, weight}, Places.{ArePlacesApart, IsNoLoan, all_placed, held_by}}
-use Rattle.run_check.specs.Buffer.{IsSoundBuffer, LeavesNoPlace, holders_in, kept_by_keeper, owed_from}
+use Rattle.run_check.specs.Buffer.{IsSoundBuffer, LeavesNoPlace, holders_in, holders_of_keeper, owed_from}
 use Rattle.run_check.proofs.Placing.{apart-put, apart-set, apart-take, found_some, free_there, rest_free, weight-put, weight-set, weight-take}
 use Rattle.run_check.proofs.Viewing.{alone_there, any-own, any-owed, any-place, any-spare, card_is, counted, owed_few, owed_fewer, owed_more, spare_is, there_found, users_fewer, users_more, view, weight-view}
 use Rattle.run_check.proofs.Weighing.{becomes_now, none_becomes, weight-absent, weight-one_if, weight-kept, weight-replicate, without}
@@ -53,7 +53,7 @@ no_user (hand.Sent a) o l app lent = refl
 no_user (hand.App a) o l app lent = refl
 no_user (hand.Loan a) o l app lent = absurd lent
 
-kept_apart : (o l : ℕ) (k : Keeper) → list_all (is_apart o l) (kept_by_keeper k) ≡ true
+kept_apart : (o l : ℕ) (k : Keeper) → list_all (is_apart o l) (holders_of_keeper k) ≡ true
 kept_apart o l keeper.Nobody = refl
 kept_apart o l keeper.Card = refl
 kept_apart o l (keeper.App a) = refl
@@ -76,10 +76,10 @@ all-owed p from (n ∷ owed) passes =
     ∙ rw (all-replicate p n (holding.Owed from) (passes from), all-owed p (from + 1) owed passes) refl
 
 -- a test that all holders without a place pass says what it says of the places
-all-places : (p : Holding → Bool) (k : Keeper) (es : List (ℕ × OwnedPlace)) (owed : List ℕ) → ((k : Keeper) → list_all p (kept_by_keeper k) ≡ true)
+all-places : (p : Holding → Bool) (k : Keeper) (es : List (ℕ × OwnedPlace)) (owed : List ℕ) → ((k : Keeper) → list_all p (holders_of_keeper k) ≡ true)
     → ((app : ℕ) → p (holding.Owed app) ≡ true) → list_all p (view k es owed) ≡ list_all p (all_placed es)
 all-places p k es owed kept none =
-    all-append p (kept_by_keeper k) (all_placed es ++ owed_from 0 owed)
+    all-append p (holders_of_keeper k) (all_placed es ++ owed_from 0 owed)
     ∙ rw (kept k, all-append p (all_placed es) (owed_from 0 owed), all-owed p 0 owed none) (last (list_all p (all_placed es)))
   where
     last : (b : Bool) → (b && true) ≡ b
@@ -141,7 +141,7 @@ module _ (b : Inside) (held : List Holding) (sound : IsSoundBuffer b) (was : hol
           weight-view (one_if (is_user a)) b.keeper b.places.entries b.owed,
           weight-take (λ h. 1) o (record { len = l; hand = hand.App a }) b.places.entries here,
           weight-take (one_if (is_user a)) o (record { len = l; hand = hand.App a }) b.places.entries here,
-          weight-one_if (is_user a) (kept_by_keeper b.keeper),
+          weight-one_if (is_user a) (holders_of_keeper b.keeper),
           weight-one_if (is_user a) (all_placed (remove_entry (is_at (nat_cmp o)) b.places.entries)),
           weight-one_if (is_user a) (owed_from 0 b.owed),
         )
@@ -255,10 +255,10 @@ module _ (b : Inside) (held : List Holding) (sound : IsSoundBuffer b) (was : hol
 
   -- ---- the buffer as a whole
 
-  pub own_there : list_any (is_same holding.Own) held ≡ list_any (is_same holding.Own) (kept_by_keeper b.keeper)
+  pub own_there : list_any (is_same holding.Own) held ≡ list_any (is_same holding.Own) (holders_of_keeper b.keeper)
   own_there = ap (list_any (is_same holding.Own)) (sym was) ∙ any-own b.keeper b.places.entries b.owed
 
-  pub spare_there : (a : ℕ) → list_any (is_same (holding.Spare a)) held ≡ list_any (is_same (holding.Spare a)) (kept_by_keeper b.keeper)
+  pub spare_there : (a : ℕ) → list_any (is_same (holding.Spare a)) held ≡ list_any (is_same (holding.Spare a)) (holders_of_keeper b.keeper)
   spare_there a = ap (list_any (is_same (holding.Spare a))) (sym was) ∙ any-spare a b.keeper b.places.entries b.owed
 
   pub owed_there : (a : ℕ) → a < length b.owed → list_any (is_same (holding.Owed a)) held ≡ ltb 0 (get_or b.owed a 0)
@@ -268,14 +268,14 @@ module _ (b : Inside) (held : List Holding) (sound : IsSoundBuffer b) (was : hol
   pub free_here : (o l : ℕ) → list_all (is_apart o l) held ≡ list_all (is_apart o l) (all_placed b.places.entries)
   free_here o l = ap (list_all (is_apart o l)) (sym was) ∙ all-places (is_apart o l) b.keeper b.places.entries b.owed (λ k. kept_apart o l k) (λ app. refl)
 
-  pub shut_now : list_any (is_same holding.Own) (kept_by_keeper b.keeper) ≡ true
+  pub shut_now : list_any (is_same holding.Own) (holders_of_keeper b.keeper) ≡ true
       → Changes (becomes holding.Own [] held) (all_placed b.places.entries ++ owed_from 0 b.owed) true
   shut_now there =
       let keeps : b.keeper ≡ keeper.Card = card_is b.keeper there in
       subst (λ l. Changes (becomes holding.Own [] l) (all_placed b.places.entries ++ owed_from 0 b.owed) true) was
       (becomes_now holding.Own [] (holders_in b) (all_placed b.places.entries ++ owed_from 0 b.owed) (any-own b.keeper b.places.entries b.owed ∙ there)
-      (λ f. let kept : weight f (kept_by_keeper b.keeper) ≡ f holding.Own + 0 = ap (λ k. weight f (kept_by_keeper k)) keeps in
-      omega (arith, kept, weight-append f (kept_by_keeper b.keeper) (all_placed b.places.entries ++ owed_from 0 b.owed))))
+      (λ f. let kept : weight f (holders_of_keeper b.keeper) ≡ f holding.Own + 0 = ap (λ k. weight f (holders_of_keeper k)) keeps in
+      omega (arith, kept, weight-append f (holders_of_keeper b.keeper) (all_placed b.places.entries ++ owed_from 0 b.owed))))
 
   module _ (o l : ℕ) (m : BTreeMap ℕ OwnedPlace) (may : can_place held o l ≡ true)
       (put : m.entries ≡ insert_entry nat_cmp b.places.entries o (record { len = l; hand = hand.Card })) where
@@ -320,13 +320,13 @@ module _ (b : Inside) (held : List Holding) (sound : IsSoundBuffer b) (was : hol
           omega (arith, added f, same, weight-append f held (holding.Piece o l ∷ [])),
     )
 
-  pub may_place : (o l : ℕ) → list_any (is_same holding.Own) (kept_by_keeper b.keeper) ≡ true → 0 < l → o % 64 ≡ 0
+  pub may_place : (o l : ℕ) → list_any (is_same holding.Own) (holders_of_keeper b.keeper) ≡ true → 0 < l → o % 64 ≡ 0
       → can_place held o l ≡ list_all (is_apart o l) (all_placed b.places.entries)
   may_place o l card some unit = rw (own_there, free_here o l, card, lt-ltb 0 l some, eq-eqb (o % 64) 0 unit) refl
 
   -- ---- a spare buffer that is lent
 
-  module _ (a l : ℕ) (small : a < length b.users) (m : BTreeMap ℕ OwnedPlace) (some : 0 < l) (there : list_any (is_same (holding.Spare a)) (kept_by_keeper b.keeper) ≡ true)
+  module _ (a l : ℕ) (small : a < length b.users) (m : BTreeMap ℕ OwnedPlace) (some : 0 < l) (there : list_any (is_same (holding.Spare a)) (holders_of_keeper b.keeper) ≡ true)
       (put : m.entries ≡ insert_entry nat_cmp b.places.entries 0 (record { len = l; hand = hand.Loan a })) where
     keeps : b.keeper ≡ keeper.App a
     keeps = spare_is a b.keeper there
@@ -344,7 +344,7 @@ module _ (b : Inside) (held : List Holding) (sound : IsSoundBuffer b) (was : hol
         (holding.Loan a 0 l ∷ []) sound was (subst (ArePlacesApart 0) (sym one_place) (omega arith, some, tt)) tt
         (any-spare a b.keeper b.places.entries b.owed ∙ there)
         (λ f.
-        let kept : weight f (kept_by_keeper b.keeper) ≡ f (holding.Spare a) + 0 = ap (λ k. weight f (kept_by_keeper k)) keeps in
+        let kept : weight f (holders_of_keeper b.keeper) ≡ f (holding.Spare a) + 0 = ap (λ k. weight f (holders_of_keeper k)) keeps in
         let none : weight f (all_placed b.places.entries) ≡ 0 = ap (λ es. weight f (all_placed es)) empty in
         let one : weight f (all_placed m.entries) ≡ f (holding.Loan a 0 l) + 0 = ap (λ es. weight f (all_placed es)) one_place in
         omega (arith, kept, none, one, weight-view f b.keeper b.places.entries b.owed, weight-view f keeper.Nobody m.entries b.owed))
@@ -454,7 +454,7 @@ module _ (b : Inside) (held : List Holding) (sound : IsSoundBuffer b) (was : hol
   nothing_there none =
       let pool : b.count ≡ length (holders_in b) = sound.counted.pool in
       nil_from_length (all_placed b.places.entries ++ owed_from 0 b.owed)
-      (omega (arith, pool, none, length-append (kept_by_keeper b.keeper) (all_placed b.places.entries ++ owed_from 0 b.owed)))
+      (omega (arith, pool, none, length-append (holders_of_keeper b.keeper) (all_placed b.places.entries ++ owed_from 0 b.owed)))
 
   pub begun : (may : Bool) (one : Holding) → b.count ≡ 0 → may ≡ true
       → Changes (only_if (may && (length held == 0)) (Some (one ∷ []))) (one ∷ (all_placed b.places.entries ++ owed_from 0 b.owed)) true

@@ -6,24 +6,24 @@ use Rattle.zr_kinds.specs.{declared.holding.Holding.{Holding}, Holders.{is_same,
 use Rattle.zr_kinds.proofs.Weighing.{Moves, one_if, weight-append, weight-count, weight-length}
 use Rattle.zr_kinds.specs.declared.holding.Holding.TheVariants as holding
 use Rattle.run_check.specs.{declared.{buffer.Keeper.{Keeper}, places.{Hand.{Hand}, OwnedPlace.{OwnedPlace}}}, Holding.{weight}}
-use Rattle.run_check.specs.{Places.{ArePlacesApart, all_placed, held_by, is_same_hand}, Buffer.{AreHoldersCounted, LeavesNoPlace, kept_by_keeper, owed_from}}
+use Rattle.run_check.specs.{Places.{ArePlacesApart, all_placed, held_by, is_same_hand}, Buffer.{AreHoldersCounted, LeavesNoPlace, holders_of_keeper, owed_from}}
 use Rattle.run_check.proofs.{Placing.{none_there, one_there, place_is}, Weighing.{any-append, any-replicate, weight-replicate}}
 use Rattle.run_check.specs.declared.buffer.Keeper.TheVariants as keeper
 use Rattle.run_check.specs.declared.places.Hand.TheVariants as hand
 
 abbrev pub view : Keeper → List (ℕ × OwnedPlace) → List ℕ → List Holding
-view keeper entries owed = kept_by_keeper keeper ++ (all_placed entries ++ owed_from 0 owed)
+view keeper entries owed = holders_of_keeper keeper ++ (all_placed entries ++ owed_from 0 owed)
 
 pub weight-view : (f : Holding → ℕ) (k : Keeper) (es : List (ℕ × OwnedPlace)) (owed : List ℕ)
-    → weight f (view k es owed) ≡ weight f (kept_by_keeper k) + (weight f (all_placed es) + weight f (owed_from 0 owed))
+    → weight f (view k es owed) ≡ weight f (holders_of_keeper k) + (weight f (all_placed es) + weight f (owed_from 0 owed))
 weight-view f k es owed =
-    omega (arith, weight-append f (kept_by_keeper k) (all_placed es ++ owed_from 0 owed), weight-append f (all_placed es) (owed_from 0 owed))
+    omega (arith, weight-append f (holders_of_keeper k) (all_placed es ++ owed_from 0 owed), weight-append f (all_placed es) (owed_from 0 owed))
 
 any-view : (p : Holding → Bool) (k : Keeper) (es : List (ℕ × OwnedPlace)) (owed : List ℕ)
-    → list_any p (view k es owed) ≡ (list_any p (kept_by_keeper k) || (list_any p (all_placed es) || list_any p (owed_from 0 owed)))
+    → list_any p (view k es owed) ≡ (list_any p (holders_of_keeper k) || (list_any p (all_placed es) || list_any p (owed_from 0 owed)))
 any-view p k es owed =
-    any-append p (kept_by_keeper k) (all_placed es ++ owed_from 0 owed)
-    ∙ ap (λ b. list_any p (kept_by_keeper k) || b) (any-append p (all_placed es) (owed_from 0 owed))
+    any-append p (holders_of_keeper k) (all_placed es ++ owed_from 0 owed)
+    ∙ ap (λ b. list_any p (holders_of_keeper k) || b) (any-append p (all_placed es) (owed_from 0 owed))
 
 or_none : (b : Bool) → (b || false) ≡ b
 or_none true = refl
@@ -51,7 +51,7 @@ place_never_owed (hand.Sent a) o l app = refl
 place_never_owed (hand.App a) o l app = refl
 place_never_owed (hand.Loan a) o l app = refl
 
-none_kept : (k : Keeper) (h : Hand) (o l : ℕ) → list_any (is_same (held_by h o l)) (kept_by_keeper k) ≡ false
+none_kept : (k : Keeper) (h : Hand) (o l : ℕ) → list_any (is_same (held_by h o l)) (holders_of_keeper k) ≡ false
 none_kept keeper.Nobody h o l = refl
 none_kept keeper.Card hand.Card o l = refl
 none_kept keeper.Card (hand.Sent a) o l = refl
@@ -95,23 +95,23 @@ owed_never_placed app (hand.App a) o l = refl
 owed_never_placed app (hand.Loan a) o l = refl
 
 any-kept : (h : Holding) → IsNeverPlaced h → IsNeverOwed h → (k : Keeper) (es : List (ℕ × OwnedPlace)) (owed : List ℕ)
-    → list_any (is_same h) (view k es owed) ≡ list_any (is_same h) (kept_by_keeper k)
+    → list_any (is_same h) (view k es owed) ≡ list_any (is_same h) (holders_of_keeper k)
 any-kept h no_place no_loan k es owed =
-    any-view (is_same h) k es owed ∙ rw (none_placed h no_place es, none_owed h no_loan 0 owed) (or_none (list_any (is_same h) (kept_by_keeper k)))
+    any-view (is_same h) k es owed ∙ rw (none_placed h no_place es, none_owed h no_loan 0 owed) (or_none (list_any (is_same h) (holders_of_keeper k)))
 
-pub any-own : (k : Keeper) (es : List (ℕ × OwnedPlace)) (owed : List ℕ) → list_any (is_same holding.Own) (view k es owed) ≡ list_any (is_same holding.Own) (kept_by_keeper k)
+pub any-own : (k : Keeper) (es : List (ℕ × OwnedPlace)) (owed : List ℕ) → list_any (is_same holding.Own) (view k es owed) ≡ list_any (is_same holding.Own) (holders_of_keeper k)
 any-own = any-kept holding.Own own_never_placed (λ app. refl)
 
 pub any-spare : (app : ℕ) (k : Keeper) (es : List (ℕ × OwnedPlace)) (owed : List ℕ)
-    → list_any (is_same (holding.Spare app)) (view k es owed) ≡ list_any (is_same (holding.Spare app)) (kept_by_keeper k)
+    → list_any (is_same (holding.Spare app)) (view k es owed) ≡ list_any (is_same (holding.Spare app)) (holders_of_keeper k)
 any-spare app = any-kept (holding.Spare app) (spare_never_placed app) (λ other. refl)
 
-pub card_is : (k : Keeper) → list_any (is_same holding.Own) (kept_by_keeper k) ≡ true → k ≡ keeper.Card
+pub card_is : (k : Keeper) → list_any (is_same holding.Own) (holders_of_keeper k) ≡ true → k ≡ keeper.Card
 card_is keeper.Nobody some = cc
 card_is keeper.Card some = refl
 card_is (keeper.App app) some = cc
 
-pub spare_is : (app : ℕ) (k : Keeper) → list_any (is_same (holding.Spare app)) (kept_by_keeper k) ≡ true → k ≡ keeper.App app
+pub spare_is : (app : ℕ) (k : Keeper) → list_any (is_same (holding.Spare app)) (holders_of_keeper k) ≡ true → k ≡ keeper.App app
 spare_is app keeper.Nobody some = cc
 spare_is app keeper.Card some = cc
 spare_is app (keeper.App other) some =
@@ -139,7 +139,7 @@ any_owed from app (n ∷ owed) (suc i) at lt =
     ∙ rw (any-replicate (is_same (holding.Owed app)) n (holding.Owed from), ne_eqb app from (λ same. omega arith), and_none (ltb 0 n))
     (any_owed (from + 1) app owed i (omega arith) (omega arith))
 
-none_owed_kept : (app : ℕ) (k : Keeper) → list_any (is_same (holding.Owed app)) (kept_by_keeper k) ≡ false
+none_owed_kept : (app : ℕ) (k : Keeper) → list_any (is_same (holding.Owed app)) (holders_of_keeper k) ≡ false
 none_owed_kept app keeper.Nobody = refl
 none_owed_kept app keeper.Card = refl
 none_owed_kept app (keeper.App other) = refl

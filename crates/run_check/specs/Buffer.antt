@@ -5,10 +5,10 @@ use Rattle.zr_kinds.specs.declared.holding.Holding.TheVariants as holding
 use Rattle.run_check.specs.{declared.{buffer.{Keeper.{Keeper}, Buffer.TheInside.{Inside}}, places.OwnedPlace.{OwnedPlace}}, Places.{ArePlacesApart, all_placed}}
 use Rattle.run_check.specs.declared.buffer.Keeper.TheVariants as keeper
 
-abbrev pub kept_by_keeper : Keeper → List Holding
-kept_by_keeper keeper.Nobody = []
-kept_by_keeper keeper.Card = holding.Own ∷ []
-kept_by_keeper (keeper.App app) = holding.Spare app ∷ []
+abbrev pub holders_of_keeper : Keeper → List Holding
+holders_of_keeper keeper.Nobody = []
+holders_of_keeper keeper.Card = holding.Own ∷ []
+holders_of_keeper (keeper.App app) = holding.Spare app ∷ []
 
 -- the owed loans of each application from this number on
 abbrev pub owed_from : ℕ → List ℕ → List Holding
@@ -16,7 +16,7 @@ owed_from app [] = []
 owed_from app (count ∷ counts) = replicate count (holding.Owed app) ++ owed_from (app + 1) counts
 
 abbrev pub holders_in : Inside → List Holding
-holders_in buffer = kept_by_keeper buffer.keeper ++ (all_placed buffer.places.entries ++ owed_from 0 buffer.owed)
+holders_in buffer = holders_of_keeper buffer.keeper ++ (all_placed buffer.places.entries ++ owed_from 0 buffer.owed)
 
 -- who has a spare buffer has it alone
 abbrev pub LeavesNoPlace : Keeper → List (ℕ × OwnedPlace) → Type 0

@@ -2,7 +2,7 @@
 ghost use Rattle.std.specs.{Prelude.{◌≡◌, ◌==◌, ◌&&◌, ◌<◌, ◌+◌, ◌-◌, ◌^◌, IfOk, [], ◌∷◌, ◌++◌, length, nat_lt, Some, not, filter, count_by}, List.{list_any}};
 ghost use Rattle.zr_kinds.specs.declared.holding.Holding.TheVariants as holding;
 ghost use Rattle.zr_kinds.specs.Holders.{becomes, is_pool_count, is_same, is_user, is_user_count, only_if};
-ghost use Rattle.run_check.specs.{Holding.{Changes, can_place}, Places.{IsNoLoan, held_by}, Buffer.{kept_by_keeper}};
+ghost use Rattle.run_check.specs.{Holding.{Changes, can_place}, Places.{IsNoLoan, held_by}, Buffer.{holders_of_keeper}};
 
 use crate::places::{Hand, OwnedPlace, are_apart, is_there};
 use std::alloc::{AllocError, Global};
@@ -325,7 +325,7 @@ impl Buffer {
 }
 
 fn is_card(keeper: Keeper) -> bool
-    ensures { result ≡ list_any (is_same holding.Own) (kept_by_keeper keeper) }
+    ensures { result ≡ list_any (is_same holding.Own) (holders_of_keeper keeper) }
 {
     match keeper {
         Keeper::Card => true,
@@ -334,7 +334,7 @@ fn is_card(keeper: Keeper) -> bool
 }
 
 fn is_spare_of(keeper: Keeper, app: u32) -> bool
-    ensures { result ≡ list_any (is_same (holding.Spare app)) (kept_by_keeper keeper) }
+    ensures { result ≡ list_any (is_same (holding.Spare app)) (holders_of_keeper keeper) }
 {
     match keeper {
         Keeper::App(other) => other == app,

@@ -157,14 +157,13 @@ impl<'a, R: Role + Drop> Stepper<'a, R> {
     }
 
     /// Makes a step on a word, and answers the number that it found there.
-    pub(crate) fn step<N: After, X: Copy>(&mut self, word: usize, op: Op, about: X) -> u64
+    pub(crate) fn step<N: After, X: Copy>(&mut self, word: usize, op: Op, _about: X) -> u64
         requires word { word < table_words self.old.board.setting }
         requires may { MayStep R.view_of R.stays self.old word (made_by op)
             (λ n. R.side_of (N.after n)) N.told }
         ensures event { self.new ≡ record self.old { side = R.side_of (N.after result) } }
         ensures told { N.told result }
     {
-        let _ = about;
         let words = self.words;
         step_as::<OfRole<R, N>, ()>(&words.table, &mut self.seat, word, op, ())
     }
@@ -176,7 +175,7 @@ impl<'a, R: Role + Drop> Stepper<'a, R> {
         op: Op,
         first: usize,
         bytes: &[u8],
-        about: X,
+        _about: X,
     )
         requires word { word < table_words self.old.board.setting }
         requires lines { (N.first ≡ first) × (N.many ≡ (length bytes.now + 63) / 64) }
@@ -190,7 +189,6 @@ impl<'a, R: Role + Drop> Stepper<'a, R> {
             → R.stays self.old.side (R.side_of (N.done lines)) }
         ensures { HasStored self.old self.new bytes.now (λ lines. R.side_of (N.done lines)) }
     {
-        let _ = about;
         let words = self.words;
         let table = &words.table;
         take_as::<LinesOfRole<R, N>, ()>(table, &mut self.seat, word, op, ());
@@ -204,7 +202,7 @@ impl<'a, R: Role + Drop> Stepper<'a, R> {
         first: usize,
         skip: usize,
         into: &mut [u8],
-        about: X,
+        _about: X,
     )
         requires few { first < 2 ^ 32 }
         requires skip { skip < 64 }
@@ -222,7 +220,6 @@ impl<'a, R: Role + Drop> Stepper<'a, R> {
             N.told }
         ensures many { length into.new ≡ length into.old }
     {
-        let _ = about;
         let words = self.words;
         let table = &words.table;
         let word = words.map.phase(0);

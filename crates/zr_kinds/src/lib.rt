@@ -1,5 +1,5 @@
-//! The words that every layer shares: what can go wrong in a command, the entries of the rings, notes and places, what a
-//! replay counts, the events of a run's record, and the copying receiver, the measure of all streams. One enum, `Fault`,
+//! The words that every layer shares: what can go wrong in a command, its options and the limits, the entries of the rings, notes
+//! and places, what a replay counts, the events of a run's record, and the copying receiver, the measure of all streams. `Fault`
 //! names why a replay ended, `Stopped` why an application did: nothing panics, and nothing ends the process but the return
 //! of `main`. Of records of runs nothing is read or written here; the definitions in `specs/`, from `LegalRun`, are what
 //! their readers and writers are proved by.

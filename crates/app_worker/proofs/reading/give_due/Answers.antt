@@ -26,7 +26,7 @@ returns-in-Ok-clause-given g c =
     let some : 0 < l.loan.len = loan-some v c.requires.apart (lent_piece v.taken l) out in
     let inside : l.loan.offset < size_of v.setting.layout l.loan.buffer = omega (arith, lies.bytes, some) in
     let step : Gave v (gave v l.loan) l = assumption in
-    let sound = c.size-size.ensures.sound in
+    let sound = c.has_layout.ensures.layout in
     let off : c.off.result ≡ off_of v.setting.layout l.loan = search rules in
     let entry : ℕ → Rqe = λ n. record { off = n; len = l.loan.len; pad = 0 } in
     let stray : Stray = record { entry = entry c.off.result; buffer = l.loan.buffer; left = c.args.most } in

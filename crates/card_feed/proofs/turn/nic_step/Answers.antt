@@ -2,7 +2,7 @@
 use Rattle.std.proofs.{Common.{◌≡◌, ◌≢◌, true, false, inl, inr, ⊎_elim, sym, subst, ap, ◌∙◌, rules, arith}, lemmas.Bool.{true≢false}}
 use Rattle.zr_kinds.specs.declared.outcome.Tally.{Tally}
 use Rattle.card_feed.specs.{Coming.{is_over}, Feed.{one_if}, declared.{arrived.Arrived.TheVariants.{Nothing}, intake.Intake.{Intake}}, Intake.{IsReadable, counts_as}}
-use Rattle.card_feed.{specs.{Parts.{feed_of}, Turns.{IsAwaiting}}, proofs.Counting.{AreInType}}
+use Rattle.card_feed.specs.{Parts.{feed_of}, Turns.{IsAwaiting}}
 use Rattle.card_feed.proofs.Turning.{by-answer, counts-one, knows-of, looked-as, no_hand, not-awaiting, readable-of, received, stepped, stepped-up, timely-of, wants-of}
 use Rattle.card_feed.proofs.turn.nic_step.Goals.{in-Nothing, in_default, then-nothing+then-is_readable, else-nothing}
 use Rattle.card_feed.proofs.turn.nic_step.Goals.{else-nothing-via-then-nothing+else-is_readable, else-nothing-via-else-nothing, then-not-nothing, else-not-nothing}
@@ -15,8 +15,7 @@ returns-clause-steps g c = λ ports split frames stands.
     let came = c.args.arrived in
     let now = c.receive.new.self in
     let knows = rw view at stands in
-    let counts : AreInType c.stats.result = search rules in
-    let fits = subst AreInType c.stats.ensures counts in
+    let fits = c.counts_fit.ensures in
     let is : c.match-matches.matches ≡ true → came ≡ Nothing = λ so. elim c.match-matches.branch [
       | in-Nothing w ↦ w.in-Nothing.is
       | in_default w ↦ absurd (true≢false (sym so ∙ w.matches-is))

@@ -1,6 +1,5 @@
 -- A turn of the card, or of an application.
 use Rattle.std.{proofs.Common.{◌<◌, ◌≤◌, refl, sym, subst}, specs.Prelude.{MatchBool}}
-use Rattle.zr_kinds.specs.Limits.{most_records}
 use Rattle.replay_turns.{specs.{Following.{RoleMoves}, Rounds.{DidNothing}, Running.{PlaysBy, moment_at}, Steps.{run_steps}}, proofs.{Answering.{card-answers}, Following.{either}}}
 use Rattle.replay_turns.proofs.Turns.{card-fits, card-runs}
 use Rattle.run_account.specs.{Views.{ends_at, streams}, declared.run.Run.{Run}}
@@ -34,7 +33,7 @@ returns-in-Card g c =
               card-runs c.args.board c.card_step-turn.result.0 c.args.run.now run_now refl step.apps step.sound step.ready
               first (ends_at m c.args.source.now c.args.shelves.now) c.card_step-turn.new.source plan fits runs
               (step.turns first.source plan.ports.items plan.options.split runs.frames runs.feed)
-              (subst (λ n. n ≤ most_records) c.records.ensures.count c.records.ensures.most);
+              c.has_few_records.ensures;
         };
         by = subst (λ role. RoleMoves role (moment_at m c.args.source.now c.args.shelves.now c.args.board c.args.run.now)
             (moment_at m c.card_step-turn.new.source c.args.shelves.now c.card_step-turn.result.0 run_now)) (sym c.in-Card.is)

@@ -5,6 +5,6 @@ use Rattle.plain_board.proofs.contents.Contents.left.Given as goal
 
 abbrev pub ghosts-note : goal.ghosts-note
 ghosts-note a = record {
-  next = if a.about.1 then nic_at a.self.now (saw_leave a.self.now.view a.about.0) else nic_at a.self.now
-      (nic_saw a.self.now.view (NotLeft a.about.0));
+  next = if a._about.1 then nic_at a.self.now (saw_leave a.self.now.view a._about.0) else nic_at a.self.now
+      (nic_saw a.self.now.view (NotLeft a._about.0));
 }

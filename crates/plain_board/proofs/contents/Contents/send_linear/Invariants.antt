@@ -3,7 +3,7 @@ use Rattle.board_face.specs.{Sides.{nic_at}, NicEvents.{nic_saw, sent_linear}, d
 use Rattle.plain_board.proofs.contents.Contents.send_linear.Given as goal
 
 abbrev pub ghosts-note : goal.ghosts-note
-ghosts-note a = record { next = nic_at a.self.now (nic_saw a.self.now.view (NoteInUse a.about)) }
+ghosts-note a = record { next = nic_at a.self.now (nic_saw a.self.now.view (NoteInUse a._about)) }
 
 abbrev pub ghosts-note-2 : goal.ghosts-note-2
-ghosts-note-2 a = record { next = nic_at a.self.now (sent_linear a.self.now.view a.about.0 a.about.1 a.about.2.now) }
+ghosts-note-2 a = record { next = nic_at a.self.now (sent_linear a.self.now.view a._about.0 a._about.1 a._about.2.now) }

@@ -3,4 +3,4 @@ use Rattle.board_face.specs.{Sides.{nic_at}, NicEvents.{shut}}
 use Rattle.plain_board.proofs.contents.Contents.shut.Given as goal
 
 abbrev pub ghosts-note : goal.ghosts-note
-ghosts-note a = record { next = nic_at a.self.now (shut a.self.now.view a.about.0.now a.about.1) }
+ghosts-note a = record { next = nic_at a.self.now (shut a.self.now.view a._about.0.now a._about.1) }

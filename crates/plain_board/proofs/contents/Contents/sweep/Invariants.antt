@@ -4,4 +4,4 @@ use Rattle.board_face.specs.{Sides.{nic_at}, NicEvents.{swept}}
 use Rattle.plain_board.proofs.contents.Contents.sweep.Given as goal
 
 abbrev pub ghosts-note : goal.ghosts-note
-ghosts-note a = record { next = nic_at a.self.now (swept a.self.now.view a.about.0 (drop (length a.self.now.view.cache) a.about.1.now.items)) }
+ghosts-note a = record { next = nic_at a.self.now (swept a.self.now.view a._about.0 (drop (length a.self.now.view.cache) a._about.1.now.items)) }

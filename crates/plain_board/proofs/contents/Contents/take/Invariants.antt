@@ -6,4 +6,4 @@ abbrev pub ghosts-note : goal.ghosts-note
 ghosts-note a = record { next = a.self.now }
 
 abbrev pub ghosts-note-2 : goal.ghosts-note-2
-ghosts-note-2 a = record { next = nic_at a.self.now (took a.self.now.view a.about) }
+ghosts-note-2 a = record { next = nic_at a.self.now (took a.self.now.view a._about) }

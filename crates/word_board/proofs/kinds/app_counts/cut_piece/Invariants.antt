@@ -7,6 +7,6 @@ use Rattle.word_board.proofs.kinds.app_counts.cut_piece.Given as goal
 abbrev pub ghosts-step : goal.ghosts-step
 ghosts-step a = record {
   after = λ _. app_seat_view (app_at a.self.now.side (cut
-      a.self.now.side.view a.about.0 a.about.1));
-  told = λ _. a.about.0.offset + a.about.0.len < 2 ^ 32;
+      a.self.now.side.view a._about.0 a._about.1));
+  told = λ _. a._about.0.offset + a._about.0.len < 2 ^ 32;
 }

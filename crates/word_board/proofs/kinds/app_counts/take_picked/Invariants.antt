@@ -5,6 +5,6 @@ use Rattle.word_board.proofs.kinds.app_counts.take_picked.Given as goal
 
 abbrev pub ghosts-step : goal.ghosts-step
 ghosts-step a = record {
-  after = λ _. app_seat_view (side_spare_begun a.self.now.side a.about);
-  told = λ _. HasNoneIn a.self.now.side.view a.about;
+  after = λ _. app_seat_view (side_spare_begun a.self.now.side a._about);
+  told = λ _. HasNoneIn a.self.now.side.view a._about;
 }

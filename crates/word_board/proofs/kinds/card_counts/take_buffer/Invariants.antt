@@ -5,7 +5,7 @@ use Rattle.word_board.proofs.kinds.card_counts.take_buffer.Given as goal
 
 abbrev pub ghosts-step : goal.ghosts-step
 ghosts-step a = record {
-  after = λ _. card_seat_view (nic_at a.self.now.side (took a.self.now.side.view a.about));
+  after = λ _. card_seat_view (nic_at a.self.now.side (took a.self.now.side.view a._about));
   told = λ _. HasNothingIn
-      a.self.now.side.view a.about;
+      a.self.now.side.view a._about;
 }

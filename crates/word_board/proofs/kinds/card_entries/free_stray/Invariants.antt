@@ -4,4 +4,4 @@ use Rattle.ref_words.specs.Seated.{card_seat_view}
 use Rattle.word_board.proofs.kinds.card_entries.free_stray.Given as goal
 
 abbrev pub ghosts-step : goal.ghosts-step
-ghosts-step a = record { after = λ n. card_seat_view (side_dealt a.self.now.side a.about.0 a.about.1 Stray); told = λ _. Unit {0} }
+ghosts-step a = record { after = λ n. card_seat_view (side_dealt a.self.now.side a._about.0 a._about.1 Stray); told = λ _. Unit {0} }

@@ -7,5 +7,5 @@ use Rattle.word_board.proofs.kinds.desk_looks.look_listed.Given as goal
 abbrev pub ghosts-step_as : goal.ghosts-step_as
 ghosts-step_as a = record {
   after = λ _. a.seat.now.me.0;
-  told = λ n. count_by (nat_eq a.about) (card_of_seat a.seat.now.me.0).view.cache + (if bit_at n (a.about % word_bits) == 1 then 1 else 0) ≡ 1;
+  told = λ n. count_by (nat_eq a._about) (card_of_seat a.seat.now.me.0).view.cache + (if bit_at n (a._about % word_bits) == 1 then 1 else 0) ≡ 1;
 }

@@ -4,4 +4,4 @@ use Rattle.ref_words.specs.Seated.{app_seat_view}
 use Rattle.word_board.proofs.kinds.entries.publish_raw.Given as goal
 
 abbrev pub ghosts-step : goal.ghosts-step
-ghosts-step a = record { after = λ n. app_seat_view (side_pushed a.self.now.side a.about); told = λ _. Unit {0} }
+ghosts-step a = record { after = λ n. app_seat_view (side_pushed a.self.now.side a._about); told = λ _. Unit {0} }

@@ -3,4 +3,4 @@ use Rattle.ref_words.specs.{FreeSteps.{side_app_listed}, Seated.{app_seat_view}}
 use Rattle.word_board.proofs.kinds.free.list_by_app.Given as goal
 
 abbrev pub ghosts-step : goal.ghosts-step
-ghosts-step a = record { after = λ _. app_seat_view (side_app_listed a.self.now.side a.about); told = λ _. Unit {0} }
+ghosts-step a = record { after = λ _. app_seat_view (side_app_listed a.self.now.side a._about); told = λ _. Unit {0} }

@@ -6,4 +6,4 @@ use Rattle.word_board.specs.Told.{SawFree}
 use Rattle.word_board.proofs.kinds.free.look_free_word.Given as goal
 
 abbrev pub ghosts-step : goal.ghosts-step
-ghosts-step a = record { after = λ n. app_seat_view (side_word_looked a.self.now.side a.about (n == 0)); told = λ n. SawFree a.self.now.board.setting (app_gist a.self.now.side.view) a.about n }
+ghosts-step a = record { after = λ n. app_seat_view (side_word_looked a.self.now.side a._about (n == 0)); told = λ n. SawFree a.self.now.board.setting (app_gist a.self.now.side.view) a._about n }

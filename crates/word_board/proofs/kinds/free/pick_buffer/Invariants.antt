@@ -8,7 +8,7 @@ use Rattle.word_board.proofs.kinds.free.pick_buffer.Given as goal
 
 abbrev pub ghosts-step : goal.ghosts-step
 ghosts-step a = record {
-  after = λ n. app_seat_view (side_bit_cleared a.self.now.side (a.about / word_bits) a.about (bit_at n (a.about % word_bits) == 1));
-  told = λ n. (bit_at n (a.about % word_bits) ≡ 1 → a.about < pool_buffers a.self.now.board.setting.layout)
-      × ((bit_at n (a.about % word_bits) == 1) ≡ false → SawUnlisted a.self.now.board.setting (app_gist a.self.now.side.view) a.about);
+  after = λ n. app_seat_view (side_bit_cleared a.self.now.side (a._about / word_bits) a._about (bit_at n (a._about % word_bits) == 1));
+  told = λ n. (bit_at n (a._about % word_bits) ≡ 1 → a._about < pool_buffers a.self.now.board.setting.layout)
+      × ((bit_at n (a._about % word_bits) == 1) ≡ false → SawUnlisted a.self.now.board.setting (app_gist a.self.now.side.view) a._about);
 }

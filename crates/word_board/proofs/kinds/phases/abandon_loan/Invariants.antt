@@ -3,4 +3,4 @@ use Rattle.ref_words.specs.{PhaseSteps.{side_abandoned}, Seated.{app_seat_view}}
 use Rattle.word_board.proofs.kinds.phases.abandon_loan.Given as goal
 
 abbrev pub ghosts-step : goal.ghosts-step
-ghosts-step a = record { after = λ _. app_seat_view (side_abandoned a.self.now.side a.about); told = λ _. Unit {0} }
+ghosts-step a = record { after = λ _. app_seat_view (side_abandoned a.self.now.side a._about); told = λ _. Unit {0} }

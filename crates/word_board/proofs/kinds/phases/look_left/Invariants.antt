@@ -6,4 +6,4 @@ use Rattle.word_board.specs.Told.{SawNotLeft}
 use Rattle.word_board.proofs.kinds.phases.look_left.Given as goal
 
 abbrev pub ghosts-step : goal.ghosts-step
-ghosts-step a = record { after = λ n. card_seat_view (side_leave_looked a.self.now.side a.about (n == 1)); told = λ n. (n == 1) ≡ false → SawNotLeft a.self.now.board.setting (nic_gist a.self.now.side.view) a.about }
+ghosts-step a = record { after = λ n. card_seat_view (side_leave_looked a.self.now.side a._about (n == 1)); told = λ n. (n == 1) ≡ false → SawNotLeft a.self.now.board.setting (nic_gist a.self.now.side.view) a._about }

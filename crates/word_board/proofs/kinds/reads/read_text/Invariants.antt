@@ -8,7 +8,7 @@ abbrev pub ghosts-read_text : goal.ghosts-read_text
 ghosts-read_text a = record {
   first = a.first;
   many = (a.skip + length a.into.now + 63) / 64;
-  begun = λ lines. app_seat_view (side_read a.self.now.side a.about.0 a.about.1 a.about.2 lines);
-  done = λ lines. app_seat_view (side_at_hand (side_read a.self.now.side a.about.0 a.about.1 a.about.2 lines) None);
-  told = λ lines. ShowsCopy (loan_origin a.self.now.side.view a.about.0) a.about.1 (text_in (part_of a.about.0 a.about.1 a.about.2) lines);
+  begun = λ lines. app_seat_view (side_read a.self.now.side a._about.0 a._about.1 a._about.2 lines);
+  done = λ lines. app_seat_view (side_at_hand (side_read a.self.now.side a._about.0 a._about.1 a._about.2 lines) None);
+  told = λ lines. ShowsCopy (loan_origin a.self.now.side.view a._about.0) a._about.1 (text_in (part_of a._about.0 a._about.1 a._about.2) lines);
 }

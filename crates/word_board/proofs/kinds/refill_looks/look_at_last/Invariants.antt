@@ -6,4 +6,4 @@ use Rattle.word_board.specs.Told.{IsOneInUse, IsToldToApp}
 use Rattle.word_board.proofs.kinds.refill_looks.look_at_last.Given as goal
 
 abbrev pub ghosts-step : goal.ghosts-step
-ghosts-step a = record { after = λ n. app_seat_view (side_last_looked a.self.now.side a.about (n == 0)); told = λ n. (n == 0) ≡ false → IsToldToApp a.self.now.board.setting (app_gist a.self.now.side.view) (IsOneInUse a.self.now.board.setting) }
+ghosts-step a = record { after = λ n. app_seat_view (side_last_looked a.self.now.side a._about (n == 0)); told = λ n. (n == 0) ≡ false → IsToldToApp a.self.now.board.setting (app_gist a.self.now.side.view) (IsOneInUse a.self.now.board.setting) }

@@ -8,7 +8,7 @@ abbrev pub ghosts-store_text : goal.ghosts-store_text
 ghosts-store_text a = record {
   first = a.first;
   many = (length a.bytes.now + 63) / 64;
-  begun = λ _. app_seat_view (side_at_hand a.self.now.side (making_in_hand (begin_place a.about.0.buffer (length a.bytes.now)) []));
-  done = λ _. app_seat_view (side_spare_filled (side_at_hand a.self.now.side (making_in_hand (begin_place a.about.0.buffer (length a.bytes.now)) [])) a.about.0 a.bytes.now);
+  begun = λ _. app_seat_view (side_at_hand a.self.now.side (making_in_hand (begin_place a._about.0.buffer (length a.bytes.now)) []));
+  done = λ _. app_seat_view (side_spare_filled (side_at_hand a.self.now.side (making_in_hand (begin_place a._about.0.buffer (length a.bytes.now)) [])) a._about.0 a.bytes.now);
   told = λ _. Unit {0};
 }

@@ -8,7 +8,7 @@ abbrev pub ghosts-store_text : goal.ghosts-store_text
 ghosts-store_text a = record {
   first = a.first;
   many = (length a.bytes.now + 63) / 64;
-  begun = λ _. card_seat_view (side_begun a.self.now.side a.about.0 (length a.bytes.now));
-  done = λ _. card_seat_view (side_text_done (side_begun a.self.now.side a.about.0 (length a.bytes.now)) a.about.0 a.bytes.now);
-  told = λ _. line_count (next_place a.about.0 (length a.bytes.now)) ≡ (length a.bytes.now + 63) / 64;
+  begun = λ _. card_seat_view (side_begun a.self.now.side a._about.0 (length a.bytes.now));
+  done = λ _. card_seat_view (side_text_done (side_begun a.self.now.side a._about.0 (length a.bytes.now)) a._about.0 a.bytes.now);
+  told = λ _. line_count (next_place a._about.0 (length a.bytes.now)) ≡ (length a.bytes.now + 63) / 64;
 }

@@ -5,4 +5,4 @@ use Rattle.ref_words.specs.Seated.{app_seat_view}
 use Rattle.word_board.proofs.kinds.users.lend_held.Given as goal
 
 abbrev pub ghosts-step : goal.ghosts-step
-ghosts-step a = record { after = λ _. app_seat_view (app_at a.self.now.side (lent a.self.now.side.view a.about)); told = λ _. loans_out a.about.buffer a.self.now.side + 1 < 2 ^ 64 }
+ghosts-step a = record { after = λ _. app_seat_view (app_at a.self.now.side (lent a.self.now.side.view a._about)); told = λ _. loans_out a._about.buffer a.self.now.side + 1 < 2 ^ 64 }

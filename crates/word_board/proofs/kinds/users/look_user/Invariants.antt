@@ -5,4 +5,4 @@ use Rattle.ref_words.specs.Seated.{card_seat_view}
 use Rattle.word_board.proofs.kinds.users.look_user.Given as goal
 
 abbrev pub ghosts-step : goal.ghosts-step
-ghosts-step a = record { after = λ n. card_seat_view (side_judged a.self.now.side a.about.0 a.about.1 a.about.2 (n == 0)); told = λ _. Unit {0} }
+ghosts-step a = record { after = λ n. card_seat_view (side_judged a.self.now.side a._about.0 a._about.1 a._about.2 (n == 0)); told = λ _. Unit {0} }

@@ -4,4 +4,4 @@ use Rattle.ref_words.specs.Seated.{card_seat_view}
 use Rattle.word_board.proofs.kinds.users.lower_user.Given as goal
 
 abbrev pub ghosts-step : goal.ghosts-step
-ghosts-step a = record { after = λ _. card_seat_view (side_user_lowered a.self.now.side a.about.0 a.about.1 a.about.2); told = λ _. Unit {0} }
+ghosts-step a = record { after = λ _. card_seat_view (side_user_lowered a.self.now.side a._about.0 a._about.1 a._about.2); told = λ _. Unit {0} }

@@ -4,4 +4,4 @@ use Rattle.ref_words.specs.Seated.{app_seat_view}
 use Rattle.word_board.proofs.kinds.users.scrub_user.Given as goal
 
 abbrev pub ghosts-step : goal.ghosts-step
-ghosts-step a = record { after = λ n. app_seat_view (side_user_taken a.self.now.side a.about n); told = λ _. Unit {0} }
+ghosts-step a = record { after = λ n. app_seat_view (side_user_taken a.self.now.side a._about n); told = λ _. Unit {0} }

@@ -1,4 +1,4 @@
-use Rattle.std.{proofs.{Common.{rules, ◌≡◌, ◌↔◌, Some, ℕ, option_map}, lemmas.Iterator.{YieldsList-from_slice, Search.{find_from_yields_List}}}, specs.Prelude.{◌==◌}}
+use Rattle.std.{proofs.{Common.{rules, ◌≡◌, option_map}, lemmas.Iterator.{YieldsList-from_slice, Search.{find_from_yields_List}}}, specs.Prelude.{◌==◌}}
 use Rattle.zr_kinds.{specs.{Fault.{number_of}, declared.fault.TheConstants.Fault.{ALL}}, proofs.Numbers.{with_number, found_by_number}}
 use Rattle.zr_kinds.proofs.fault.Fault.numbered.Goals as goal
 
