@@ -11,7 +11,7 @@ use Rattle.flow_queues.specs.{Core.{Each, OnlyReads}, Ends.{HasLeft}, Returned.{
 use Rattle.zc_poll.specs.declared.{step.Lent.{Lent}, to_shelf.Rests.{Rests, TheVariants.{Stream, RefillFull, NotQuiet, NoNotice}}}
 use Rattle.zc_poll.specs.declared.{step.Step.{Step, TheVariants.{Waiting, Memory, Ended as stream_ended}}, to_shelf.{Poured.{Poured}, PollTurn.{PollTurn}}}
 use Rattle.zc_poll.specs.{declared.to_shelf.PollTurn.TheVariants.{Did, Idle, Ended}, Fresh.{has_left}, Standing.{Desk, stopped_with}, Steps.{OnlySteps, ScrubsOrWaits, Steps, IsItem}}
-use Rattle.zc_poll.specs.{PourTurns.{GoesBack, IsPourTurnTold, pour_end}, Stops.{without_loan}}
+use Rattle.zc_poll.specs.{PourTurns.{GoesBack, RestsAreTold, pour_end}, Stops.{without_loan}}
 use Rattle.zc_forward.specs.{declared.sent.Sent.{Sent}, GivenUp.{GaveAllUp}, Tags.{Pace, PaceGoes, Tags, TakesTag}, Sending.{OutboxState, is_held, is_urgent, most_out, many_kept}}
 use Rattle.zc_forward.specs.{Forwarding.{ForwardStands}, Asking.{AskedBy}}
 
@@ -182,4 +182,4 @@ PollForwards first losses w st tags got losses_now v Pending = ForwardStands fir
 
 abbrev pub PollDoes : (AppLook → Type 0) → Stage → Stage → Poll Poured → Type 0
 PollDoes is_so was now (Ready poured) = TurnDoes was now (Ended poured)
-PollDoes is_so was now Pending = TurnDoes was now Did ⊎ ((why : Rests) × TurnDoes was now (Idle why) × IsPourTurnTold is_so (Idle why))
+PollDoes is_so was now Pending = TurnDoes was now Did ⊎ ((why : Rests) × TurnDoes was now (Idle why) × RestsAreTold is_so (Idle why))

@@ -2,7 +2,7 @@
 ghost use Rattle.std.specs.Prelude.{◌≡◌, ℕ, List, [], Option, true, ⊤};
 ghost use Rattle.futures.specs.{Poll.{IfReady, OnPending}, Task.{Keeps}};
 ghost use Rattle.board_face.specs.AppEvents.{app_gist};
-ghost use Rattle.zc_poll.specs.{Fresh.{HasDoneNothing, new_stream_desk}, Standing.{StreamStands}};
+ghost use Rattle.zc_poll.specs.Fresh.{HasDoneNothing, new_stream_desk};
 ghost use Rattle.zc_poll.specs.{Polls.{AsksAgain}, PourTurns.{pour_end}, Stops.{HasStopped}, declared.to_shelf.Poured.{Poured as Told}};
 ghost use Rattle.flow_queues.specs.Counting.{quit_by};
 ghost use Rattle.zc_forward.specs.{GivenUp.{Halts}, Seats.{SameSeat, streaming}, Carrying.{Cancels, carrying}, Sending.{new_outbox}, Turns.{Asks}};
@@ -42,7 +42,6 @@ impl<F: AppFace, C: Carrier> Forward<F, C> {
     pub fn new(stream: LoanStream<F>, carrier: C) -> Forward<F, C>
         requires fresh { (app : ℕ) × (stream.desk ≡ new_stream_desk app)
             × HasDoneNothing app (F.seen stream.face) }
-        requires stands { StreamStands stream.desk (F.seen stream.face) }
         requires none { C.tags carrier ≡ [] }
         ensures parts { (result.face ≡ stream.face) × (result.carrier ≡ carrier)
             × (result.desk ≡ stream.desk)

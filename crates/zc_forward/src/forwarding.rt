@@ -3,7 +3,7 @@ ghost use Rattle.std.specs.Prelude.{◌≡◌, ◌≢◌, ℕ, List, [], Option,
 ghost use Rattle.zr_io.specs.Moved.{Rose, ShelfCounts};
 ghost use Rattle.board_face.specs.{AppEvents.{app_gist}, declared.views.app.AppView.{AppView}};
 ghost use Rattle.zr_kinds.specs.declared.behaviour.Stopped.TheVariants.{No};
-ghost use Rattle.zc_poll.specs.{Standing.{Desk, HoldsLoan}, Steps.{IsItem, OnlySteps}, PourTurns.{IsPourTurnTold, ScrubsIfQuiet}};
+ghost use Rattle.zc_poll.specs.{Standing.{Desk, HoldsLoan}, Steps.{IsItem, OnlySteps}, PourTurns.{RestsAreTold, ScrubsIfQuiet}};
 ghost use Rattle.zc_forward.specs.{Tags.{Pace, Tags, TakesTag}, Seats.{SameSeat}, OutboxOf.{outbox_of}, Handing.{CanHand, CanStep}, Forwarding.{ForwardStands, StandsSo}, Turns.{ForwardGives, GivesLoanBack, CarriedItem, ScrubsFirst, StepDoes, NoticeCame, TurnDoes, stage_of, with_due}};
 
 use crate::carrier::Carrier;
@@ -27,7 +27,7 @@ fn give_back<F: AppFace>(stream: &mut LoanStream<F>, work: &mut Outbox, loan: Lo
         (F.seen stream.old.face)
         (F.seen stream.new.face) result }
     ensures desk { stream.new.desk ≡ stream.old.desk }
-    ensures told { IsPourTurnTold (λ look.
+    ensures told { RestsAreTold (λ look.
         F.tells look (app_gist (F.seen stream.new.face)) (F.beside stream.new.face)) result }
     ensures seat { SameSeat F.seen F.beside stream.old.face stream.new.face }
 {
@@ -83,7 +83,7 @@ fn leave<F: AppFace>(stream: &mut LoanStream<F>, work: &mut Outbox) -> PollTurn
         (F.seen stream.old.face))
         (stage_of (outbox_of work.new) stream.new.desk tags later (F.seen stream.new.face)) result }
     ensures scrubs { ScrubsIfQuiet (F.seen stream.old.face) (F.seen stream.new.face) }
-    ensures told { IsPourTurnTold (λ look.
+    ensures told { RestsAreTold (λ look.
         F.tells look (app_gist (F.seen stream.new.face)) (F.beside stream.new.face)) result }
     ensures seat { SameSeat F.seen F.beside stream.old.face stream.new.face }
 {
@@ -180,7 +180,7 @@ fn step_once<F: AppFace, C: Carrier>(
         (F.seen stream.old.face))
         (stage_of (outbox_of work.new) stream.new.desk (C.tags carrier.new) (C.pace carrier.new)
         (F.seen stream.new.face)) }
-    ensures told { IsPourTurnTold (λ look.
+    ensures told { RestsAreTold (λ look.
         F.tells look (app_gist (F.seen stream.new.face)) (F.beside stream.new.face)) result }
     ensures seat { SameSeat F.seen F.beside stream.old.face stream.new.face }
 {
@@ -267,7 +267,7 @@ fn take_step<F: AppFace, C: Carrier>(
         (F.seen stream.new.face)) }
     ensures scrubs { work.old.tally.stopped ≢ No → work.old.out.items ≡ []
         → ScrubsIfQuiet (F.seen stream.old.face) (F.seen stream.new.face) }
-    ensures told { IsPourTurnTold (λ look.
+    ensures told { RestsAreTold (λ look.
         F.tells look (app_gist (F.seen stream.new.face)) (F.beside stream.new.face)) result }
     ensures seat { SameSeat F.seen F.beside stream.old.face stream.new.face }
 {
@@ -317,7 +317,7 @@ pub fn go_on<F: AppFace, C: Carrier>(
     ensures scrubs { told ≡ None → work.old.tally.stopped ≢ No → work.old.tally.due ≡ None
         → work.old.out.items ≡ []
         → ScrubsIfQuiet (F.seen stream.old.face) (F.seen stream.new.face) }
-    ensures told { IsPourTurnTold (λ look.
+    ensures told { RestsAreTold (λ look.
         F.tells look (app_gist (F.seen stream.new.face)) (F.beside stream.new.face)) result }
     ensures seat { SameSeat F.seen F.beside stream.old.face stream.new.face }
 {

@@ -1,15 +1,16 @@
 //! What is forwarded, with the face and the carrier.
-ghost use Rattle.std.specs.Prelude.{◌≡◌, ℕ, true, List, Option, Some, IfSome, IsSomeAnd, MatchOption, ⊤};
-ghost use Rattle.futures.specs.Task.{Keeps};
-ghost use Rattle.zr_io.specs.Moved.{ShelfCounts};
-ghost use Rattle.zc_forward.specs.{Seats.{SameSeat}, Carrying.{carrying}, Sights.{MayTurn, StandsSince, sight_of}, Polls.{IsLastTurn}};
+ghost use Rattle.std.specs.Prelude.{◌≡◌, Some, IfSome, ⊤};
+ghost use Rattle.futures.specs.Poll.{IfReady, OnPending};
+ghost use Rattle.board_face.specs.AppEvents.{app_gist};
+ghost use Rattle.zc_poll.specs.{Polls.{AsksAgain}, declared.to_shelf.Poured.{Poured as Told}};
+ghost use Rattle.zc_forward.specs.{Carrying.{carrying}, Sights.{ForwardPartsDo, ForwardPartsMayTurn, GivesForwardParts}};
 
 use crate::carrier::Carrier;
 use crate::forward::Forward;
 use board_face::AppFace;
 use futures::Future;
 use futures::task::{Context, Poll};
-use zc_poll::{PollTurn, Poured};
+use zc_poll::Poured;
 
 /// Forwards as `Forward` does, and gives the face and the carrier back too.
 #[derive(Drop)]
@@ -26,54 +27,50 @@ impl<F: AppFace, C: Carrier> Forward<F, C> {
     }
 }
 
-/// Takes a turn that asks for a notice by a poll: what was forwarded, where it was the last.
-fn take_turn<F: AppFace, C: Carrier>(
-    work: &mut Forward<F, C>,
-    cx: &mut Context<'_>,
-) -> Option<Poured>
-    requires stands { let at = sight_of F.seen (carrying C.got C.tags C.counts C.pace) in
-        MayTurn (at work.old) }
-    ensures gives { let at = sight_of F.seen (carrying C.got C.tags C.counts C.pace) in
-        (first : ℕ → Option (List ℕ)) (losses : ShelfCounts)
-        → StandsSince first losses (at work.old)
-        → MatchOption result (StandsSince first losses (at work.new))
-        (λ poured. IsLastTurn first losses (C.got work.new.carrier) (C.counts work.new.carrier)
-        (F.seen work.old.face).app (F.seen work.new.face) poured) }
-    ensures left { IfSome result (λ _. (F.seen work.new.face).left ≡ true) }
-    ensures seat { SameSeat F.seen F.beside work.old.face work.new.face }
-    ensures kept { Keeps cx.old cx.new }
-{
-    match work.poll_turn(cx) {
-        PollTurn::Did => None,
-        PollTurn::Idle(_) => None,
-        PollTurn::Ended(poured) => Some(poured),
-    }
-}
-
 impl<F: AppFace + Drop, C: Carrier + Drop> Future for WithParts<F, C> {
     type Output = (Poured, F, C);
 
-    ghost can_poll = { λ s. IsSomeAnd s.work (λ work.
-        MayTurn (sight_of F.seen (carrying C.got C.tags C.counts C.pace) work)) };
+    ghost can_poll = { λ s.
+        ForwardPartsMayTurn F.seen (carrying C.got C.tags C.counts C.pace) s.work };
 
     ghost needs = { λ _ _. ⊤ };
 
     /// What a last turn gives and does, at the same board.
-    ghost gives = { λ s came. IfSome s.work (λ work. (F.beside came.1 ≡ F.beside work.face)
-        × ((first : ℕ → Option (List ℕ)) (losses : ShelfCounts)
-        → StandsSince first losses (sight_of F.seen (carrying C.got C.tags C.counts C.pace) work)
-        → IsLastTurn first losses (C.got came.2) (C.counts came.2) (F.seen work.face).app
-        (F.seen came.1) came.0)) };
+    ghost gives = { λ s.
+        GivesForwardParts F.seen F.beside (carrying C.got C.tags C.counts C.pace) s.work };
 
-    fn poll(&mut self, cx: &mut Context<'_>) -> Poll<(Poured, F, C)> {
+    fn poll(&mut self, cx: &mut Context<'_>) -> Poll<(Poured, F, C)>
+        requires { ForwardPartsMayTurn F.seen (carrying C.got C.tags C.counts C.pace)
+            self.old.work }
+        ensures value { let gives = GivesForwardParts F.seen F.beside
+            (carrying C.got C.tags C.counts C.pace) in
+            IfReady result (gives self.old.work) }
+        ensures same { let gives = GivesForwardParts F.seen F.beside
+            (carrying C.got C.tags C.counts C.pace) in
+            OnPending result ((came : (Told × F × C)) → gives self.new.work came
+            → gives self.old.work came) }
+        ensures again { OnPending result
+            (ForwardPartsMayTurn F.seen (carrying C.got C.tags C.counts C.pace)
+            self.new.work) }
+        ensures wakes { AsksAgain cx.old cx.new result }
+        // It does what one poll of the work does.
+        ensures does { IfSome self.old.work (λ was. ForwardPartsDo F.seen F.beside
+            (carrying C.got C.tags C.counts C.pace) C.answers
+            (λ face look. F.tells look (app_gist (F.seen face)) (F.beside face))
+            was self.new.work result) }
+    {
         let Some(mut work) = self.work.take() else {
             unreachable!()
         };
-        let Some(poured) = take_turn(&mut work, cx) else {
-            self.work = Some(work);
-            return cx.yield_now();
-        };
-        let (face, carrier) = work.parts();
-        Poll::Ready((poured, face, carrier))
+        match work.poll(cx) {
+            Poll::Ready(poured) => {
+                let (face, carrier) = work.parts();
+                Poll::Ready((poured, face, carrier))
+            }
+            Poll::Pending => {
+                self.work = Some(work);
+                Poll::Pending
+            }
+        }
     }
 }

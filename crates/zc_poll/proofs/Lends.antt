@@ -201,10 +201,10 @@ module _ (mid : QueueState) (own : FlowQueue) (loan : Lending) (out : List Lendi
 
 module _ (was : Desk) (old new : AppView) (stands : StreamStands was old) (more : was.ended ≡ false) where
   -- the reserve was held
-  pub held-stepped : (now : Desk) → now ≡ was → SawNoSpare old new → Stepped was now old new (waiting ReserveHeld)
-  held-stepped now same saw =
+  pub held-stepped : was.stopped ≡ false → (now : Desk) → now ≡ was → SawNoSpare old new → Stepped was now old new (waiting ReserveHeld)
+  held-stepped on now same saw =
       let rested : came_to_rest old ≡ old = ap (λ b. record old { settled = b }) (sym stands.common.settled) in
-      saw-stepped was now old new no_spare ReserveHeld stands more same (saw.event ∙ ap (λ (w : AppView). app_saw w no_spare) rested) saw.rose
+      saw-stepped was now old new no_spare ReserveHeld stands more same (saw.event ∙ ap (λ (w : AppView). app_saw w no_spare) rested) (saw.rose, on)
 
   module _ (on : was.stopped ≡ false) (mid : QueueState) (loan : Lending) (copied : Bool) (lends : LentAs (queues_of_desk was) mid old new (loan, copied))
       (own : FlowQueue) (value : own ≡ get_or mid.flows mid.active own) (sound : IsSound own.queue) where

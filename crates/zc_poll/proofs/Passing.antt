@@ -45,8 +45,8 @@ module _ (n : ℕ) (was mid now : Desk) (u v w : AppView) (passed : PassedNotes 
   }
   steps-then (Waiting NoNote) short (unlent, (rose, rest), stopped, more) =
       (unlent-both unlent, (rose-then no_note u v w passed.only.looks rose, rest), stopped ∙ passed.stopped, more)
-  steps-then (Waiting ReserveHeld) short (unlent, rose, stopped, more) =
-      (unlent-both unlent, rose-then no_spare u v w passed.only.looks rose, stopped ∙ passed.stopped, more)
+  steps-then (Waiting ReserveHeld) short (unlent, (rose, on), stopped, more) =
+      (unlent-both unlent, (rose-then no_spare u v w passed.only.looks rose, on), stopped ∙ passed.stopped, more)
   steps-then (Waiting Enough) short steps = absurd short
   steps-then Memory short (unlent, on, stopped, more) = (unlent-both unlent, sym passed.stopped ∙ on, stopped, more)
   steps-then Ended short (unlent, stopped, ended) = (unlent-both unlent, stopped ∙ passed.stopped, ended)

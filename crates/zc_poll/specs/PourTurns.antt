@@ -89,10 +89,10 @@ IsSoOf is_so RefillFull = is_so RefillInUse
 IsSoOf is_so NotQuiet = is_so not_quiet
 IsSoOf is_so NoNotice = Unit {0}
 
-abbrev pub IsPourTurnTold : (AppLook → Type 0) → PollTurn → Type 0
-IsPourTurnTold is_so (Idle why) = IsSoOf is_so why
-IsPourTurnTold is_so Did = Unit {0}
-IsPourTurnTold is_so (Ended poured) = Unit {0}
+abbrev pub RestsAreTold : (AppLook → Type 0) → PollTurn → Type 0
+RestsAreTold is_so (Idle why) = IsSoOf is_so why
+RestsAreTold is_so Did = Unit {0}
+RestsAreTold is_so (Ended poured) = Unit {0}
 
 abbrev pub PourTurnDoes : PourStage → PourStage → PollTurn → Type 0
 PourTurnDoes was now Did = PourDoes was now
@@ -112,6 +112,9 @@ pub record TellsCounts (w : TallyState) (p : Poured) : Type 0 where
   pub copied : p.copied ≡ w.copied
   pub stopped : p.stopped ≡ w.stopped
   pub flows : p.flows.items ≡ with_bytes w.counts
+  -- each flow has some, and they ascend
+  pub some : Each (λ f. 0 < f.1) p.flows.items
+  pub ascending : IsStrictlySortedBy nat_cmp (keys_of p.flows.items)
 
 -- It goes on, or has left with what any application owes that isn't to quit, and keeps no loan and writes no raw entry.
 abbrev pub PourGives : (ℕ → Option (List ℕ)) → ShelfCounts → TallyState → Desk → (ℕ → Option (List ℕ)) → ShelfCounts → AppView → PollTurn
@@ -129,6 +132,10 @@ pub record PourView (F T : Type 0) : Type 0 where
   pub shelf : T
   pub tally : TallyState
 
+-- and what one looks at that is seen so
+abbrev pub pour_stage_at : {F T : Type 0} → (F → AppView) → PourView F T → PourStage
+pour_stage_at seen work = pour_stage work.tally.due work.desk (seen work.face)
+
 -- what a poll gives and does is what one turn gives and does
 abbrev pub PollPours : (ℕ → Option (List ℕ)) → ShelfCounts → TallyState → Desk → (ℕ → Option (List ℕ)) → ShelfCounts → AppView → Poll Poured
     → Type 0
@@ -137,4 +144,4 @@ PollPours first losses w st kept losses_now v Pending = PourStands first losses 
 
 abbrev pub PourPollDoes : (AppLook → Type 0) → PourStage → PourStage → Poll Poured → Type 0
 PourPollDoes is_so was now (Ready poured) = PourTurnDoes was now (Ended poured)
-PourPollDoes is_so was now Pending = PourTurnDoes was now Did ⊎ ((why : Rests) × PourTurnDoes was now (Idle why) × IsPourTurnTold is_so (Idle why))
+PourPollDoes is_so was now Pending = PourTurnDoes was now Did ⊎ ((why : Rests) × PourTurnDoes was now (Idle why) × RestsAreTold is_so (Idle why))

@@ -72,7 +72,7 @@ pub record HoldsLoan (st : Desk) (v : AppView) (loan : Place) : Type 0 where
   pub stands : StreamStands st v
   pub out : HasLoan v loan
 
--- it stands still, at this view, with the desk that it had
+-- it stands at this view, and its desk is this one
 pub record StaysAt (was now : Desk) (v : AppView) : Type 0 where
   pub stands : StreamStands now v
   pub desk : now ≡ was

@@ -67,7 +67,7 @@ pub record IsItem (was now : Desk) (old new : AppView) (lent : Lent) : Type 0 wh
 -- what it waits for
 abbrev pub WaitsFor : Waits → Desk → AppView → AppView → Type 0
 WaitsFor NoNote now old new = AppRose no_note old new × NoneInOrder now
-WaitsFor ReserveHeld now old new = AppRose no_spare old new
+WaitsFor ReserveHeld now old new = AppRose no_spare old new × (now.stopped ≡ false)
 WaitsFor Enough now old new = (length new.taken ≡ length old.taken + old.setting.places) × NoneInOrder now
 
 abbrev pub Steps : Desk → Desk → AppView → AppView → Step → Type 0

@@ -20,8 +20,7 @@ fn item(own: &mut FlowQueue, lending: Lending, copied: bool) -> Lent
       copied = copied;
     } }
 {
-    // Only its answer says that the queue is sound.
-    let _next = own.queue.next_position();
+    own.has_sound_queue();
     let position = own.bytes;
     own.bytes = position.saturating_add(u64::from(lending.loan.place().len));
     Lent {

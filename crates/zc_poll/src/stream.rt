@@ -136,8 +136,8 @@ impl<F: AppFace> LoanStream<F> {
     /// Gives all pieces up. The stream goes on taking notes, and gives no more items.
     pub fn stop(&mut self)
         requires stands { StreamStands self.old.desk (F.seen self.old.face) }
-        ensures stands { StreamStands self.new.desk (F.seen self.new.face) }
-        ensures stopped { self.new.desk ≡ stopped_with self.old.desk self.new.desk.flows }
+        ensures stays { StaysAt (stopped_with self.old.desk self.new.desk.flows) self.new.desk
+            (F.seen self.new.face) }
         ensures view { F.seen self.new.face ≡ record (F.seen self.old.face) { helds = [] } }
         ensures items { (items : List GivenItem)
             → HasGiven items self.old.desk.flows (F.seen self.old.face).taken

@@ -1,9 +1,9 @@
 //! The items of a stream are written to a shelf, one turn after another.
-ghost use Rattle.std.specs.{Prelude.{◌≡◌, ◌≢◌, ◌<◌, ℕ, List, [], Option, Some, None, true, false, ⊤}, Ordering.{nat_cmp}, Map.{keys_of}, List.Sorted.{IsStrictlySortedBy}};
+ghost use Rattle.std.specs.Prelude.{◌≡◌, ◌≢◌, ℕ, List, [], Option, Some, None, true, false, ⊤};
 ghost use Rattle.board_face.specs.{AppEvents.{app_gist}, declared.views.app.AppView.{AppView}};
-ghost use Rattle.flow_queues.specs.{Core.{Each}, Counting.{HasRoomForFlows, new_tally, quit_by}, TallyOf.{tally_state_of}};
+ghost use Rattle.flow_queues.specs.{Counting.{HasRoomForFlows, new_tally, quit_by}, TallyOf.{tally_state_of}};
 ghost use Rattle.zr_kinds.specs.declared.{behaviour.Stopped.TheVariants.{No}, place.Place.{Place}};
-ghost use Rattle.zc_poll.specs.{Standing.{Desk, StreamStands, HoldsLoan, MayClose}, Fresh.{HasDoneNothing, new_stream_desk}, Pouring.{CanTurn, PourStands}, PourTurns.{HadItem, IsPourTurnTold, PourGives, PourStage, PourScrubsFirst, ScrubsIfQuiet, PourStepDoes, PourTurnDoes, PollPours, PourPollDoes, pour_stage}, Steps.{IsItem, OnlySteps}};
+ghost use Rattle.zc_poll.specs.{Standing.{Desk, StreamStands, HoldsLoan, MayClose}, Fresh.{HasDoneNothing, new_stream_desk}, Pouring.{CanTurn, PourStands}, PourTurns.{HadItem, RestsAreTold, PourGives, PourStage, PourScrubsFirst, ScrubsIfQuiet, PourStepDoes, PourTurnDoes, PollPours, PourPollDoes, pour_stage, pour_stage_at}, Steps.{IsItem, OnlySteps}};
 ghost use Rattle.zc_poll.specs.{Polls.{AsksAgain, TellsPoured}, PourTurns.{TellsCounts, pour_end}, Stops.{HasStopped, IsStill, without_loan}, declared.to_shelf.Poured.{Poured as Told}};
 ghost use Rattle.futures.specs.Poll.{IfReady, OnPending};
 ghost use Rattle.zr_io.specs.Moved.{ShelfCounts};
@@ -38,8 +38,6 @@ impl Poured {
     pub fn of_tally(tally: &mut LoanTally, alloc: Global) -> Poured
         requires room { HasRoomForFlows (tally_state_of tally.old) }
         ensures tells { TellsCounts (tally_state_of tally.old) result }
-        ensures some { Each (λ f. 0 < f.1) result.flows.items }
-        ensures ascending { IsStrictlySortedBy nat_cmp (keys_of result.flows.items) }
         ensures due { tally.new.due ≡ tally.old.due }
     {
         let flows = tally.written_flows(alloc);
@@ -87,7 +85,7 @@ fn give_back<F: AppFace>(stream: &mut LoanStream<F>, work: &mut LoanTally, loan:
     ensures desk { stream.new.desk ≡ stream.old.desk }
     ensures does { PourTurnDoes (pour_stage (Some loan) stream.old.desk (F.seen stream.old.face))
         (pour_stage work.new.due stream.new.desk (F.seen stream.new.face)) result }
-    ensures told { IsPourTurnTold (λ look.
+    ensures told { RestsAreTold (λ look.
         F.tells look (app_gist (F.seen stream.new.face)) (F.beside stream.new.face)) result }
     ensures same { (F.seen stream.new.face).app ≡ (F.seen stream.old.face).app }
     ensures beside { F.beside stream.new.face ≡ F.beside stream.old.face }
@@ -118,7 +116,7 @@ fn close<F: AppFace>(stream: &mut LoanStream<F>, work: &mut LoanTally) -> PollTu
         (pour_stage None stream.new.desk (F.seen stream.new.face)) result }
     ensures due { work.new.due ≡ None }
     ensures scrubs { ScrubsIfQuiet (F.seen stream.old.face) (F.seen stream.new.face) }
-    ensures told { IsPourTurnTold (λ look.
+    ensures told { RestsAreTold (λ look.
         F.tells look (app_gist (F.seen stream.new.face)) (F.beside stream.new.face)) result }
     ensures same { (F.seen stream.new.face).app ≡ (F.seen stream.old.face).app }
     ensures beside { F.beside stream.new.face ≡ F.beside stream.old.face }
@@ -179,7 +177,7 @@ fn take_step<F: AppFace, T: Shelf>(
         (pour_stage work.new.due stream.new.desk (F.seen stream.new.face)) result }
     ensures only { stream.old.desk.stopped ≡ true
         → OnlySteps (F.seen stream.old.face) (F.seen stream.new.face) }
-    ensures told { IsPourTurnTold (λ look.
+    ensures told { RestsAreTold (λ look.
         F.tells look (app_gist (F.seen stream.new.face)) (F.beside stream.new.face)) result }
     ensures same { (F.seen stream.new.face).app ≡ (F.seen stream.old.face).app }
     ensures beside { F.beside stream.new.face ≡ F.beside stream.old.face }
@@ -245,7 +243,7 @@ fn go_on<F: AppFace, T: Shelf>(
         (pour_stage work.new.due stream.new.desk (F.seen stream.new.face)) result }
     ensures scrubs { work.old.stopped ≢ No
         → ScrubsIfQuiet (F.seen stream.old.face) (F.seen stream.new.face) }
-    ensures told { IsPourTurnTold (λ look.
+    ensures told { RestsAreTold (λ look.
         F.tells look (app_gist (F.seen stream.new.face)) (F.beside stream.new.face)) result }
     ensures same { (F.seen stream.new.face).app ≡ (F.seen stream.old.face).app }
     ensures beside { F.beside stream.new.face ≡ F.beside stream.old.face }
@@ -272,7 +270,7 @@ fn take_turn<F: AppFace, T: Shelf>(
         (pour_stage work.new.due stream.new.desk (F.seen stream.new.face)) result }
     ensures scrubs { work.old.stopped ≢ No
         → ScrubsIfQuiet (F.seen stream.old.face) (F.seen stream.new.face) }
-    ensures told { IsPourTurnTold (λ look.
+    ensures told { RestsAreTold (λ look.
         F.tells look (app_gist (F.seen stream.new.face)) (F.beside stream.new.face)) result }
     ensures same { (F.seen stream.new.face).app ≡ (F.seen stream.old.face).app }
     ensures beside { F.beside stream.new.face ≡ F.beside stream.old.face }
@@ -308,7 +306,6 @@ impl<F: AppFace, T: Shelf> ToShelf<F, T> {
     pub fn new(stream: LoanStream<F>, shelf: T) -> ToShelf<F, T>
         requires fresh { (app : ℕ) × (stream.desk ≡ new_stream_desk app)
             × HasDoneNothing app (F.seen stream.face) }
-        requires stands { StreamStands stream.desk (F.seen stream.face) }
         ensures parts { (result.face ≡ stream.face) × (result.shelf ≡ shelf)
             × (result.desk ≡ stream.desk)
             × (result.tally ≡ new_tally result.tally.room) }
@@ -337,14 +334,13 @@ impl<F: AppFace, T: Shelf> ToShelf<F, T> {
             (T.counts self.new.shelf)
             (F.seen self.new.face) result }
         // Why it did something, waited, or ended.
-        ensures does { PourTurnDoes (pour_stage self.old.tally.due self.old.desk
-            (F.seen self.old.face))
-            (pour_stage self.new.tally.due self.new.desk (F.seen self.new.face)) result }
+        ensures does { PourTurnDoes (pour_stage_at F.seen self.old) (pour_stage_at F.seen self.new)
+            result }
         // One that was stopped and hadn't scrubbed has, or it saw a refill slot in use.
         ensures scrubs { self.old.tally.stopped ≢ No
             → ScrubsIfQuiet (F.seen self.old.face) (F.seen self.new.face) }
         // The board says of the look on which it rests that it is so.
-        ensures told { IsPourTurnTold (λ look.
+        ensures told { RestsAreTold (λ look.
             F.tells look (app_gist (F.seen self.new.face)) (F.beside self.new.face)) result }
         // The same application at the same board.
         ensures same { (F.seen self.new.face).app ≡ (F.seen self.old.face).app }
@@ -434,10 +430,11 @@ impl<F: AppFace + Drop, T: Shelf + Drop> Future for ToShelf<F, T> {
             (F.seen self.new.face) result }
         ensures does { PourPollDoes (λ look.
             F.tells look (app_gist (F.seen self.new.face)) (F.beside self.new.face))
-            (pour_stage self.old.tally.due self.old.desk (F.seen self.old.face))
-            (pour_stage self.new.tally.due self.new.desk (F.seen self.new.face)) result }
+            (pour_stage_at F.seen self.old) (pour_stage_at F.seen self.new) result }
         ensures scrubs { self.old.tally.stopped ≢ No
             → ScrubsIfQuiet (F.seen self.old.face) (F.seen self.new.face) }
+        // The same application at the same board.
+        ensures app { (F.seen self.new.face).app ≡ (F.seen self.old.face).app }
         ensures beside { F.beside self.new.face ≡ F.beside self.old.face }
     {
         match self.turn() {

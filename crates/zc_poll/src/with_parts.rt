@@ -1,9 +1,10 @@
 //! What is poured, with the face and the shelf.
-ghost use Rattle.std.specs.Prelude.{◌≡◌, ℕ, true, List, Option, Some, IfSome, IsSomeAnd, MatchOption, ⊤};
-ghost use Rattle.zr_io.specs.Moved.{ShelfCounts};
-ghost use Rattle.zc_poll.specs.{Pouring.{CanTurn, PourStands}, Polls.{IsLastPourTurn}};
+ghost use Rattle.std.specs.Prelude.{◌≡◌, Some, IfSome, ⊤};
+ghost use Rattle.futures.specs.Poll.{IfReady, OnPending};
+ghost use Rattle.board_face.specs.AppEvents.{app_gist};
+ghost use Rattle.zc_poll.specs.{Polls.{AsksAgain, GivesPourParts, PourPartsDo, PourPartsMayTurn}, declared.to_shelf.Poured.{Poured as Told}};
 
-use crate::to_shelf::{PollTurn, Poured, ToShelf};
+use crate::to_shelf::{Poured, ToShelf};
 use board_face::AppFace;
 use futures::Future;
 use futures::task::{Context, Poll};
@@ -24,55 +25,42 @@ impl<F: AppFace, T: Shelf> ToShelf<F, T> {
     }
 }
 
-/// Takes a turn: what was poured, where it was the last.
-fn take_turn<F: AppFace, T: Shelf>(work: &mut ToShelf<F, T>) -> Option<Poured>
-    requires stands { CanTurn work.old.tally work.old.desk (T.kept work.old.shelf)
-        (T.counts work.old.shelf) (F.seen work.old.face) }
-    ensures gives { (first : ℕ → Option (List ℕ)) (losses : ShelfCounts)
-        → PourStands first losses work.old.tally work.old.desk (T.kept work.old.shelf)
-        (T.counts work.old.shelf) (F.seen work.old.face)
-        → MatchOption result
-        (PourStands first losses work.new.tally work.new.desk (T.kept work.new.shelf)
-        (T.counts work.new.shelf) (F.seen work.new.face))
-        (λ poured. IsLastPourTurn first losses (T.kept work.new.shelf) (T.counts work.new.shelf)
-        (F.seen work.old.face).app (F.seen work.new.face) poured) }
-    ensures left { IfSome result (λ _. (F.seen work.new.face).left ≡ true) }
-    ensures same { (F.seen work.new.face).app ≡ (F.seen work.old.face).app }
-    ensures beside { F.beside work.new.face ≡ F.beside work.old.face }
-{
-    match work.turn() {
-        PollTurn::Did => None,
-        PollTurn::Idle(_) => None,
-        PollTurn::Ended(poured) => Some(poured),
-    }
-}
-
 impl<F: AppFace + Drop, T: Shelf + Drop> Future for WithParts<F, T> {
     type Output = (Poured, F, T);
 
-    ghost can_poll = { λ s. IsSomeAnd s.work (λ work.
-        CanTurn work.tally work.desk (T.kept work.shelf) (T.counts work.shelf)
-        (F.seen work.face)) };
+    ghost can_poll = { λ s. PourPartsMayTurn F.seen T.kept T.counts s.work };
 
     ghost needs = { λ _ _. ⊤ };
 
     /// What a last turn gives and does, at the same board.
-    ghost gives = { λ s came. IfSome s.work (λ work. (F.beside came.1 ≡ F.beside work.face)
-        × ((first : ℕ → Option (List ℕ)) (losses : ShelfCounts)
-        → PourStands first losses work.tally work.desk (T.kept work.shelf) (T.counts work.shelf)
-        (F.seen work.face)
-        → IsLastPourTurn first losses (T.kept came.2) (T.counts came.2) (F.seen work.face).app
-        (F.seen came.1) came.0)) };
+    ghost gives = { λ s. GivesPourParts F.seen F.beside T.kept T.counts s.work };
 
-    fn poll(&mut self, cx: &mut Context<'_>) -> Poll<(Poured, F, T)> {
+    fn poll(&mut self, cx: &mut Context<'_>) -> Poll<(Poured, F, T)>
+        requires { PourPartsMayTurn F.seen T.kept T.counts self.old.work }
+        ensures value { IfReady result
+            (GivesPourParts F.seen F.beside T.kept T.counts self.old.work) }
+        ensures same { OnPending result ((came : (Told × F × T))
+            → GivesPourParts F.seen F.beside T.kept T.counts self.new.work came
+            → GivesPourParts F.seen F.beside T.kept T.counts self.old.work came) }
+        ensures again { OnPending result (PourPartsMayTurn F.seen T.kept T.counts self.new.work) }
+        ensures asks { AsksAgain cx.old cx.new result }
+        // It does what one poll of the work does.
+        ensures does { IfSome self.old.work (λ was. PourPartsDo F.seen F.beside T.kept T.counts
+            (λ face look. F.tells look (app_gist (F.seen face)) (F.beside face))
+            was self.new.work result) }
+    {
         let Some(mut work) = self.work.take() else {
             unreachable!()
         };
-        let Some(poured) = take_turn(&mut work) else {
-            self.work = Some(work);
-            return cx.yield_now();
-        };
-        let (face, shelf) = work.parts();
-        Poll::Ready((poured, face, shelf))
+        match work.poll(cx) {
+            Poll::Ready(poured) => {
+                let (face, shelf) = work.parts();
+                Poll::Ready((poured, face, shelf))
+            }
+            Poll::Pending => {
+                self.work = Some(work);
+                Poll::Pending
+            }
+        }
     }
 }

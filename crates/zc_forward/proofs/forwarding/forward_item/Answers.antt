@@ -25,7 +25,7 @@ returns-then-is_err-clause-gives g c =
     wants first (g.C.Carrier.got c.args.carrier.now) losses (g.C.Carrier.counts c.args.carrier.now) (outbox_of c.args.work.now) st c.args.stream.now.desk
     (g.C.Carrier.tags c.args.carrier.now) v (g.F.AppFace.seen c.args.stream.now.face) before c.requires.can.due c.args.lent item only c.requires.can.holds.stands
     (tally_state_of c.room_for.new.work.tally) roomy adds (g.F.AppFace.seen c.stop.new.self.face) c.stop.new.self.desk (outbox_of k) c.stop.ensures.view
-    c.stop.ensures.items c.stop.ensures.stands (ap (λ (d : Desk). d.stopped) c.stop.ensures.stopped) (ap (λ (d : Desk). d.ended) c.stop.ensures.stopped) refl c.room_for.ensures.beside.0 refl c.requires.can.few
+    c.stop.ensures.items c.stop.ensures.stays.stands (ap (λ (d : Desk). d.stopped) c.stop.ensures.stays.desk) (ap (λ (d : Desk). d.ended) c.stop.ensures.stays.desk) refl c.room_for.ensures.beside.0 refl c.requires.can.few
 
 pub returns-then-is_err-clause-had : goal.returns-then-is_err-clause-had
 returns-then-is_err-clause-had g c = λ st v pace later item only.
@@ -40,7 +40,7 @@ returns-then-is_err-clause-had g c = λ st v pace later item only.
       due = ap (λ (t : TallyState). t.due) (ap tally_state_of c.room_for.ensures.same) ∙ ap (λ (t : TallyState). t.due) c.count_item.ensures.tally;
       read = v1;
       reads = only-reads-none v1;
-      went = inr (c.stop.ensures.stopped, inl (c.stop.ensures.view, refl, rw (c.room_for.ensures.beside.0, c.room_for.ensures.beside.2) refl, refl));
+      went = inr (c.stop.ensures.stays.desk, inl (c.stop.ensures.view, refl, rw (c.room_for.ensures.beside.0, c.room_for.ensures.beside.2) refl, refl));
     }
 
 pub returns-then-done-len-clause-had : goal.returns-then-done-len-clause-had

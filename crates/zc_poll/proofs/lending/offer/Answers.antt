@@ -13,8 +13,8 @@ pub returns-in-ReserveHeld-clause-offers : goal.returns-in-ReserveHeld-clause-of
 returns-in-ReserveHeld-clause-offers g c =
     let was : Desk = desk_of c.args.st.now in
     let lends = c.in-ReserveHeld.ensures.lends in (
-      held-stepped was (g.F.AppFace.seen c.args.face.now) (g.F.AppFace.seen c.lend.new.face) c.requires.stands c.requires.more _
-          (ap (with_queues was) lends.0) lends.1,
+      held-stepped was (g.F.AppFace.seen c.args.face.now) (g.F.AppFace.seen c.lend.new.face) c.requires.stands c.requires.more
+          (search rules) _ (ap (with_queues was) lends.0) lends.1,
       tt,
     )
 

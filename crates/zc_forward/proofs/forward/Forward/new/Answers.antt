@@ -1,5 +1,5 @@
 use Rattle.std.{proofs.Common.{rules, ◌≡◌, ℕ, true, false, sym, subst, refl, vec_capacity}, specs.Prelude.{None}}
-use Rattle.zc_poll.{specs.Standing.{Desk, StreamStands}, proofs.PourNew.{new-pours}}
+use Rattle.zc_poll.{specs.Standing.{Desk}, proofs.{PourNew.{new-pours}, Untouched.{stands-at-first}}}
 use Rattle.zc_forward.{specs.{Sending.{OutboxState, new_outbox}, Forwarding.{ForwardStands}, OutboxOf.{outbox_of}}, proofs.Ends.{waits-forwards}}
 use Rattle.zc_forward.proofs.forward.Forward.new.Goals as goal
 
@@ -16,5 +16,5 @@ returns-clause-stands g c =
     subst (λ (o : OutboxState). ForwardStands got losses o c.args.stream.desk tags got losses v) same
     (subst (λ (d : Desk). ForwardStands got losses empty d tags got losses v) (sym desk)
     (waits-forwards got got losses losses empty _ tags v
-    (new-pours got losses room app v fresh (subst (λ (d : Desk). StreamStands d v) desk c.requires.stands)) refl c.requires.none refl refl
+    (new-pours got losses room app v fresh (stands-at-first app v fresh _ refl)) refl c.requires.none refl refl
     (λ ended. (let e : false ≡ true = ended in absurd (cc)))))

@@ -1,5 +1,5 @@
-use Rattle.std.proofs.Common.{rules, ◌≡◌, ℕ, sym, subst, vec_capacity}
-use Rattle.zc_poll.{specs.{Pouring.{PourStands}, Standing.{Desk, StreamStands}}, proofs.PourNew.{new-pours}}
+use Rattle.std.proofs.Common.{rules, ◌≡◌, ℕ, refl, sym, subst, vec_capacity}
+use Rattle.zc_poll.{specs.{Pouring.{PourStands}, Standing.{Desk}}, proofs.{PourNew.{new-pours}, Untouched.{stands-at-first}}}
 use Rattle.flow_queues.specs.{Counting.{TallyState, new_tally}, TallyOf.{tally_state_of}}
 use Rattle.zc_poll.proofs.to_shelf.ToShelf.new.Goals as goal
 
@@ -13,4 +13,4 @@ returns-clause-stands g c =
     let same : new_tally room ≡ tally_state_of c.new.result = search rules in
     subst (λ (t : TallyState). PourStands kept losses t c.args.stream.desk kept losses v) same
     (subst (λ (d : Desk). PourStands kept losses (new_tally room) d kept losses v) (sym desk)
-    (new-pours kept losses room app v fresh (subst (λ (d : Desk). StreamStands d v) desk c.requires.stands)))
+    (new-pours kept losses room app v fresh (stands-at-first app v fresh _ refl)))

@@ -16,8 +16,8 @@ returns-clause-still g c =
     let (first, losses, before) = rw (← c.self.view_is) at c.requires.stands in
     let v : AppView = g.F.AppFace.seen c.self.inside.stream.face in
     let gone = due-gone c.self.inside.work.due v before.due before.stands.common.apart in (
-      c.stop.ensures.stands,
-      ap (λ (d : Desk). d.stopped) c.stop.ensures.stopped,
+      c.stop.ensures.stays.stands,
+      ap (λ (d : Desk). d.stopped) c.stop.ensures.stays.desk,
       none-then c.self.inside.work.due v (g.F.AppFace.seen c.abandon_kept.new.self.face) (g.F.AppFace.seen c.stop.new.self.face) gone c.abandon_kept.ensures.view
           c.stop.ensures.view,
     )
