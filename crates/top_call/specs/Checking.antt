@@ -1,6 +1,7 @@
 -- What `check` leaves.
 use Rattle.std.specs.{Prelude.{◌≡◌, ◌≢◌, ℕ, List, [], ◌∷◌, ◌++◌, ◌==◌, ◌⊎◌, true, take, codes, Option, IfSome}, Fmt.{decimal}, List.{list_any}}
 use Rattle.std.specs.Io.KnownBytes.{Appends, IsAtEnd}
+use Rattle.zr_kinds.specs.{Fault.{number_of}, declared.fault.Fault.TheVariants.{BadRun, Memory, Read, Write}}
 use Rattle.zr_io.specs.Moved.{Rose}
 use Rattle.run_check.specs.{Judged.{Judges}, declared.checking.Checked.{Checked, TheVariants.{Yes, No}}}
 use Rattle.run_account.specs.Views.{SourceSeen}
@@ -13,7 +14,7 @@ check_line (No line why) = codes "bad " ++ decimal line ++ 10 ∷ []
 
 abbrev pub check_status : Checked → ℕ
 check_status (Yes lines) = 0
-check_status (No line why) = 14
+check_status (No line why) = number_of BadRun
 
 -- this was found in what the source tells
 abbrev pub Finds : Option (List ℕ) → Checked → Type 0
@@ -22,20 +23,22 @@ Finds bytes found = IfSome bytes (λ told. Judges told found)
 -- What `check` leaves of its source, its sink and its card, and what its answer says.
 pub record Checks {S O : Type 0} (reads : SourceSeen S) (writes : SinkSeen O) (source source_now : S) (out out_now : O) (card_now : Card)
     (answer : ℕ) : Type 0 where
-  pub kind : list_any (λ n. n == answer) (0 ∷ 1 ∷ 8 ∷ 9 ∷ 14 ∷ []) ≡ true
-  -- With 0 and 14 the record was found to be that of a legal run, or not, and the sink gained the line that says so. What was found
+  pub kind : list_any (λ n. n == answer) (0 ∷ number_of Memory ∷ number_of Read ∷ number_of Write ∷ number_of BadRun ∷ []) ≡ true
+  -- With 0 and `BadRun` the record was found to be that of a legal run, or not, and the sink gained the line that says so. What was found
   -- is in the card, with why the line is bad; with any other answer the card is blank.
-  pub told : (answer ≡ 0) ⊎ (answer ≡ 14) → (found : Checked) × (answer ≡ check_status found) × Finds (reads.left source) found
+  pub told : (answer ≡ 0) ⊎ (answer ≡ number_of BadRun)
+      → (found : Checked) × (answer ≡ check_status found) × Finds (reads.left source) found
       × Appends (writes.sent out) (writes.sent out_now) (check_line found) × (writes.failed out_now ≡ writes.failed out)
       × (card_now ≡ Card.Found found)
-  -- With 9 it gained a front of that line, and one of its calls failed.
-  pub lost : answer ≡ 9 → (found : Checked) × Finds (reads.left source) found
+  -- With `Write` it gained a front of that line, and one of its calls failed.
+  pub lost : answer ≡ number_of Write → (found : Checked) × Finds (reads.left source) found
       × ((n : ℕ) × Appends (writes.sent out) (writes.sent out_now) (take n (check_line found))) × Rose (writes.failed out) (writes.failed out_now)
       × (card_now ≡ Card.Blank)
-  -- With 8 a read failed, and with 1 there was no memory: nothing was written.
-  pub read : answer ≡ 8 → Rose (reads.failed source) (reads.failed source_now) × (out_now ≡ out) × (card_now ≡ Card.Blank)
-  pub unmade : answer ≡ 1 → (out_now ≡ out) × (card_now ≡ Card.Blank)
-  -- With 0 the source was read to its end. Only with 8 did a read fail, and only with 9 a write.
+  -- With `Read` a read failed, and with `Memory` there was no memory: nothing was written.
+  pub read : answer ≡ number_of Read
+      → Rose (reads.failed source) (reads.failed source_now) × (out_now ≡ out) × (card_now ≡ Card.Blank)
+  pub unmade : answer ≡ number_of Memory → (out_now ≡ out) × (card_now ≡ Card.Blank)
+  -- With 0 the source was read to its end. Only with `Read` did a read fail, and only with `Write` a write.
   pub whole : answer ≡ 0 → IsAtEnd (reads.left source_now)
-  pub unread : answer ≢ 8 → reads.failed source_now ≡ reads.failed source
-  pub unwritten : answer ≢ 9 → writes.failed out_now ≡ writes.failed out
+  pub unread : answer ≢ number_of Read → reads.failed source_now ≡ reads.failed source
+  pub unwritten : answer ≢ number_of Write → writes.failed out_now ≡ writes.failed out

@@ -1,7 +1,8 @@
 -- The text of a report, whether it went out, and the answer behind it.
 use Rattle.std.specs.{Prelude.{◌≡◌, ℕ, List, [], ◌∷◌, ◌++◌, ◌==◌, if◌then◌else◌, Bool, true, false, Option, Result, Ok, Err, codes}, Fmt.{decimal}}
 use Rattle.std.specs.{List.{flat_map, enumerate_from}, Io.KnownBytes.{Keeps, Appends}}
-use Rattle.zr_kinds.specs.declared.{behaviour.Stopped.{Stopped}, outcome.{Tally.{Tally}, AppLine.{AppLine}, FlowEnd.{FlowEnd}}}
+use Rattle.zr_kinds.specs.{Fault.{number_of}, declared.{behaviour.Stopped.{Stopped}, outcome.{Tally.{Tally}, AppLine.{AppLine}, FlowEnd.{FlowEnd}}}}
+use Rattle.zr_kinds.specs.declared.fault.Fault.TheVariants as fault
 use Rattle.zr_kinds.specs.declared.outcome.{FlowEnd.TheVariants.{Going, Whole, Short, Reset}, FlowLine.{FlowLine}, PoolStats.{PoolStats}}
 use Rattle.zr_kinds.specs.declared.behaviour.Stopped.TheVariants as stopped
 use Rattle.zr_io.specs.Moved.{Rose, Gained}
@@ -75,9 +76,9 @@ Reports sent now faults faults_now text (Err unreported.Memory) = Keeps sent now
 Reports sent now faults faults_now text (Err unreported.Write) =
     Gained sent now (λ front. (rest : List ℕ) × (text ≡ front ++ rest)) × Rose faults faults_now
 
--- The answer is the status that the report says. Where its text found no memory it is 1, which comes first, and where
--- the sink failed 9.
+-- The answer is the status that the report says. Where its text found no memory it is that of `Memory`, which comes first, and where
+-- the sink failed that of `Write`.
 abbrev pub answer_of : ℕ → Result (Unit {0}) Unreported → ℕ
 answer_of said (Ok done) = said
-answer_of said (Err unreported.Memory) = 1
-answer_of said (Err unreported.Write) = if said == 1 then 1 else 9
+answer_of said (Err unreported.Memory) = number_of fault.Memory
+answer_of said (Err unreported.Write) = if said == number_of fault.Memory then number_of fault.Memory else number_of fault.Write

@@ -1,6 +1,6 @@
 -- The status of a replay.
 use Rattle.std.specs.{Prelude.{ℕ, List, Bool, true, false, ◌||◌, Option, Some, None}, List.{list_any}}
-use Rattle.zr_kinds.specs.{declared.{fault.Fault.{Fault, TheVariants.{Memory}}, behaviour.Stopped.{Stopped}, outcome.AppLine.{AppLine}}, Fault.{number_of}}
+use Rattle.zr_kinds.specs.{declared.{fault.Fault.{Fault, TheVariants.{Memory, Write}}, behaviour.Stopped.{Stopped}, outcome.AppLine.{AppLine}}, Fault.{number_of}}
 use Rattle.zr_kinds.specs.declared.behaviour.Stopped.TheVariants as stop
 use Rattle.run_account.specs.Ran.{Told}
 
@@ -27,9 +27,9 @@ end_number (Some fault) = number_of fault
 
 -- Want of memory comes first, of an application or of the reading; then a shelf that failed, then what ended the reading.
 abbrev pub status_from : Bool → Bool → Option Fault → ℕ
-status_from true lost end = 1
-status_from false lost (Some Memory) = 1
-status_from false true end = 9
+status_from true lost end = number_of Memory
+status_from false lost (Some Memory) = number_of Memory
+status_from false true end = number_of Write
 status_from false false end = end_number end
 
 -- A shelf failed where its application's line says so, or where one of the flushes did.

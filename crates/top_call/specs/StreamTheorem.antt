@@ -1,7 +1,7 @@
 -- What a replay leaves: the streams on their shelves, the report, the status, and the board of the run.
 use Rattle.std.specs.Prelude.{◌≡◌, ◌≢◌, ℕ, ◌≤◌, List, [], ◌++◌, length, Bool, true, Option, Some, None, Result, IfOk, IfSome, OnErr, OnOk, ◌⊎◌, ⊤, option_map}
 use Rattle.std.specs.{List.{slice_get}, Io.KnownBytes.{Keeps}}
-use Rattle.zr_kinds.specs.{Fault.{number_of}, declared.{fault.Fault.{Fault, TheVariants.{Cut, Write}}, outcome.AppLine.{AppLine}}}
+use Rattle.zr_kinds.specs.{Fault.{number_of}, declared.{fault.Fault.{Fault, TheVariants.{Cut, Memory, Read, TooManyFlows, Usage, Write}}, outcome.AppLine.{AppLine}}}
 use Rattle.zr_io.specs.Moved.{Gained, Rose, Took, raised_by}
 use Rattle.flow_table.specs.{Flows.{Flow, flows_of}, Stream.{stream_of}}
 use Rattle.board_face.specs.declared.views.{nic.NicSide.{NicSide}, app.AppSide.{AppSide}}
@@ -10,7 +10,7 @@ use Rattle.card_feed.specs.{Ending.{ended_of, steered_in}, FramesRead.{IsEnding,
 use Rattle.zr_kinds.specs.declared.behaviour.Stopped.TheVariants as stop
 use Rattle.card_feed.specs.{declared.{plan.Plan.{Plan}, outcome.Outcome.{Outcome}}, Counts.{sweeping_in, sweeps_in}, Need.{buffers_of, need_in}, Offered.{offers_of}}
 use Rattle.card_feed.specs.Plan.{TakesTurns}
-use Rattle.run_account.specs.Ran.{HasReadOn, HaveWholeStreams, IsLineOf, IsStreamed, RunLacksMemory, LacksMemoryBeside, Ran, There, Told, told_of}
+use Rattle.run_account.specs.Ran.{HasReadOn, HaveWholeStreams, IsLineOf, IsStreamed, RunLacksMemory, RunLacksMemoryBeside, Ran, There, Told, told_of}
 use Rattle.run_account.specs.Views.{Ends, ShelfSeen, Streams, ends_at}
 use Rattle.replay_turns.specs.Following.{RunsBy}
 use Rattle.top_call.specs.{Report.{report_of, Reports, answer_of}, declared.report.Unreported.{Unreported}}
@@ -20,7 +20,8 @@ use Rattle.top_call.specs.Worlds.{IsUntouched, Seen, Sunk, World, counts_by, fai
 
 -- Want of memory, a failed read and a lost shelf show in no byte. Any other status is that of what ended the reading.
 abbrev pub IsStatusOf : ℕ → Option Fault → Type 0
-IsStatusOf status end = (status ≡ end_number end) ⊎ ((status ≡ 1) ⊎ ((status ≡ 8) ⊎ (status ≡ 9)))
+IsStatusOf status end =
+    (status ≡ end_number end) ⊎ ((status ≡ number_of Memory) ⊎ ((status ≡ number_of Read) ⊎ (status ≡ number_of Write)))
 
 -- the statuses of a replay: that of a shelf or a sink that failed, and those of how a reading may end
 abbrev pub IsStatus : ℕ → Type 0
@@ -86,7 +87,7 @@ pub record RanWith {S T : Type 0} {m : Streams S T} (before after : Ends m) (car
 -- There was no memory for a run by these turns, or for one by threads.
 abbrev pub LacksMemoryBy : {S T : Type 0} → {m : Streams S T} → Ends m → Ends m → Option (List ℕ) → Plan → Type 0
 LacksMemoryBy before after (Some turns) plan = RunLacksMemory before after plan
-LacksMemoryBy before after None plan = LacksMemoryBeside before after plan
+LacksMemoryBy before after None plan = RunLacksMemoryBeside before after plan
 
 -- What a run by these turns leaves, or one without a text of turns: an outcome, or for want of memory none.
 pub record Plays {S T E : Type 0} {m : Streams S T} (before after : Ends m) (card card_now : Card) (turns : Option (List ℕ)) (plan : Plan)
@@ -117,17 +118,18 @@ pub record SaysOfStreams {S T O : Type 0} {m : Seen S T O} (before after : World
 pub record SaysOfReading {S T O : Type 0} {m : Seen S T O} (before after : World m) (ports : List ℕ) (at : S) (answer : ℕ) : Type 0 where
   -- What was taken ends as all the bytes do, after the same records and by the same fault, unless memory ran out or a read failed.
   pub reached : IfSome (left_in before) (λ all. Took (left_in before) (left_in after) (λ taken. ended_of ports taken ≡ ended_of ports all))
-      ⊎ ((answer ≡ 1) ⊎ (((answer ≡ 8) ⊎ (answer ≡ 9)) × Rose (failed_in before) (failed_in after)))
-  -- The answer is the number of what ended the reading of all the bytes, or 1, 8 or 9.
+      ⊎ ((answer ≡ number_of Memory) ⊎ (((answer ≡ number_of Read) ⊎ (answer ≡ number_of Write)) × Rose (failed_in before) (failed_in after)))
+  -- The answer is the number of what ended the reading of all the bytes, or that of `Memory`, `Read` or `Write`.
   pub ending : IfSome (left_in before) (λ all. IsStatusOf answer (ended_of ports all).fault)
   pub whole : answer ≡ 0 → IsReadToEnd (left_in before) (left_in after)
-  -- 8 comes only where a read failed, and what was taken by then breaks off: nothing else in it ends the reading.
-  pub read : answer ≡ 8 → Rose (failed_in before) (failed_in after)
+  -- `Read` comes only where a read failed, and what was taken by then breaks off: nothing else in it ends the reading.
+  pub read : answer ≡ number_of Read → Rose (failed_in before) (failed_in after)
       × Took (left_in before) (left_in after) (λ taken. IsBrokenOff (ended_of ports taken).fault)
-  -- Where the answer is none of 1, 9 and 10 nothing was read behind the ending.
-  pub settled : answer ≢ 1 → answer ≢ 9 → answer ≢ 10 → at ≡ after.ends.source
-  -- No read failed before the ending where the answer is none of 1, 8 and 9.
-  pub sound_reads : answer ≢ 1 → answer ≢ 8 → answer ≢ 9 → m.streams.source.failed at ≡ failed_in before
+  -- Where the answer is none of `Memory`, `Write` and `TooManyFlows` nothing was read behind the ending.
+  pub settled : answer ≢ number_of Memory → answer ≢ number_of Write → answer ≢ number_of TooManyFlows → at ≡ after.ends.source
+  -- No read failed before the ending where the answer is none of `Memory`, `Read` and `Write`.
+  pub sound_reads : answer ≢ number_of Memory → answer ≢ number_of Read → answer ≢ number_of Write
+      → m.streams.source.failed at ≡ failed_in before
 
 -- a call of the shelf of one of these applications failed, or of the sink
 abbrev pub IsLost : {S T O : Type 0} → {m : Seen S T O} → World m → World m → List ℕ → Type 0
@@ -137,17 +139,19 @@ IsLost {S} {T} {O} {m} before after ports =
 -- Of the applications, their shelves and the sink.
 pub record SaysOfWriting {S T O : Type 0} {m : Seen S T O} (before after : World m) (ports : List ℕ) (outcome : Told) (flush_failed : Bool)
     (answer : ℕ) : Type 0 where
-  -- 9 comes only where an application's shelf failed, or the sink.
-  pub lost : answer ≡ 9 → IsLost before after ports
-  -- Where memory stopped an application it is 1, and where its shelf did it is 1 or 9.
-  pub wanting : (number : ℕ) (app : AppLine) → slice_get outcome.apps number ≡ Some app → app.stopped ≡ stop.Memory → answer ≡ 1
+  -- `Write` comes only where an application's shelf failed, or the sink.
+  pub lost : answer ≡ number_of Write → IsLost before after ports
+  -- Where memory stopped an application it is `Memory`, and where its shelf did it is that or `Write`.
+  pub wanting : (number : ℕ) (app : AppLine) → slice_get outcome.apps number ≡ Some app → app.stopped ≡ stop.Memory
+      → answer ≡ number_of Memory
   pub failing : (number : ℕ) (app : AppLine) → slice_get outcome.apps number ≡ Some app → app.stopped ≡ stop.Write
-      → (answer ≡ 1) ⊎ (answer ≡ 9)
+      → (answer ≡ number_of Memory) ⊎ (answer ≡ number_of Write)
   -- So it is where a flush failed, whatever the lines say.
-  pub unflushed : flush_failed ≡ true → (answer ≡ 1) ⊎ (answer ≡ 9)
-  -- No call of a shelf or of the sink failed where it is neither 1 nor 9.
-  pub sound_shelves : answer ≢ 1 → answer ≢ 9 → (app : ℕ) → (counts_by after app).faults ≡ (counts_by before app).faults
-  pub sound_sink : answer ≢ 1 → answer ≢ 9 → (sink_in after).failed ≡ (sink_in before).failed
+  pub unflushed : flush_failed ≡ true → (answer ≡ number_of Memory) ⊎ (answer ≡ number_of Write)
+  -- No call of a shelf or of the sink failed where it is neither `Memory` nor `Write`.
+  pub sound_shelves : answer ≢ number_of Memory → answer ≢ number_of Write
+      → (app : ℕ) → (counts_by after app).faults ≡ (counts_by before app).faults
+  pub sound_sink : answer ≢ number_of Memory → answer ≢ number_of Write → (sink_in after).failed ≡ (sink_in before).failed
   -- With 0 no application was stopped but to quit.
   pub going : answer ≡ 0 → (number : ℕ) (app : AppLine) → slice_get outcome.apps number ≡ Some app → (app.stopped ≡ stop.No) ⊎ (app.stopped ≡ stop.Quit)
 
@@ -185,14 +189,14 @@ pub record Replays {S T O : Type 0} {m : Seen S T O} (before after : World m) (t
   pub kind : IsStatus answer
   pub reading : SaysOfReading before after told.ports ran.at answer
   pub writing : SaysOfWriting before after told.ports outcome flush_failed answer
-  -- Completeness: where all the bytes end without a fault, and no read and no call of a shelf or of the sink failed, it is 0 or 1.
+  -- Completeness: where all the bytes end without a fault, and no read and no call of a shelf or of the sink failed, it is 0 or `Memory`.
   pub complete : (all : List ℕ) → left_in before ≡ Some all → (ended_of told.ports all).fault ≡ None → ¬ Rose (failed_in before) (failed_in after)
-      → ¬ IsLost before after told.ports → (answer ≡ 0) ⊎ (answer ≡ 1)
+      → ¬ IsLost before after told.ports → (answer ≡ 0) ⊎ (answer ≡ number_of Memory)
   pub done : answer ≡ 0 → (all : List ℕ) → left_in before ≡ Some all → IsDone before after told plan ran.ran.before outcome all
 
 -- There was no memory: before the first turn, and nothing was touched; or for the outcome behind the last turn. No shelf was flushed.
 pub record Lacks {S T O : Type 0} {m : Seen S T O} (before after : World m) (told : ReplayShown) (answer : ℕ) : Type 0 where
-  pub answer_is : answer ≡ 1
+  pub answer_is : answer ≡ number_of Memory
   pub card_is : after.card ≡ Card.Blank
   pub out_is : after.out ≡ before.out
   pub plan : Plan
@@ -212,7 +216,7 @@ RepliesTo before after told answer = Replays before after told answer ⊎ Lacks 
 -- what a command leaves
 abbrev pub Commands : {S T O : Type 0} → {m : Seen S T O} → World m → World m → ℕ → Shown → Type 0
 Commands before after answer (replay told) =
-    Replays before after told answer ⊎ Lacks before after told answer ⊎ ((answer ≡ 1) × IsUntouched before after)
+    Replays before after told answer ⊎ Lacks before after told answer ⊎ ((answer ≡ number_of Memory) × IsUntouched before after)
 Commands before after answer (make told) = Makes before after told.seed told.frames answer × (after.card ≡ Card.Blank)
 Commands {S} {T} {O} {m} before after answer check =
     Checks m.streams.source m.sink before.ends.source after.ends.source before.out after.out after.card answer
@@ -220,9 +224,9 @@ Commands {S} {T} {O} {m} before after answer check =
 
 -- What words leave, whatever they ask for.
 pub record Answers {S T O : Type 0} {m : Seen S T O} (before after : World m) (reading : Option Shown) (answer : ℕ) : Type 0 where
-  -- Words without a reading are answered by 2, or by 1 where there was no memory to read them; and no other words by 2.
-  pub usage : answer ≡ 2 → reading ≡ None
-  pub unread : reading ≡ None → (answer ≡ 2) ⊎ (answer ≡ 1)
+  -- Words without a reading are answered by `Usage`, or by `Memory` where there was none to read them; and no other words by `Usage`.
+  pub usage : answer ≡ number_of Usage → reading ≡ None
+  pub unread : reading ≡ None → (answer ≡ number_of Usage) ⊎ (answer ≡ number_of Memory)
   -- Then nothing is read or written.
   pub untouched : reading ≡ None → IsUntouched before after
   -- To replay: the stream theorem, what the status and the report say, and the board. To make: the capture. To check: what was found.
@@ -237,9 +241,9 @@ IsThreaded (Some (make told)) = ⊥
 IsThreaded (Some check) = ⊥
 IsThreaded None = ⊥
 
--- What words leave that are answered on one thread. `None` is the answer of no words but a replay by threads, which has no other but 1,
--- where there was no memory to read them, and then nothing was done.
+-- What words leave that are answered on one thread. `None` is the answer of no words but a replay by threads, which has no other but
+-- `Memory`, where there was none to read them, and then nothing was done.
 pub record AnswersAlone {S T O : Type 0} {m : Seen S T O} (before after : World m) (reading : Option Shown) (answer : Option ℕ) : Type 0 where
   pub some : IfSome answer (Answers before after reading)
   pub none : answer ≡ None → IsThreaded reading × IsUntouched before after
-  pub threaded : IsThreaded reading → (answer ≡ None) ⊎ (answer ≡ Some 1)
+  pub threaded : IsThreaded reading → (answer ≡ None) ⊎ (answer ≡ Some (number_of Memory))

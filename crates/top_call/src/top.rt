@@ -1,7 +1,7 @@
 //! The top call: a command's words, a source, eight shelves and a sink.
 
 ghost use Rattle.std.specs.{Prelude.{◌≡◌, ℕ, ◌≤◌, ◌<◌, ◌⊎◌, true, Option, None, Some, IfOk, IfErr, MatchResult, OnErr, OnOk, Ok, ◌++◌, map, length, take, vec_len}, Io.KnownBytes.{Appends}};
-ghost use Rattle.zr_kinds.specs.Options.{BehavesPlainly};
+ghost use Rattle.zr_kinds.specs.{Fault.{number_of}, Options.{BehavesPlainly}};
 ghost use Rattle.zr_io.specs.Moved.{AddsPiece, HasCause, Rose};
 ghost use Rattle.cap_make.specs.GeneratedCapture.{generated_capture};
 ghost use Rattle.command_words.specs.Words.{reading_of, replay};
@@ -275,11 +275,11 @@ fn replay<S: Source + Send, T: Shelf + Send, O: Sink, G: Gate + Sync, R: Threads
 
 /// Writes the capture of a seed and a number of frames: the answer.
 fn write_capture<O: Sink>(seed: u32, frames: u32, out: &mut O) -> u8
-    ensures kind { (result ≡ 0) ⊎ (result ≡ 9) }
+    ensures kind { (result ≡ 0) ⊎ (result ≡ number_of Fault.Write) }
     ensures whole { result ≡ 0
         → Appends (O.sent out.old) (O.sent out.new) (generated_capture seed frames)
         × (O.faults out.new ≡ O.faults out.old) }
-    ensures lost { result ≡ 9
+    ensures lost { result ≡ number_of Fault.Write
         → ((n : ℕ) × Appends (O.sent out.old) (O.sent out.new)
         (take n (generated_capture seed frames)))
         × Rose (O.faults out.old) (O.faults out.new) }
@@ -316,7 +316,8 @@ fn run_alone<S: Source, T: Shelf, O: Sink>(
         MatchResult result (Answers before after (reading_of (map (λ w. w.now) words.now)))
         (λ _. IsUntouched before after) }
     ensures alone { IfOk result
-        (λ answer. IsThreaded (reading_of (map (λ w. w.now) words.now)) → answer ≡ 1) }
+        (λ answer. IsThreaded (reading_of (map (λ w. w.now) words.now))
+        → answer ≡ number_of Fault.Memory) }
     ensures asks { IfErr result
         (λ t. reading_of (map (λ w. w.now) words.now)
         ≡ Some (replay (asked_by t.plan None))) }
