@@ -83,6 +83,18 @@ def readings():
     replay("records", records, 11, "status 11: there are more than 16777216 records")
 
 
+def refused():
+    """Frames that find no buffer while notices stay behind, and none where they don't."""
+    parts = [frames.FILE_HEADER]
+    for number in range(20):
+        parts.append(frames.record(0, frames.frame(40000, 9000, 1001 + 4 * number, frames.PSH_ACK, b"abcd")))
+    capture = b"".join(parts)
+    for delay, texts in (("63", ["refused while notices stay up to 63 loans behind: 4;", "--buffers", "--forward"]), ("0", [])):
+        with tempfile.TemporaryDirectory() as folder:
+            words = ["replay", "--forward", delay, "--buffers", "16", "--size", "1024", "9000"]
+            expect(f"forward {delay}", run(words, capture, folder), 0, *texts)
+
+
 def blocks():
     """Captures of blocks, and at which block each fault lies."""
     small = pcapng_rows.SMALL
@@ -288,7 +300,7 @@ def progress():
 
 
 def main():
-    for part in (readings, blocks, records, memory, writing, usage, without_errors, progress):
+    for part in (readings, refused, blocks, records, memory, writing, usage, without_errors, progress):
         part()
     for line in wrong:
         print(line)

@@ -12,12 +12,15 @@ mod front;
 mod messages;
 mod progress;
 mod records;
+mod refused;
 mod unfit;
 
+use command_words::{Command, read_words};
 use descriptors::{hold_closed_streams, spare_files};
 use front::Front;
-use messages::{say_lost, say_none, say_status, say_unfit, say_usage};
+use messages::{say_lost, say_none, say_refused, say_status, say_unfit, say_usage};
 use progress::{Input, Progress};
+use refused::RefusedCounter;
 use replay_threads::NoGate;
 use std::alloc::AllocError;
 use std::collections::hash_map::RandomState;
@@ -86,6 +89,17 @@ fn make_shelves<'a, R: Files + AllocGlobal>(
     Ok(shelves)
 }
 
+/// Tells of the frames that were refused where notices stay behind.
+fn tell_refused(rt: &HostRuntime, words: &[&str], refused: usize) {
+    if refused == 0 {
+        return;
+    }
+    // Where there is no memory to read the words again nothing is said.
+    if let Ok(Some(Command::Replay(replay))) = read_words(rt.alloc(), words) {
+        say_refused(rt, replay.options.forward.unwrap_or(0), refused);
+    }
+}
+
 /// Runs the command over standard input, standard output and the files of the current folder, by these threads.
 fn start(rt: &HostRuntime, threads: &(impl Threads + Wait + Sync)) -> Result<u8, Fault> {
     let _held = hold_closed_streams(rt).map_err(|error| memory_or(Fault::Write, &error))?;
@@ -103,7 +117,7 @@ fn start(rt: &HostRuntime, threads: &(impl Threads + Wait + Sync)) -> Result<u8,
     let mut source = Front::new(StdSource::new(input.map_err(|_| Fault::Memory)?), progress);
     let shelves = make_shelves(rt, spare_files(rt), gathered(rt), &flows);
     let mut shelves = shelves.map_err(|_| Fault::Memory)?;
-    let mut out = StdSink::new(io::writer(rt));
+    let mut out = RefusedCounter::new(StdSink::new(io::writer(rt)));
     let random = RandomState::new(rt).map_err(|_| Fault::Read)?;
     let mut card = Card::Blank;
     let status = zcrx(
@@ -126,6 +140,7 @@ fn start(rt: &HostRuntime, threads: &(impl Threads + Wait + Sync)) -> Result<u8,
         say_usage(rt, &words);
     }
     say_lost(rt, &shelves);
+    tell_refused(rt, &words, out.count());
     let replays = matches!(read, Some(Input::Capture));
     if replays && status == 0 && flows.load(Ordering::SeqCst) == 0 {
         say_none(rt);

@@ -122,6 +122,15 @@ pub(crate) fn say_none(rt: &HostRuntime) {
     );
 }
 
+/// Says that so many frames were refused while notices stayed behind by up to `delay` loans, if they did.
+pub(crate) fn say_refused(rt: &HostRuntime, delay: u32, refused: usize) {
+    if delay > 0 {
+        let _ = eprintln!(rt;
+            "zcrx: frames refused while notices stay up to {delay} loans behind: {refused}; give more --buffers, or a smaller --forward"
+        );
+    }
+}
+
 /// Says which stream was lost first at each shelf that failed, and why.
 pub(crate) fn say_lost<R: Files + AllocGlobal + Drop>(
     rt: &HostRuntime,
