@@ -17,8 +17,9 @@ bench/RESULTS.md:
 - the crates: each of crates.txt has its paragraph in docs/MAP.md, and what it stands on isn't told there again;
 - each relative link, with its heading, each file or script that is named, and each name in code font that looks like one of
   the code: it stands somewhere under crates/, outside comments;
-- the example of docs/USE.md stands in the test that runs it, and its examples with a `$` print what stands there, where the
-  proved program was built;
+- each example in Rattle of docs/USE.md is the whole text of a file that tests run (EXAMPLES below), and the line of crates.txt
+  before it has the crates that its section imports; the examples with a `$` print what stands there, where the proved program
+  was built;
 - README.md has at most 130 lines.
 
 And it says in which files under crates/ the imports aren't in their form (tools/house.py --imports).
@@ -45,33 +46,37 @@ MADE_FILES = set("made.pcap flow-N.bin proofs/PATH/OF/FUNCTION/Answers.antt".spl
 # Faults that no replay ends with.
 OF_NO_REPLAY = {"Usage", "BadRun"}
 KINDS, RECORDS, BLOCKS = "crates/zr_kinds/src/limits.rt", "crates/zr_kinds/src/event.rt", "crates/pcapng_reader/src/section.rt"
-# What documents say of a limit. A `th` is one more than it.
+# What documents say of a limit, at each place where the text stands: `#` is the limit, `#th` its ordinal, `#next` that of one more.
 LIMITS = [
-    ("README.md", "MOST_FLOWS", KINDS, r"follows up to ([\d,]+) flows"),
-    ("docs/USE.md", "MOST_FLOWS", KINDS, r"([\d,]+) flows is too much"),
-    ("docs/USE.md", "MOST_FLOWS", KINDS, r"a ([\d,]+)th flow would begin"),
-    ("docs/zcrx.1", "MOST_FLOWS", KINDS, r"A ([\d,]+)th flow would begin"),
-    ("docs/FORMATS.md", "MOST_FLOWS", KINDS, r"([\d,]+)th flow would begin"),
-    ("docs/USE.md", "MOST_RECORDS", KINDS, r"of more than ([\d,]+) frames"),
-    ("docs/USE.md", "MOST_RECORDS", KINDS, r"a whole ([\d,]+)th record"),
-    ("docs/zcrx.1", "MOST_RECORDS", KINDS, r"a whole ([\d,]+)th record"),
-    ("docs/FORMATS.md", "MOST_RECORDS", KINDS, r"record after the ([\d,]+)th"),
-    ("docs/MAP.md", "MOST_RECORDS", KINDS, r"exactly at ([\d,]+) records"),
-    ("docs/PROOFS.md", "MOST_RECORDS", KINDS, r"([\d,]+) and 1: the feed's own count"),
-    ("docs/USE.md", "LONGEST_RECORD", KINDS, r"states more than ([\d,]+) captured bytes"),
-    ("docs/zcrx.1", "LONGEST_RECORD", KINDS, r"states more than ([\d,]+) captured bytes"),
-    ("docs/FORMATS.md", "LONGEST_RECORD", KINDS, r"captured length is above ([\d,]+): `LongRecord`"),
-    ("docs/MAP.md", "LONGEST_RECORD", KINDS, r"some 260 at most, of up to ([\d,]+) bytes"),
-    ("docs/FORMATS.md", "MAX_OTHERS", BLOCKS, r"this is the ([\d,]+)th block"),
-    ("docs/BOARDS.md", "LONGEST_PAYLOAD", KINDS, r"payload of ([\d,]+) bytes at most"),
-    ("docs/MAP.md", "LONGEST_PAYLOAD", KINDS, r"payload has at most ([\d,]+) bytes"),
-    ("docs/PROOFS.md", "LONGEST_PAYLOAD", KINDS, r"a payload has ([\d,]+) at most"),
-    ("README.md", "MOST_EVENTS", RECORDS, r"of ([\d,]+) events at most"),
-    ("docs/USE.md", "MOST_EVENTS", RECORDS, r"`more` behind the first ([\d,]+)\."),
-    ("docs/FORMATS.md", "MOST_EVENTS", RECORDS, r"at most ([\d,]+) events"),
-    ("docs/MAP.md", "MOST_EVENTS", RECORDS, r"with room for ([\d,]+) events"),
-    ("docs/THEOREM.md", "MOST_EVENTS", RECORDS, r"It has the first ([\d,]+)"),
+    ("README.md", "MOST_FLOWS", KINDS, "follows up to # flows"),
+    ("docs/USE.md", "MOST_FLOWS", KINDS, "# flows is too much"),
+    ("docs/USE.md", "MOST_FLOWS", KINDS, "#next flow would begin"),
+    ("docs/zcrx.1", "MOST_FLOWS", KINDS, "#next flow would begin"),
+    ("docs/FORMATS.md", "MOST_FLOWS", KINDS, "#next flow would begin"),
+    ("docs/MAP.md", "MOST_FLOWS", KINDS, "would begin the #next flow"),
+    ("docs/USE.md", "MOST_RECORDS", KINDS, "of more than # frames"),
+    ("docs/USE.md", "MOST_RECORDS", KINDS, "a whole #next record"),
+    ("docs/zcrx.1", "MOST_RECORDS", KINDS, "a whole #next record"),
+    ("docs/FORMATS.md", "MOST_RECORDS", KINDS, "record after the #th"),
+    ("docs/MAP.md", "MOST_RECORDS", KINDS, "exactly at # records"),
+    ("docs/PROOFS.md", "MOST_RECORDS", KINDS, "# and 1: the feed's own count"),
+    ("docs/USE.md", "LONGEST_RECORD", KINDS, "states more than # captured bytes"),
+    ("docs/zcrx.1", "LONGEST_RECORD", KINDS, "states more than # captured bytes"),
+    ("docs/FORMATS.md", "LONGEST_RECORD", KINDS, "captured length is above #: `LongRecord`"),
+    ("docs/MAP.md", "LONGEST_RECORD", KINDS, "some 260 at most, of up to # bytes"),
+    ("docs/FORMATS.md", "MAX_OTHERS", BLOCKS, "this is the #next block"),
+    ("docs/BOARDS.md", "LONGEST_PAYLOAD", KINDS, "payload of # bytes at most"),
+    ("docs/MAP.md", "LONGEST_PAYLOAD", KINDS, "payload has at most # bytes"),
+    ("docs/PROOFS.md", "LONGEST_PAYLOAD", KINDS, "a payload has # at most"),
+    ("README.md", "MOST_EVENTS", RECORDS, "of # events at most"),
+    ("docs/USE.md", "MOST_EVENTS", RECORDS, "`more` behind the first #."),
+    ("docs/zcrx.1", "MOST_EVENTS", RECORDS, "at most # events"),
+    ("docs/FORMATS.md", "MOST_EVENTS", RECORDS, "at most # events"),
+    ("docs/MAP.md", "MOST_EVENTS", RECORDS, "with room for # events"),
+    ("docs/THEOREM.md", "MOST_EVENTS", RECORDS, "It has the first #"),
 ]
+# The examples of docs/USE.md: the files of each section, in order.
+EXAMPLES = {"Loans as a stream": ["lines", "shelf"], "Forwarding": ["forwarding"]}
 # The libraries that the crates stand on have no file here.
 OUTSIDE = set("std core alloc".split())
 
@@ -225,15 +230,25 @@ def check_statuses(page):
 
 # ---- limits
 
+def ordinal(value):
+    ending = "th" if value // 10 % 10 == 1 else {1: "st", 2: "nd", 3: "rd"}.get(value % 10, "th")
+    return f"{value:,}{ending}"
+
+
 def check_limits():
     """Each limit that a document names: its constant, the file that has the constant, and the document's text."""
     for document, constant, file, text in LIMITS:
         limit = number(re.search(rf"const {constant}: \w+ = ([\d_]+);", read(file)).group(1))
-        found = re.search(text, " ".join(plain(read(document)).split()))
+        mark = re.search(r"#\w*", text).group(0)
+        wanted = {"#": f"{limit:,}", "#th": ordinal(limit), "#next": ordinal(limit + 1)}[mark]
+        before, behind = map(re.escape, text.split(mark))
+        form = r"([\d,]*\d)" if mark == "#" else r"([\d,]*\d(?:st|nd|rd|th))"
+        found = [*re.finditer(before + form + behind, " ".join(plain(read(document)).split()))]
         if not found:
             say(document, f"no '{text}', for {constant}")
-        elif number(found.group(1)) != limit + (")th" in text and "after" not in text):
-            say(document, f"{constant} is {limit}, but it says '{found.group(0)}'")
+        for place in found:
+            if place.group(1).replace(",", "") != wanted.replace(",", ""):
+                say(document, f"{constant} is {limit:,}, but it says '{place.group(0)}' in the place of {wanted}")
 
 
 def check_slots():
@@ -418,11 +433,27 @@ def check_names(options):
                 say(path.relative_to(TOP), f"no file {named}")
 
 
-def check_example():
-    example = re.search(r"```rust\n(.*?)```", read("docs/USE.md"), re.S).group(1)
-    test = "crates/app_runs/src/example.rt"
-    if example not in read(test):
-        say("docs/USE.md", f"its example isn't that of {test}")
+def check_examples():
+    """Each block of a section is the whole text of its file, in order, and the section's line names what they import."""
+    use = read("docs/USE.md")
+    blocks = re.findall(r"```rust\n(.*?)```", use, re.S)
+    files = [f"crates/app_runs/src/example/{name}.rt" for names in EXAMPLES.values() for name in names]
+    compare("how many examples there are", {"EXAMPLES": len(files), "docs/USE.md": len(blocks)})
+    for heading, names in EXAMPLES.items():
+        section_text = use.split(f"\n## {heading}\n", 1)[1].split("\n## ", 1)[0]
+        shown = re.findall(r"```rust\n(.*?)```", section_text, re.S)
+        for place, name in enumerate(names):
+            file = f"crates/app_runs/src/example/{name}.rt"
+            if shown[place:place + 1] != [read(file)]:
+                say("docs/USE.md", f"example {place + 1} of '{heading}' isn't {file}")
+            if f"mod {name};" not in read("crates/app_runs/src/example.rt"):
+                say("crates/app_runs/src/example.rt", f"no example {name}")
+        line = re.search(r"(?m)^    \w+: (.*)$", section_text.split("```", 1)[0])
+        imported = set(re.findall(r"(?m)^(?:ghost use Rattle\.|use )(\w+)", "".join(shown))) - OUTSIDE
+        compare(f"crates that '{heading}' imports", {
+            "its examples": sorted(imported),
+            "docs/USE.md": sorted(line.group(1).split()) if line else [],
+        })
 
 
 def capture_of(name):
@@ -462,7 +493,7 @@ def main():
     check_report(page)
     check_crates()
     check_names(options)
-    check_example()
+    check_examples()
     check_runs()
     check_imports()
     lines = len(read("README.md").splitlines())

@@ -59,7 +59,9 @@ impl<'b> Card<'b> {
     }
 
     /// Makes the step of this number, if it is one of the card's: whether it is.
-    pub fn makes(&mut self, rt: &impl Abort, name: &str, number: u32, step: Step<'_>) -> bool {
+    pub fn makes(&mut self, rt: &impl Abort, name: &str, number: u32, step: Step<'_>) -> bool
+        ensures board { self.new.nic.board ≡ self.old.nic.board }
+    {
         let Some((next, wanted)) = move_of(step, 1000, number, b"") else {
             return false;
         };
@@ -69,7 +71,9 @@ impl<'b> Card<'b> {
     }
 
     /// Makes these steps. Flows begin at 1,000.
-    pub fn play(&mut self, rt: &impl Abort, name: &str, steps: &[Step<'_>]) {
+    pub fn play(&mut self, rt: &impl Abort, name: &str, steps: &[Step<'_>])
+        ensures board { self.new.nic.board ≡ self.old.nic.board }
+    {
         let mut number = 0u32;
         for step in steps {
             number = number.wrapping_add(1);
