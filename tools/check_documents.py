@@ -20,6 +20,7 @@ bench/RESULTS.md:
 - each example in Rattle of docs/USE.md is the whole text of a file that tests run (EXAMPLES below), and the line of crates.txt
   before it has the crates that its section imports; the examples with a `$` print what stands there, where the proved program
   was built;
+- the figures of docs/MAP.md are those that tools/house.py counts;
 - README.md has at most 130 lines.
 
 And it says in which files under crates/ the imports aren't in their form (tools/house.py --imports).
@@ -478,9 +479,16 @@ def check_runs():
             say("docs/USE.md", f"zcrx {words} prints: {said!r}")
 
 
-def check_imports():
-    found = subprocess.run([TOP / "tools" / "house.py", "--imports"], capture_output=True, text=True)
-    for line in found.stdout.splitlines():
+def check_house():
+    """The figures of contracts, and which files' imports aren't in their form."""
+
+    def told(*flags):
+        return subprocess.run([TOP / "tools" / "house.py", *flags], capture_output=True, text=True).stdout.splitlines()
+
+    counted = {of: int(count) for count, of in (line.split(None, 1) for line in told())}
+    stated = {of: number(count) for count, of in rows(read("docs/MAP.md"), "Figures")}
+    compare("how many", {"tools/house.py": counted, "docs/MAP.md": stated})
+    for line in told("--imports"):
         say("imports", line)
 
 
@@ -495,7 +503,7 @@ def main():
     check_names(options)
     check_examples()
     check_runs()
-    check_imports()
+    check_house()
     lines = len(read("README.md").splitlines())
     if lines > MOST_LINES:
         say("README.md", f"{lines} lines, more than {MOST_LINES}")
