@@ -91,7 +91,7 @@ def refused():
     capture = b"".join(parts)
     for delay, texts in (("63", ["refused while notices stay up to 63 loans behind: 4;", "--buffers", "--forward"]), ("0", [])):
         with tempfile.TemporaryDirectory() as folder:
-            words = ["replay", "--forward", delay, "--buffers", "16", "--size", "1024", "9000"]
+            words = ["replay", "--forward", delay, "--buffers", "1", "--size", "1024", "9000"]
             expect(f"forward {delay}", run(words, capture, folder), 0, *texts)
 
 
